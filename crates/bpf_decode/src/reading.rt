@@ -1,0 +1,103 @@
+//! Bytes read as slots, and the first fault of the slots.
+ghost use Rattle.std.specs.Prelude.{◌≡◌, ◌≤◌, ◌/◌, ◌<◌, ◌+◌, length, slice_get, IfSome, IfOk, false};
+ghost use Rattle.bpf_profile.specs.Slots.{instruction_of};
+ghost use Rattle.bpf_profile.specs.Spelling.{is_bad_length, slot_at, slots_at, is_wide, fault_from};
+ghost use Rattle.bpf_decode.specs.Faults.{found_fault};
+
+use crate::error::DecodeError;
+use bpf_profile::{Instruction, Slot};
+use byteorder::{ByteOrder, LittleEndian};
+use refusals::RefusalNumber;
+use std::alloc::{AllocError, Global};
+
+/// How many bytes a slot has.
+pub(crate) const SLOT_BYTES: usize = 8;
+
+/// How many slots a program has at most.
+const MOST_SLOTS: usize = 4096;
+
+/// The opcode of a wide immediate (RFC 9669, section 5.4).
+const WIDE_IMMEDIATE: u8 = 0x18;
+
+/// Whether so many bytes are none, no whole number of slots, or over 4,096 of them.
+pub(crate) fn has_bad_length(count: usize) -> bool
+    ensures { result ≡ is_bad_length count }
+{
+    count == 0 || count % SLOT_BYTES != 0 || count > SLOT_BYTES * MOST_SLOTS
+}
+
+/// The slot that eight bytes are read as (RFC 9669, sections 3.1 and 3.2).
+fn slot_at(bytes: &[u8; SLOT_BYTES]) -> Slot
+    ensures { result ≡ slot_at bytes.now }
+{
+    let [op, registers, ..] = *bytes;
+    let off = LittleEndian::read_u16(&bytes[2..]);
+    let imm = LittleEndian::read_u32(&bytes[4..]);
+    if op == 0 && registers == 0 && off == 0 {
+        return Slot::Tail { imm };
+    }
+    Slot::Ins {
+        op,
+        dst: registers % 16,
+        src: registers / 16,
+        off,
+        imm,
+    }
+}
+
+/// Each eight bytes as a slot. Bytes after the last whole slot are left out.
+pub(crate) fn slots_of(alloc: Global, bytes: &[u8]) -> Result<Vec<Slot>, AllocError>
+    ensures { IfOk result (λ v. v.items ≡ slots_at (length bytes.now / 8) bytes.now) }
+{
+    let (chunks, _) = bytes.as_chunks::<SLOT_BYTES>();
+    let mut slots = Vec::with_capacity(alloc, chunks.len())?;
+    for chunk in chunks {
+        slots.push_reserved(slot_at(chunk));
+    }
+    Ok(slots)
+}
+
+/// Whether the slot is the first of a wide immediate.
+fn begins_wide(slot: Slot) -> bool
+    ensures { result ≡ is_wide slot }
+{
+    matches!(
+        slot,
+        Slot::Ins {
+            op: WIDE_IMMEDIATE,
+            ..
+        }
+    )
+}
+
+/// The instruction that begins at a place, or the fault of the slot there.
+pub(crate) fn instruction_at(slots: &[Slot], place: usize) -> Result<Instruction, RefusalNumber>
+    requires { place < length slots.now }
+    ensures { IfSome (slice_get slots.now place) (λ slot. result ≡ instruction_of slot (slice_get slots.now (place + 1))) }
+{
+    let next = slots.get(place + 1).copied();
+    slots[place].instruction(next)
+}
+
+/// The first fault of the slots, with its place. The second slot of a wide immediate is not looked at
+/// again, since the first one is refused where it is no tail.
+pub(crate) fn check_slots(slots: &[Slot]) -> Result<(), DecodeError>
+    requires { length slots.now ≤ 4096 }
+    ensures { found_fault result ≡ fault_from 0 false slots.now }
+{
+    let mut is_second = false;
+    for (place, slot) in slots.iter().enumerate() {
+        if is_second {
+            is_second = false;
+            continue;
+        }
+        if let Err(number) = instruction_at(slots, place) {
+            return Err(DecodeError {
+                slot: place as u32,
+                number,
+            });
+        }
+        is_second = begins_wide(*slot);
+    }
+    Ok(())
+}

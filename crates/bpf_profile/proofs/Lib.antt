@@ -1,0 +1,3 @@
+pub mod Edges
+pub mod Results
+pub mod Runs

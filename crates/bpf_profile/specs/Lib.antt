@@ -1,0 +1,10 @@
+pub mod Words
+pub mod Opcodes
+pub mod Slots
+pub mod Spelling
+pub mod Outcomes
+pub mod Machine
+pub mod Helpers
+pub mod Meaning
+pub mod Flow
+pub mod Safety

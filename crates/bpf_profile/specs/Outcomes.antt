@@ -1,0 +1,21 @@
+-- The record of an outcome, as a program sees it.
+use Rattle.std.specs.Prelude.{ℕ, ◌^◌, ◌<◌, ◌≤◌, ◌≡◌, List, length}
+use Rattle.std.specs.List.{AllByRecursion}
+
+-- the context's bytes, the facts, and the tag's bytes
+pub record Outcome : Type 0 where
+  pub context : List ℕ
+  pub facts : List ℕ
+  pub tag : List ℕ
+
+abbrev pub AreBytes : List ℕ → Type 0
+AreBytes bytes = AllByRecursion (λ b. b < 2 ^ 8) bytes
+
+-- a context of at least so many bytes, sixteen facts, and a tag of at most 32 bytes
+pub record IsOutcome (size : ℕ) (outcome : Outcome) : Type 0 where
+  pub context : AreBytes outcome.context
+  pub long : size ≤ length outcome.context
+  pub facts : AllByRecursion (λ fact. fact < 2 ^ 64) outcome.facts
+  pub sixteen : length outcome.facts ≡ 16
+  pub tag : AreBytes outcome.tag
+  pub short : length outcome.tag ≤ 32

@@ -1,0 +1,80 @@
+//! What the definitions entail, stated apart from them.
+ghost use Rattle.std.specs.Prelude.{◌≡◌, ◌≢◌, ℕ, ◌+◌, ◌-◌, ◌*◌, ◌^◌, ◌<◌, ◌≤◌, List, Option, None, Some, IsSome, Result, Ok};
+ghost use Rattle.bpf_profile.specs.declared.instruction.Operation.{Operation};
+ghost use Rattle.bpf_profile.specs.declared.instruction.Width.{Width};
+ghost use Rattle.bpf_profile.specs.declared.machine.TrapReason.{TrapReason};
+ghost use Rattle.bpf_profile.specs.declared.machine.Verdict.{Verdict};
+ghost use Rattle.bpf_profile.specs.declared.slot.Slot.{Slot};
+ghost use Rattle.bpf_profile.specs.Words.{IsWord, arithmetic, low, bits_of};
+ghost use Rattle.bpf_profile.specs.Spelling.{IsProgram};
+ghost use Rattle.bpf_profile.specs.Outcomes.{Outcome, IsOutcome};
+ghost use Rattle.bpf_profile.specs.Machine.{State, Effect};
+ghost use Rattle.bpf_profile.specs.Meaning.{step, Ends, Judges, instruction_at};
+ghost use Rattle.bpf_profile.specs.Flow.{IsBudget, Edge, flow_fault};
+ghost use Rattle.bpf_profile.specs.Safety.{IsSafe};
+
+/// Division by 0 gives 0, and the remainder by 0 is the dividend (RFC 9669, section 4.1).
+pub fn division_by_zero()
+    ensures quotient { (w : Width) (a : ℕ) → arithmetic Operation.Divide w a 0 ≡ 0 }
+    ensures signed_quotient { (w : Width) (a : ℕ) → arithmetic Operation.SignedDivide w a 0 ≡ 0 }
+    ensures remainder { (w : Width) (a : ℕ) → arithmetic Operation.Modulo w a 0 ≡ low (bits_of w) a }
+    ensures signed_remainder { (w : Width) (a : ℕ) → arithmetic Operation.SignedModulo w a 0 ≡ low (bits_of w) a }
+    ensures dividend { (a : ℕ) → IsWord a → low 64 a ≡ a }
+{}
+
+/// The least signed number divided by -1 is itself, and the remainder is 0.
+pub fn least_number_by_minus_one()
+    ensures quotient { arithmetic Operation.SignedDivide Width.Bits64 (2 ^ 63) (2 ^ 64 - 1) ≡ 2 ^ 63 }
+    ensures remainder { arithmetic Operation.SignedModulo Width.Bits64 (2 ^ 63) (2 ^ 64 - 1) ≡ 0 }
+    ensures low_quotient { arithmetic Operation.SignedDivide Width.Bits32 (2 ^ 31) (2 ^ 32 - 1) ≡ 2 ^ 31 }
+    ensures low_remainder { arithmetic Operation.SignedModulo Width.Bits32 (2 ^ 31) (2 ^ 32 - 1) ≡ 0 }
+{}
+
+/// Signed division truncates towards zero: -13 by 3 is -4, and the remainder is -1.
+pub fn division_truncates()
+    ensures quotient { arithmetic Operation.SignedDivide Width.Bits64 (2 ^ 64 - 13) 3 ≡ 2 ^ 64 - 4 }
+    ensures remainder { arithmetic Operation.SignedModulo Width.Bits64 (2 ^ 64 - 13) 3 ≡ 2 ^ 64 - 1 }
+{}
+
+/// A shift by the width's own number of bits is a shift by 0, since the count is masked.
+pub fn shift_by_the_width()
+    ensures left { (w : Width) (a : ℕ) → arithmetic Operation.ShiftLeft w a (bits_of w) ≡ arithmetic Operation.ShiftLeft w a 0 }
+    ensures right { (w : Width) (a : ℕ) → arithmetic Operation.ShiftRight w a (bits_of w) ≡ arithmetic Operation.ShiftRight w a 0 }
+    ensures arithmetic_right { (w : Width) (a : ℕ) → arithmetic Operation.ArithmeticShiftRight w a (bits_of w) ≡ arithmetic Operation.ArithmeticShiftRight w a 0 }
+{}
+
+/// A result has no more bits than its operation.
+pub fn results_fit()
+    ensures { (operation : Operation) (w : Width) (a b : ℕ) → arithmetic operation w a b < 2 ^ bits_of w }
+{}
+
+/// From one state there is one step.
+pub fn step_is_determined()
+    ensures { (size : ℕ) (slots : List Slot) (outcome : Outcome) (s : State) (a b : Result Effect TrapReason) → step size slots outcome s ≡ a → step size slots outcome s ≡ b → a ≡ b }
+{}
+
+/// A program ends on a record with one answer after one number of steps, or not at all.
+pub fn answer_is_determined()
+    ensures answer { (size : ℕ) (slots : List Slot) (outcome : Outcome) (m n j k : ℕ) → Ends size slots outcome m j → Ends size slots outcome n k → m ≡ n }
+    ensures steps { (size : ℕ) (slots : List Slot) (outcome : Outcome) (m n j k : ℕ) → Ends size slots outcome m j → Ends size slots outcome n k → j ≡ k }
+{}
+
+/// So there is one verdict.
+pub fn verdict_is_determined()
+    ensures { (size : ℕ) (slots : List Slot) (outcome : Outcome) (v w : Verdict) (j k : ℕ) → Judges size slots outcome v j → Judges size slots outcome w k → v ≡ w }
+{}
+
+/// A program has one budget, or none.
+pub fn budget_is_determined()
+    ensures { (slots : List Slot) (b c : ℕ) → IsBudget slots b → IsBudget slots c → b ≡ c }
+{}
+
+/// Each edge of a program whose flow is accepted leads forward, to an instruction.
+pub fn edges_lead_forward()
+    ensures { (slots : List Slot) → IsProgram slots → flow_fault slots ≡ None → (from to : ℕ) → Edge slots from to → (from < to) × IsSome (instruction_at slots to) }
+{}
+
+/// A safe program has a verdict on every outcome, within its budget.
+pub fn safe_programs_judge()
+    ensures { (size budget : ℕ) (slots : List Slot) (outcome : Outcome) → IsSafe size slots budget → IsOutcome size outcome → (v : Verdict) × (steps : ℕ) × (steps ≤ budget) × Judges size slots outcome v steps }
+{}
