@@ -1,0 +1,6 @@
+pub mod Padded
+pub mod TagFields
+pub mod RecordFields
+pub mod Layout
+pub mod Names
+pub mod Json

@@ -1,0 +1,25 @@
+//! Stretches of bytes.
+ghost use Rattle.std.specs.Prelude.{◌≡◌, ◌≤◌, ◌<◌, ◌^◌, length};
+ghost use Rattle.std.specs.List.{AllByRecursion};
+ghost use Rattle.bpf_profile.specs.Outcomes.{AreBytes};
+ghost use Rattle.helpers.specs.Padded.{padded};
+
+/// Writes bytes, and zeros over what is left of the room.
+pub fn write_padded(bytes: &[u8], room: &mut [u8])
+    requires { length bytes.now ≤ length room.old }
+    ensures { room.new ≡ padded (length room.old) bytes.now }
+{
+    let (front, rest) = room.split_at_mut(bytes.len());
+    front.copy_from_slice(bytes);
+    rest.fill(0);
+}
+
+/// Bytes are below 2^8, by their type: for a proof that has to know it of each.
+pub fn show_bytes(bytes: &[u8])
+    ensures { AreBytes bytes.now }
+{}
+
+/// Words are below 2^64, by their type.
+pub fn show_words(words: &[u64])
+    ensures { AllByRecursion (λ word. word < 2 ^ 64) words.now }
+{}

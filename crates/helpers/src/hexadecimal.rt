@@ -1,0 +1,23 @@
+//! Bytes written in hexadecimal.
+ghost use Rattle.std.specs.Prelude.{◌≡◌, length, Some, None, MatchOption};
+ghost use Rattle.helpers.specs.Json.{hex_bytes};
+ghost use Rattle.helpers.specs.Padded.{padded};
+
+/// Reads bytes into the room, and zeros behind them. Returns how many bytes there are; None where
+/// the text has an odd length, another character or more bytes than the room, of which then
+/// nothing is said.
+pub fn read_padded(text: &str, room: &mut [u8]) -> Option<usize>
+    ensures { MatchOption (hex_bytes (length room.old) text.now)
+        (result ≡ None)
+        (λ bytes. (result ≡ Some (length bytes)) × (room.new ≡ padded (length room.old) bytes)) }
+{
+    let count = text.len() / 2;
+    if count > room.len() {
+        return None;
+    }
+    room.fill(0);
+    match hex::decode_to_slice(text, &mut room[..count]) {
+        Ok(()) => Some(count),
+        Err(_) => None,
+    }
+}

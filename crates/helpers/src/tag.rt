@@ -1,0 +1,58 @@
+//! The tag of a record.
+ghost use Rattle.std.specs.Prelude.{◌≡◌, ◌≤◌, ◌<◌, length, IsNone, IfSome, ◌↔◌};
+ghost use Rattle.bpf_profile.specs.Outcomes.{AreBytes};
+
+use crate::bytes::write_padded;
+use std::marker::Model;
+
+/// At most 32 bytes.
+#[derive(Clone, Copy, Debug, PartialEq)]
+pub struct Tag {
+    /// The bytes, and zeros behind them.
+    bytes: [u8; 32],
+    count: usize,
+}
+
+impl Model for Tag {
+    ghost use Rattle.std.specs.Prelude.{ℕ, List, length, take};
+
+    ghost Value = { List ℕ };
+
+    ghost use Rattle.helpers.specs.Padded.{padded};
+    ghost use Rattle.helpers.specs.TagFields.{IsTag, tag_of_fields};
+
+    ghost view = { λ tag. take tag.count tag.bytes };
+
+    ghost invariant = { λ tag. IsTag tag.bytes tag.count (take tag.count tag.bytes) };
+
+    ghost inverse = { λ bytes. record { bytes = padded 32 bytes; count = length bytes } };
+
+    ghost inverse_ok = { λ tag is. tag_of_fields tag is };
+}
+
+impl Tag {
+    /// The tag of these bytes; None where there are over 32.
+    pub fn new(bytes: &[u8]) -> Option<Tag>
+        ensures none { IsNone result ↔ (32 < length bytes.now) }
+        ensures some { IfSome result (λ tag. tag ≡ bytes.now) }
+    {
+        if bytes.len() > 32 {
+            return None;
+        }
+        let mut room = [0; 32];
+        write_padded(bytes, &mut room);
+        Some(Tag {
+            bytes: room,
+            count: bytes.len(),
+        })
+    }
+
+    /// The bytes.
+    pub fn as_bytes(&self) -> &[u8]
+        ensures bytes { result.now ≡ self.now }
+        ensures short { length self.now ≤ 32 }
+        ensures in_range { AreBytes self.now }
+    {
+        &self.bytes[..self.count]
+    }
+}
