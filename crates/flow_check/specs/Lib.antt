@@ -1,0 +1,3 @@
+pub mod Passes
+pub mod Refused
+pub mod Routes

@@ -1,0 +1,89 @@
+//! Where control may go on after an instruction.
+ghost use Rattle.std.specs.Prelude.{◌≡◌, ℕ, ◌+◌, ◌^◌, ◌<◌, ◌≤◌, length, All, IfSome, option_map};
+ghost use Rattle.bpf_profile.specs.Spelling.{IsProgram};
+ghost use Rattle.bpf_profile.specs.Machine.{target_of};
+ghost use Rattle.bpf_profile.specs.Flow.{next_of, distance_of, successors, flow_fault};
+ghost use Rattle.flow_check.specs.Routes.{successor_list};
+
+use bpf_profile::{Instruction, Slot, instruction_at};
+
+/// The slots to which edges lead from a slot of an accepted program, each below 4,096.
+#[derive(Clone, Copy, Debug, PartialEq, Eq)]
+pub struct Successors {
+    /// The slot behind the instruction, two on for a wide immediate; none behind a jump and an exit
+    /// (RFC 9669, sections 3.2 and 4.3).
+    pub next: Option<u32>,
+    /// The slot to which the instruction jumps, always or on a condition (RFC 9669, section 4.3).
+    pub target: Option<u32>,
+}
+
+/// The slot behind the instruction, where control may go on there.
+pub fn next_of(place: usize, instruction: &Instruction) -> Option<usize>
+    requires { place ≤ 4096 }
+    ensures { result ≡ next_of place instruction.now }
+{
+    match instruction {
+        Instruction::Exit | Instruction::Jump { .. } => None,
+        Instruction::LoadImmediate { .. } => Some(place + 2),
+        _ => Some(place + 1),
+    }
+}
+
+/// How far the instruction jumps, as a word.
+pub fn distance_of(instruction: &Instruction) -> Option<u64>
+    ensures { result ≡ distance_of instruction.now }
+{
+    match instruction {
+        Instruction::Jump { distance, .. } | Instruction::Branch { distance, .. } => Some(
+            *distance,
+        ),
+        _ => None,
+    }
+}
+
+/// The slot to which a jump leads. The sum wraps, since a distance may be negative.
+pub fn target_of(place: usize, distance: u64) -> usize
+    requires { place ≤ 4096 }
+    ensures { result ≡ target_of place distance }
+{
+    (place as u64 + 1).wrapping_add(distance) as usize
+}
+
+/// The target of the instruction's jump.
+pub fn jump_of(place: usize, instruction: &Instruction) -> Option<usize>
+    requires { place ≤ 4096 }
+    ensures { result ≡ option_map (target_of place) (distance_of instruction.now) }
+{
+    distance_of(instruction).map(|distance| target_of(place, distance))
+}
+
+/// A slot of a program in 32 bits.
+fn narrow(slot: Option<usize>) -> Option<u32>
+    requires { IfSome slot (λ n. n < 4096) }
+    ensures { result ≡ slot }
+{
+    match slot {
+        Some(slot) => Some(slot as u32),
+        None => None,
+    }
+}
+
+/// The edges of a slot of an accepted program.
+pub fn successors_of(slots: &[Slot], place: usize) -> Successors
+    requires program { IsProgram slots.now }
+    requires accepted { flow_fault slots.now ≡ None }
+    requires within { place < length slots.now }
+    ensures edges { successor_list result ≡ successors slots.now place }
+    ensures inside { All (λ to. to < length slots.now) (successor_list result) }
+{
+    match instruction_at(slots, place) {
+        Some(instruction) => Successors {
+            next: narrow(next_of(place, &instruction)),
+            target: narrow(jump_of(place, &instruction)),
+        },
+        None => Successors {
+            next: None,
+            target: None,
+        },
+    }
+}

@@ -1,0 +1,92 @@
+//! What is refused before any value is looked at.
+ghost use Rattle.std.specs.Prelude.{◌≡◌, ℕ, ◌<◌, ◌≤◌, length, option_map};
+ghost use Rattle.bpf_profile.specs.Flow.{jump_fault, next_fault, flow_fault_at, flow_fault, is_tail_at};
+ghost use Rattle.flow_check.specs.Passes.{AreEntered, edge_fault};
+ghost use Rattle.flow_check.specs.Refused.{fault_of};
+
+use crate::edges::{distance_of, next_of, target_of};
+use crate::error::FlowError;
+use bpf_profile::{Instruction, Slot, instruction_at};
+use refusals::RefusalNumber;
+
+/// A distance from here on is negative.
+const LEAST_NEGATIVE: u64 = 1 << 63;
+
+fn is_tail_at(slots: &[Slot], place: usize) -> bool
+    requires { place < length slots.now }
+    ensures { result ≡ is_tail_at slots.now place }
+{
+    matches!(slots[place], Slot::Tail { .. })
+}
+
+/// What is wrong with a jump: `BackJump`, `JumpOut` or `IntoTail`.
+fn jump_fault(slots: &[Slot], place: usize, distance: u64) -> Option<RefusalNumber>
+    requires { place ≤ 4096 }
+    ensures { result ≡ jump_fault slots.now place distance }
+{
+    let target = target_of(place, distance);
+    if distance >= LEAST_NEGATIVE {
+        Some(RefusalNumber::BackJump)
+    } else if target >= slots.len() {
+        Some(RefusalNumber::JumpOut)
+    } else if is_tail_at(slots, target) {
+        Some(RefusalNumber::IntoTail)
+    } else {
+        None
+    }
+}
+
+/// `FallsOff`, where control would go on past the end.
+fn next_fault(slots: &[Slot], next: usize) -> Option<RefusalNumber>
+    ensures { result ≡ next_fault slots.now next }
+{
+    if next >= slots.len() {
+        Some(RefusalNumber::FallsOff)
+    } else {
+        None
+    }
+}
+
+/// What is wrong with where control goes on after an instruction.
+fn edge_fault(slots: &[Slot], place: usize, instruction: &Instruction) -> Option<RefusalNumber>
+    requires { place ≤ 4096 }
+    ensures { result ≡ edge_fault slots.now place instruction.now }
+{
+    if let Some(distance) = distance_of(instruction)
+        && let Some(number) = jump_fault(slots, place, distance)
+    {
+        return Some(number);
+    }
+    let next = next_of(place, instruction)?;
+    next_fault(slots, next)
+}
+
+/// What is wrong with the instruction at a slot, the first in the order in which it is tried. With a
+/// tail nothing is wrong.
+fn fault_at(slots: &[Slot], entered: &[bool], place: usize) -> Option<RefusalNumber>
+    requires few { length slots.now ≤ 4096 }
+    requires entered { AreEntered slots.now (length slots.now) entered.now }
+    requires within { place < length slots.now }
+    ensures { result ≡ flow_fault_at slots.now place }
+{
+    match instruction_at(slots, place) {
+        Some(_) if !entered[place] => Some(RefusalNumber::Unreachable),
+        Some(instruction) => edge_fault(slots, place, &instruction),
+        None => None,
+    }
+}
+
+/// The first fault of a program.
+pub fn first_fault(slots: &[Slot], entered: &[bool]) -> Option<FlowError>
+    requires few { length slots.now ≤ 4096 }
+    requires entered { AreEntered slots.now (length slots.now) entered.now }
+    ensures { option_map fault_of result ≡ flow_fault slots.now }
+{
+    for place in 0..slots.len() {
+        if let Some(number) = fault_at(slots, entered, place) {
+            let slot = place as u32;
+            return Some(FlowError { slot, number });
+        }
+    }
+    None
+}

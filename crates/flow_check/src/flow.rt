@@ -1,0 +1,113 @@
+//! The flow of an accepted program, and its check.
+ghost use Rattle.std.specs.Prelude.{◌≡◌, ℕ, ◌+◌, ◌<◌, ◌≤◌, ◌⊎◌, length, map, slice_get, All, OnOk, IfOk, IfErr, IfSome, option_to_list};
+ghost use Rattle.std.specs.List.{range_with_len};
+ghost use Rattle.bpf_profile.specs.Spelling.{IsProgram};
+ghost use Rattle.bpf_profile.specs.Flow.{IsBudget, successors, flow_fault};
+ghost use Rattle.flow_check.specs.Passes.{IsLengthened};
+ghost use Rattle.flow_check.specs.Routes.{Routes, successor_list};
+ghost use Rattle.flow_check.specs.Refused.{out_of_memory, fault_of};
+
+use crate::edges::{Successors, successors_of};
+use crate::entered::entered_slots;
+use crate::error::FlowError;
+use crate::faults::first_fault;
+use bpf_decode::Program;
+use bpf_profile::Slot;
+use std::alloc::{AllocError, Global};
+use std::marker::Model;
+
+/// The flow of an accepted program: the edges of each slot, and the budget.
+#[derive(Debug, Drop)]
+pub struct Flow {
+    edges: Vec<Successors>,
+    budget: u32,
+}
+
+impl Model for Flow {
+    ghost Value = { Routes };
+
+    ghost view = { λ flow. record { edges = map successor_list flow.edges.items; budget = flow.budget } };
+}
+
+impl Flow {
+    /// The slots to which edges lead from a slot; none from a tail.
+    pub fn successors(&self, slot: usize) -> Successors
+        requires { slot < length self.now.edges }
+        ensures { slice_get self.now.edges slot ≡ Some (successor_list result) }
+    {
+        self.edges[slot]
+    }
+
+    /// How many instructions the program executes at most, from 1 to 4,096.
+    pub fn budget(&self) -> u32
+        ensures { result ≡ self.now.budget }
+    {
+        self.budget
+    }
+}
+
+/// Notes that a walk of `count` slots ends at the slot, if there is one; a longer walk stays noted.
+fn lengthen(longest: &mut [u32], to: Option<u32>, count: u32)
+    requires { IfSome to (λ slot. slot < length longest.old) }
+    ensures { IsLengthened longest.old longest.new count (option_to_list to) }
+{
+    if let Some(to) = to {
+        let slot = to as usize;
+        longest[slot] = longest[slot].max(count);
+    }
+}
+
+/// Notes that walks of `count` slots end at the successors.
+fn follow(longest: &mut [u32], successors: Successors, count: u32)
+    requires { All (λ to. to < length longest.old) (successor_list successors) }
+    ensures { IsLengthened longest.old longest.new count (successor_list successors) }
+{
+    lengthen(longest, successors.next, count);
+    lengthen(longest, successors.target, count);
+}
+
+/// The edges of an accepted program, and its budget. A slot's number is the length of the longest walk
+/// that ends there, and 0 before one is found. Since edges lead forward, it is final when the pass
+/// comes to the slot.
+fn routes_of(alloc: Global, slots: &[Slot]) -> Result<Flow, AllocError>
+    requires program { IsProgram slots.now }
+    requires accepted { flow_fault slots.now ≡ None }
+    ensures budget { IfOk result (λ flow. IsBudget slots.now flow.budget) }
+    ensures counted { IfOk result (λ flow. length flow.edges ≡ length slots.now) }
+    ensures edges { IfOk result (λ flow. flow.edges ≡ map (successors slots.now) (range_with_len 0 (length slots.now))) }
+{
+    let mut edges = Vec::with_capacity(alloc, slots.len())?;
+    let mut longest = vec![in alloc; 0u32; slots.len()]?;
+    longest[0] = 1;
+    let mut budget = 0;
+    for place in 0..slots.len() {
+        let successors = successors_of(slots, place);
+        let count = longest[place];
+        budget = count.max(budget);
+        follow(&mut longest, successors, count + 1);
+        edges.push(successors)?;
+    }
+    Ok(Flow { edges, budget })
+}
+
+/// Checks the flow of a program: each instruction is entered, every jump goes forward to an
+/// instruction, and none falls off the end. The refusal is that of the first slot with a fault, or
+/// `ProgramOutOfMemory` at slot 0 where memory ran out. Takes time linear in the number of slots.
+pub fn check(alloc: Global, program: &Program) -> Result<Flow, FlowError>
+    // What is accepted has no fault.
+    ensures accepted { OnOk result (flow_fault program.now ≡ None) }
+    // A walk as long as the budget exists, and none is longer.
+    ensures budget { IfOk result (λ flow. IsBudget program.now flow.budget) }
+    // The edges of each slot, in the order of the slots.
+    ensures counted { IfOk result (λ flow. length flow.edges ≡ length program.now) }
+    ensures edges { IfOk result (λ flow. flow.edges ≡ map (successors program.now) (range_with_len 0 (length program.now))) }
+    // An error is the first fault, unless memory ran out.
+    ensures refused { IfErr result (λ e. (e ≡ out_of_memory) ⊎ (flow_fault program.now ≡ Some (fault_of e))) }
+{
+    let slots = program.slots();
+    let entered = entered_slots(alloc, slots)?;
+    if let Some(error) = first_fault(slots, &entered) {
+        return Err(error);
+    }
+    Ok(routes_of(alloc, slots)?)
+}
