@@ -1,0 +1,17 @@
+-- Judged work as data: a program, an outcome, and what the program says of it.
+use Rattle.std.specs.Prelude.{ℕ}
+use Rattle.bpf_profile.specs.declared.machine.Verdict.{Verdict}
+use Rattle.bpf_profile.specs.Meaning.{Judges}
+use Rattle.bpf_profile.specs.Outcomes.{Outcome}
+use Rattle.verifier.specs.Analysis.{context_size}
+use Rattle.verifier.specs.Programs.{VerifiedProgram}
+
+pub record Work : Type 0 where
+  pub program : VerifiedProgram
+  pub outcome : Outcome
+  pub verdict : Verdict
+  pub steps : ℕ
+
+-- verdict and steps are those of the program on the outcome
+abbrev pub IsTied : Work → Type 0
+IsTied work = Judges context_size work.program.slots work.outcome work.verdict work.steps

@@ -1,0 +1,81 @@
+//! Work that was judged, tied to its program and its outcome.
+ghost use Rattle.std.specs.Prelude.{◌≡◌};
+ghost use Rattle.std.specs.Arc.{arc_value};
+ghost use Rattle.bpf_run.specs.JudgedWork.{IsTied};
+
+use crate::execution::run;
+use bpf_profile::Verdict;
+use helpers::Record;
+use std::marker::Model;
+use std::sync::Arc;
+use verifier::Verified;
+
+/// An outcome that a program judged, with its verdict. Nothing but `judge` makes one.
+#[derive(Drop)]
+pub struct Judged {
+    program: Arc<Verified>,
+    outcome: Record,
+    verdict: Verdict,
+    steps: u32,
+}
+
+impl Model for Judged {
+    ghost use Rattle.bpf_run.specs.JudgedWork.{Work, IsTied};
+
+    ghost Value = { Work };
+
+    ghost use Rattle.std.specs.Arc.{arc_value};
+
+    ghost view = { λ j. record { program = arc_value j.program; outcome = j.outcome; verdict = j.verdict; steps = j.steps } };
+
+    ghost invariant = { λ j. IsTied (record { program = arc_value j.program; outcome = j.outcome; verdict = j.verdict; steps = j.steps }) };
+}
+
+/// Judges an outcome by a program.
+pub fn judge(program: Arc<Verified>, outcome: Record) -> Judged
+    ensures program { result.program ≡ arc_value program }
+    ensures outcome { result.outcome ≡ outcome }
+    ensures tied { IsTied result }
+{
+    let (verdict, steps) = run(&program, &outcome);
+    Judged {
+        program,
+        outcome,
+        verdict,
+        steps,
+    }
+}
+
+impl Judged {
+    /// The program that judged.
+    pub fn program(&self) -> &Arc<Verified>
+        ensures program { arc_value result.now ≡ self.now.program }
+        ensures tied { IsTied self.now }
+    {
+        &self.program
+    }
+
+    /// The record that was judged.
+    pub fn outcome(&self) -> &Record
+        ensures outcome { result.now ≡ self.now.outcome }
+        ensures tied { IsTied self.now }
+    {
+        &self.outcome
+    }
+
+    /// What the program says of the outcome.
+    pub fn verdict(&self) -> Verdict
+        ensures verdict { result ≡ self.now.verdict }
+        ensures tied { IsTied self.now }
+    {
+        self.verdict
+    }
+
+    /// How many instructions were executed.
+    pub fn steps(&self) -> u32
+        ensures steps { result ≡ self.now.steps }
+        ensures tied { IsTied self.now }
+    {
+        self.steps
+    }
+}

@@ -1,0 +1,4 @@
+pub mod Analysis
+pub mod Plain
+pub mod Programs
+pub mod Verifying

@@ -1,0 +1,28 @@
+-- What verifying answers.
+use Rattle.std.specs.Prelude.{◌≡◌, ◌⊎◌, ℕ, ◌<◌, List, length, slice_get, Some, None, Err}
+use Rattle.refusals.specs.declared.RefusalNumber.TheVariants.{ProgramOutOfMemory}
+use Rattle.bpf_profile.specs.declared.slot.Slot.{Slot}
+use Rattle.bpf_profile.specs.Flow.{flow_fault, successors}
+use Rattle.bpf_profile.specs.Spelling.{Spells, Fault, first_fault}
+use Rattle.verifier.specs.Analysis.{analysis}
+use Rattle.verifier.specs.declared.refusal.Refusal.{Refusal}
+
+-- the refusal that says that memory ran out
+abbrev pub out_of_memory : Refusal
+out_of_memory = record { slot = 0; number = ProgramOutOfMemory }
+
+abbrev pub fault_of : Refusal → Fault
+fault_of e = record { slot = e.slot; number = e.number }
+
+-- the fault that a program is refused for: the first of its flow, or else the first of the analysis
+abbrev pub IsProgramRefused : List Slot → Fault → Type 0
+IsProgramRefused slots fault = (flow_fault slots ≡ Some fault) ⊎ ((flow_fault slots ≡ None) × (analysis slots ≡ Err fault))
+
+-- the fault that bytes are refused for: the first of decoding, or else the program's
+abbrev pub IsRefused : List ℕ → Fault → Type 0
+IsRefused bytes fault = (first_fault bytes ≡ Some fault) ⊎ ((slots : List Slot) × Spells bytes slots × IsProgramRefused slots fault)
+
+-- the flow of a program, slot by slot
+pub record IsFlowOf (slots : List Slot) (edges : List (List ℕ)) : Type 0 where
+  pub counted : length edges ≡ length slots
+  pub each : (place : ℕ) → place < length slots → slice_get edges place ≡ Some (successors slots place)

@@ -1,0 +1,30 @@
+//! The classifier that a service has before another one is installed.
+ghost use Rattle.std.specs.Prelude.{IfOk};
+ghost use Rattle.bpf_profile.specs.Safety.{IsSafe};
+ghost use Rattle.bpf_profile.specs.Spelling.{Spells};
+ghost use Rattle.verifier.specs.Analysis.{context_size};
+
+use crate::refusal::Refusal;
+use crate::verified::{Verified, verify};
+use std::alloc::Global;
+
+/// A kind other than response is a failure, and so is a status from 500 on.
+const DEFAULT_CLASSIFIER: [u8; 64] = [
+    0x61, 0x12, 0x00, 0x00, 0x00, 0x00, 0x00, 0x00, // r2 = kind
+    0x55, 0x02, 0x04, 0x00, 0x00, 0x00, 0x00, 0x00, // if r2 is no response, fail
+    0x61, 0x12, 0x04, 0x00, 0x00, 0x00, 0x00, 0x00, // r2 = status
+    0x35, 0x02, 0x02, 0x00, 0xf4, 0x01, 0x00, 0x00, // if r2 is at least 500, fail
+    0xb7, 0x00, 0x00, 0x00, 0x00, 0x00, 0x00, 0x00, // r0 = success
+    0x95, 0x00, 0x00, 0x00, 0x00, 0x00, 0x00, 0x00, // exit
+    0xb7, 0x00, 0x00, 0x00, 0x01, 0x00, 0x00, 0x00, // fail: r0 = failure
+    0x95, 0x00, 0x00, 0x00, 0x00, 0x00, 0x00, 0x00, // exit
+];
+
+/// The classifier that services begin with: a failure is an outcome that is no response, or one with
+/// a status from 500 on. The only error is want of memory.
+pub fn default_classifier(alloc: Global) -> Result<Verified, Refusal>
+    ensures spelled { IfOk result (λ v. Spells DEFAULT_CLASSIFIER v.slots) }
+    ensures safe { IfOk result (λ v. IsSafe context_size v.slots v.budget) }
+{
+    verify(alloc, &DEFAULT_CLASSIFIER)
+}

@@ -1,0 +1,136 @@
+//! Verified programs.
+ghost use Rattle.std.specs.Prelude.{◌≡◌, ◌⊎◌, ℕ, ◌≤◌, List, length, IsSome, IsOk, Some, None, IfOk, IfErr, OnOk};
+ghost use Rattle.bpf_profile.specs.declared.slot.Slot.{Slot};
+ghost use Rattle.bpf_profile.specs.Meaning.{instruction_at};
+ghost use Rattle.bpf_profile.specs.Safety.{IsSafe};
+ghost use Rattle.bpf_profile.specs.Spelling.{Spells};
+ghost use Rattle.verifier.specs.Analysis.{context_size};
+ghost use Rattle.verifier.specs.Plain.{RunsPlainly};
+ghost use Rattle.bpf_profile.specs.Flow.{flow_fault, IsBudget};
+ghost use Rattle.verifier.specs.Analysis.{analysis};
+ghost use Rattle.verifier.specs.Verifying.{out_of_memory, fault_of, IsProgramRefused, IsRefused};
+
+use crate::decoded::decoded;
+use crate::passes::analyse;
+use crate::refusal::Refusal;
+use bpf_decode::Program;
+use bpf_profile::Instruction;
+use flow_check::check;
+use std::alloc::{AllocError, Global};
+use std::marker::Model;
+
+/// A program that was verified: on every outcome's record it ends within its budget, with an answer
+/// of at most 2, and never does what it must not. Contracts see its slots and its budget.
+#[derive(Drop)]
+pub struct Verified {
+    program: Program,
+    bytes: Vec<u8>,
+    code: Vec<Instruction>,
+    budget: u32,
+}
+
+impl Model for Verified {
+    ghost use Rattle.verifier.specs.Programs.{VerifiedProgram, IsVerified};
+
+    ghost Value = { VerifiedProgram };
+
+    ghost view = { λ v. record { slots = v.program; budget = v.budget } };
+
+    ghost invariant = { λ v. IsVerified v.program v.bytes.items v.code.items v.budget };
+}
+
+impl Verified {
+    /// How many instructions a run executes at most, from 1 to 4,096.
+    pub fn budget(&self) -> u32
+        ensures budget { result ≡ self.now.budget }
+        ensures safe { IsSafe context_size self.now.slots self.now.budget }
+        ensures plain { RunsPlainly self.now.slots }
+        ensures few { length self.now.slots ≤ 4096 }
+    {
+        let _code = &self.code;
+        self.budget
+    }
+
+    /// The bytes that were verified.
+    pub fn bytes(&self) -> &[u8]
+        ensures { Spells result.now self.now.slots }
+    {
+        self.bytes.as_slice()
+    }
+
+    /// The program that the bytes spell.
+    pub fn program(&self) -> &Program
+        ensures { result.now ≡ self.now.slots }
+    {
+        &self.program
+    }
+
+    /// The instruction at a slot that is no tail, as it was decoded when the program was verified.
+    pub fn instruction(&self, slot: usize) -> &Instruction
+        requires { IsSome (instruction_at self.now.slots slot) }
+        ensures { instruction_at self.now.slots slot ≡ Some result.now }
+    {
+        &self.code[slot]
+    }
+}
+
+/// The budget of a program that passes flow and analysis, or the first fault.
+fn checked(alloc: Global, program: &Program) -> Result<u32, Refusal>
+    ensures budget { IfOk result (λ budget. IsBudget program.now budget) }
+    ensures flow { OnOk result (flow_fault program.now ≡ None) }
+    ensures analysed { OnOk result (IsOk (analysis program.now)) }
+    ensures refused { IfErr result (λ e. (e ≡ out_of_memory) ⊎ IsProgramRefused program.now (fault_of e)) }
+{
+    let flow = match check(alloc, program) {
+        Ok(flow) => flow,
+        Err(error) => return Err(Refusal::from(error)),
+    };
+    match analyse(alloc, program.slots(), &flow) {
+        Ok(()) => Ok(flow.budget()),
+        Err(refusal) => Err(refusal),
+    }
+}
+
+/// What is kept of a program that was checked.
+fn kept(alloc: Global, program: Program, bytes: &[u8], budget: u32) -> Result<Verified, AllocError>
+    requires spelled { Spells bytes.now program }
+    requires budget { IsBudget program budget }
+    requires flow { flow_fault program ≡ None }
+    requires analysed { IsOk (analysis program) }
+    ensures program { IfOk result (λ v. v.slots ≡ program) }
+    ensures safe { IfOk result (λ v. IsSafe context_size v.slots v.budget) }
+{
+    let code = decoded(alloc, program.slots())?;
+    let bytes = bytes.to_vec(alloc)?;
+    Ok(Verified {
+        program,
+        bytes,
+        code,
+        budget,
+    })
+}
+
+/// The verified program of the bytes, or the first fault: of decoding, then of flow, then of the
+/// analysis, in which the least slot comes first. Until the analysis knows all instructions, one
+/// that it doesn't know is `UnknownOpcode` at its slot. Where memory runs out the refusal is
+/// `ProgramOutOfMemory` at slot 0.
+pub fn verify(alloc: Global, bytes: &[u8]) -> Result<Verified, Refusal>
+    // What is verified is spelled so, and safe.
+    ensures spelled { IfOk result (λ v. Spells bytes.now v.slots) }
+    ensures safe { IfOk result (λ v. IsSafe context_size v.slots v.budget) }
+    // A refusal is the first fault, unless memory ran out.
+    ensures refused { IfErr result (λ e. (e ≡ out_of_memory) ⊎ IsRefused bytes.now (fault_of e)) }
+{
+    let program = match Program::decode(alloc, bytes) {
+        Ok(program) => program,
+        Err(error) => return Err(Refusal::from(error)),
+    };
+    let budget = match checked(alloc, &program) {
+        Ok(budget) => budget,
+        Err(refusal) => return Err(refusal),
+    };
+    match kept(alloc, program, bytes, budget) {
+        Ok(verified) => Ok(verified),
+        Err(_) => Err(Refusal::out_of_memory()),
+    }
+}
