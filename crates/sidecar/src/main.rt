@@ -1,0 +1,39 @@
+//! The program `sidecar`: verifies classifier programs, and judges outcomes by them.
+#![tactic(auto)]
+
+mod answer;
+mod commands;
+mod hexadecimal;
+mod judging;
+#[cfg(test)]
+mod tests;
+
+use commands::command;
+use std::process::ExitCode;
+use std::{env, io};
+
+/// The status with which the command of the program's arguments ends.
+fn run(rt: &HostRuntime) -> io::Result<u8> {
+    let mut arguments = Vec::new(rt.alloc());
+    for argument in env::args(rt)?.skip(1) {
+        arguments.push(argument)?;
+    }
+    let words: Vec<&str> = arguments
+        .iter()
+        .map(|word| word.as_str())
+        .collect(rt.alloc())?;
+    Ok(command(
+        rt.alloc(),
+        &words,
+        &mut rt.stdin(),
+        &mut rt.stdout(),
+        &mut rt.stderr(),
+    ))
+}
+
+fn main(rt: HostRuntime) -> ExitCode {
+    match run(&rt) {
+        Ok(status) => ExitCode::from(status),
+        Err(_) => ExitCode::FAILURE,
+    }
+}

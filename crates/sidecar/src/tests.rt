@@ -1,0 +1,205 @@
+//! The lines that commands print, and the statuses that they end with.
+use crate::commands::command;
+use std::alloc::Global;
+use std::io;
+use std::io::Read;
+use std::process::Abort;
+use std::test::Fail;
+
+const FAILURE: &str = "b7000000010000009500000000000000";
+
+const BY_STATUS: &str =
+    "6112000000000000550204000000000061120400000000003502 0200f4010000 B700000000000000 9500000000000000 b700000001000000 9500000000000000";
+
+const USAGE: &str = "usage: sidecar judge|asm|dis|verify|replay|serve\n";
+
+/// That the words end so on this input.
+fn ends(
+    rt: &impl Abort,
+    alloc: Global,
+    words: &[&str],
+    input: &[u8],
+    status: u8,
+    printed: &str,
+) -> Result<(), Fail> {
+    let mut reader = input;
+    let mut out = Vec::new(alloc);
+    let mut err = Vec::new(alloc);
+    let found = command(alloc, words, &mut reader, &mut out, &mut err);
+    let usage = if status == 2 { USAGE } else { "" };
+    assert_eq!(rt; out.as_slice(), printed.as_bytes(), "{words:?}");
+    assert_eq!(rt; err.as_slice(), usage.as_bytes(), "{words:?}");
+    assert_eq!(rt; found, status, "{words:?}");
+    Ok(())
+}
+
+/// A reader that always fails.
+#[derive(Drop)]
+struct Broken;
+
+impl Read for Broken {
+    fn read(&mut self, _room: &mut [u8]) -> io::Result<usize> {
+        Err(io::Error::from(io::ErrorKind::BrokenPipe))
+    }
+}
+
+/// A writer that always fails.
+#[derive(Drop)]
+struct Full;
+
+impl io::Write for Full {
+    fn write(&mut self, _bytes: &[u8]) -> io::Result<usize> {
+        Err(io::Error::from(io::ErrorKind::StorageFull))
+    }
+
+    fn flush(&mut self) -> io::Result<()> {
+        Ok(())
+    }
+}
+
+#[test]
+fn programs_are_verified(rt: HostRuntime) -> Result<(), Fail> {
+    for (program, status, printed) in [
+        (BY_STATUS, 0, "accepted budget=6 slots=8\n"),
+        (
+            "b7000000030000009500000000000000",
+            1,
+            "refused 22 AnswerRange slot 1\n",
+        ),
+        ("9500000000000000", 1, "refused 12 UnsetRegister slot 0\n"),
+        ("b70000000000000095000000", 1, "refused 1 Length slot 0\n"),
+        ("", 1, "refused 1 Length slot 0\n"),
+        (
+            "55010000000000009500000000000000",
+            1,
+            "refused 13 PointerUsed slot 0\n",
+        ),
+        (
+            "71108000000000009500000000000000",
+            1,
+            "refused 16 OutOfBounds slot 0\n",
+        ),
+        ("9g", 1, "refused 46 BadHex\n"),
+        ("9", 1, "refused 46 BadHex\n"),
+    ] {
+        ends(&rt, rt.alloc(), &["verify", program], b"", status, printed)?;
+    }
+    Ok(())
+}
+
+#[test]
+fn outcomes_are_judged(rt: HostRuntime) -> Result<(), Fail> {
+    for (program, outcome, status, printed) in [
+        (FAILURE, "{}", 0, "failure steps=2 budget=2\n"),
+        (
+            BY_STATUS,
+            "{\"status\":499}",
+            0,
+            "success steps=6 budget=6\n",
+        ),
+        (
+            BY_STATUS,
+            "{\"status\":500}",
+            0,
+            "failure steps=6 budget=6\n",
+        ),
+        (
+            BY_STATUS,
+            "{\"kind\":\"timeout\"}",
+            0,
+            "failure steps=4 budget=6\n",
+        ),
+        (FAILURE, "", 1, "refused 58 BadJson\n"),
+        (FAILURE, "[]", 1, "refused 59 BadField\n"),
+        (FAILURE, "{\"status\":null}", 1, "refused 59 BadField\n"),
+        (
+            "9500000000000000",
+            "",
+            1,
+            "refused 12 UnsetRegister slot 0\n",
+        ),
+    ] {
+        ends(
+            &rt,
+            rt.alloc(),
+            &["judge", program],
+            outcome.as_bytes(),
+            status,
+            printed,
+        )?;
+    }
+    ends(
+        &rt,
+        rt.alloc(),
+        &["judge", FAILURE],
+        b"\xff",
+        1,
+        "refused 58 BadJson\n",
+    )
+}
+
+#[test]
+fn wrong_words_are_answered_with_the_usage(rt: HostRuntime) -> Result<(), Fail> {
+    let alloc = rt.alloc();
+    ends(&rt, alloc, &[], b"{}", 2, "")?;
+    ends(&rt, alloc, &["judge"], b"{}", 2, "")?;
+    ends(&rt, alloc, &["judge", FAILURE, FAILURE], b"{}", 2, "")?;
+    ends(&rt, alloc, &["frob", "x"], b"{}", 2, "")
+}
+
+#[test]
+fn long_input_is_refused(rt: HostRuntime) -> Result<(), Fail> {
+    let alloc = rt.alloc();
+    let program: String<Global> = "95".chars().cycle().take(1 << 20).collect(alloc)?;
+    ends(
+        &rt,
+        alloc,
+        &["verify", program.as_str()],
+        b"",
+        1,
+        "refused 1 Length slot 0\n",
+    )?;
+    let blanks = vec![in alloc; b' '; 10_000_000]?;
+    ends(
+        &rt,
+        alloc,
+        &["judge", FAILURE],
+        &blanks,
+        1,
+        "refused 58 BadJson\n",
+    )
+}
+
+#[test]
+fn refused_programs_come_before_input(rt: HostRuntime) {
+    let alloc = rt.alloc();
+    for (name, program, status, printed) in [
+        ("verify", FAILURE, 0, "accepted budget=2 slots=2\n"),
+        ("judge", "9g", 1, "refused 46 BadHex\n"),
+    ] {
+        let mut out = Vec::new(alloc);
+        let mut err = Vec::new(alloc);
+        let found = command(alloc, &[name, program], &mut Broken, &mut out, &mut err);
+        assert_eq!(rt; out.as_slice(), printed.as_bytes());
+        assert!(rt; err.is_empty());
+        assert_eq!(rt; found, status);
+    }
+}
+
+#[test]
+fn failures_of_readers_and_writers_print_nothing(rt: HostRuntime) {
+    let alloc = rt.alloc();
+    let mut out = Vec::new(alloc);
+    let mut err = Vec::new(alloc);
+    let words = ["judge", FAILURE];
+    let status = command(alloc, &words, &mut Broken, &mut out, &mut err);
+    assert_eq!(rt; status, 1);
+    assert!(rt; out.is_empty() && err.is_empty());
+    let mut outcome = b"{}".as_slice();
+    let status = command(alloc, &words, &mut outcome, &mut Full, &mut err);
+    assert_eq!(rt; status, 1);
+    assert!(rt; err.is_empty());
+    let status = command(alloc, &["judge"], &mut outcome, &mut out, &mut Full);
+    assert_eq!(rt; status, 1);
+    assert!(rt; out.is_empty());
+}
