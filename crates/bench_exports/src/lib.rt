@@ -1,7 +1,9 @@
 //! What the benchmark calls from C. Nothing of the product stands on it.
 #![tactic(auto)]
 
+use bpf_decode::Program;
 use bpf_run::{Verdict, run};
+use flow_check::check;
 use helpers::Record;
 use std::alloc::{AllocError, Global};
 use verifier::{Verified, default_classifier};
@@ -55,4 +57,47 @@ pub extern "C" fn bench_exports_judge(alloc: Global, rounds: u32) -> u64 {
         count = count.wrapping_add(failures(&classifier, &records));
     }
     count
+}
+
+/// `mov r0, 0`.
+const MOVE: [u8; 8] = [0xb7, 0, 0, 0, 0, 0, 0, 0];
+
+/// `jeq r0, 0, +0`.
+const BRANCH_BY_0: [u8; 8] = [0x15, 0, 0, 0, 0, 0, 0, 0];
+
+/// `jeq r0, 0, +1`.
+const BRANCH_BY_1: [u8; 8] = [0x15, 0, 1, 0, 0, 0, 0, 0];
+
+/// `exit`.
+const EXIT: [u8; 8] = [0x95, 0, 0, 0, 0, 0, 0, 0];
+
+/// The bytes of a program of so many slots, from 3 on: a move, comparisons that lead to the next slot
+/// and the one after it, and an exit.
+fn branching(alloc: Global, slots: u32) -> Result<Vec<u8>, AllocError> {
+    let mut bytes = Vec::from_slice(alloc, &MOVE)?;
+    for _ in 3..slots {
+        bytes.extend_from_slice(&BRANCH_BY_1)?;
+    }
+    bytes.extend_from_slice(&BRANCH_BY_0)?;
+    bytes.extend_from_slice(&EXIT)?;
+    Ok(bytes)
+}
+
+/// Checks the flow of a program of so many slots, from 3 to 4,096, so many times, and answers the sum
+/// of the budgets: as many as there are slots in each round. It is 0 where memory ran out.
+#[unsafe(no_mangle)]
+pub extern "C" fn bench_exports_check(alloc: Global, slots: u32, rounds: u32) -> u64 {
+    let Ok(bytes) = branching(alloc, slots) else {
+        return 0;
+    };
+    let Ok(program) = Program::decode(alloc, &bytes) else {
+        return 0;
+    };
+    let mut sum = 0u64;
+    for _ in 0..rounds {
+        if let Ok(flow) = check(alloc, &program) {
+            sum = sum.wrapping_add(u64::from(flow.budget()));
+        }
+    }
+    sum
 }

@@ -5,6 +5,7 @@ ghost use Rattle.byteorder.specs.Endian.{little_number};
 ghost use Rattle.bpf_profile.specs.Helpers.{front, tag_front};
 ghost use Rattle.bpf_profile.specs.Outcomes.{IsOutcome};
 ghost use Rattle.bpf_profile.specs.Words.{bytes_in};
+ghost use Rattle.helpers.specs.Layout.{duration_of};
 
 use crate::bytes::{show_bytes, show_words, write_padded};
 use crate::tag::Tag;
@@ -117,7 +118,7 @@ impl Record {
 
     /// How long the call took, in milliseconds.
     pub fn duration(&self) -> u64
-        ensures { result ≡ little_number 8 (drop 8 self.now.context) }
+        ensures { result ≡ duration_of self.now }
     {
         self.word_at(DURATION, Size::DoubleWord)
     }

@@ -1,0 +1,48 @@
+-- What the ranges of a configuration say.
+use Rattle.std.proofs.Common.{◌≡◌, ℕ, zero, suc, ◌+◌, ◌≤◌, ◌<◌, ◌==◌, nat_le, nat_lt, ◌&&◌, ◌^◌, Bool, true, false, if◌then◌else◌, List, Option, Some, None, arith, refl, ap, sym, ◌∙◌, subst}
+use Rattle.book.specs.declared.configuration.ConfigField.{ConfigField}
+use Rattle.book.specs.declared.configuration.ConfigParts.{ConfigParts}
+use Rattle.book.specs.Configuration.{checked, bad_field, bad_limit, is_within, is_count_based}
+use Rattle.std.proofs.lemmas.Bool.{leb-true}
+use Rattle.std.proofs.lemmas.Bool.Decides.{Decides-eqb}
+use Rattle.book.specs.declared.configuration.ConfigField.TheVariants as field
+use Rattle.book.specs.declared.states.State.TheVariants as state
+use Rattle.book.specs.Machine.{Situation, overstays, at_moment, in_state}
+
+-- where nothing is bad, neither this field nor a later one is
+good_field : (good : Bool) (field : ConfigField) (later : Option ConfigField) → checked good field later ≡ None → (good ≡ true) × (later ≡ None)
+good_field true field later e = (refl, e)
+good_field false field later e = let bad : ◌≡◌ {A = Option ConfigField} (Some field) None = e in cc
+
+pub record Ranges (parts : ConfigParts) : Type 0 where
+  pub permitted : is_within 1 10000 parts.permitted_number_of_calls_in_half_open_state ≡ true
+  pub stay : (parts.max_wait_duration_in_half_open_state == 0) ≡ true
+  pub window : is_count_based parts.sliding_window_type ≡ true
+  pub size : is_within 1 10000 parts.sliding_window_size ≡ true
+
+pub ranges : (parts : ConfigParts) → bad_field parts ≡ None → Ranges parts
+ranges parts e =
+    let a = good_field (is_within 1 100 parts.failure_rate_threshold) field.FailureRateThreshold (checked (is_within 1 100 parts.slow_call_rate_threshold) field.SlowCallRateThreshold (checked (is_within 1 (2 ^ 32) parts.slow_call_duration_threshold) field.SlowCallDurationThreshold (checked (is_within 1 10000 parts.permitted_number_of_calls_in_half_open_state) field.PermittedNumberOfCallsInHalfOpenState (checked (parts.max_wait_duration_in_half_open_state == 0) field.MaxWaitDurationInHalfOpenState (checked (is_count_based parts.sliding_window_type) field.SlidingWindowType (bad_limit parts)))))) e in
+    let b = good_field (is_within 1 100 parts.slow_call_rate_threshold) field.SlowCallRateThreshold (checked (is_within 1 (2 ^ 32) parts.slow_call_duration_threshold) field.SlowCallDurationThreshold (checked (is_within 1 10000 parts.permitted_number_of_calls_in_half_open_state) field.PermittedNumberOfCallsInHalfOpenState (checked (parts.max_wait_duration_in_half_open_state == 0) field.MaxWaitDurationInHalfOpenState (checked (is_count_based parts.sliding_window_type) field.SlidingWindowType (bad_limit parts))))) a.1 in
+    let c = good_field (is_within 1 (2 ^ 32) parts.slow_call_duration_threshold) field.SlowCallDurationThreshold (checked (is_within 1 10000 parts.permitted_number_of_calls_in_half_open_state) field.PermittedNumberOfCallsInHalfOpenState (checked (parts.max_wait_duration_in_half_open_state == 0) field.MaxWaitDurationInHalfOpenState (checked (is_count_based parts.sliding_window_type) field.SlidingWindowType (bad_limit parts)))) b.1 in
+    let d = good_field (is_within 1 10000 parts.permitted_number_of_calls_in_half_open_state) field.PermittedNumberOfCallsInHalfOpenState (checked (parts.max_wait_duration_in_half_open_state == 0) field.MaxWaitDurationInHalfOpenState (checked (is_count_based parts.sliding_window_type) field.SlidingWindowType (bad_limit parts))) c.1 in
+    let f = good_field (parts.max_wait_duration_in_half_open_state == 0) field.MaxWaitDurationInHalfOpenState (checked (is_count_based parts.sliding_window_type) field.SlidingWindowType (bad_limit parts)) d.1 in
+    let g = good_field (is_count_based parts.sliding_window_type) field.SlidingWindowType (bad_limit parts) f.1 in
+    let h = good_field (is_within 1 10000 parts.sliding_window_size) field.SlidingWindowSize (checked (is_within 1 1000000 parts.minimum_number_of_calls) field.MinimumNumberOfCalls (checked (is_within 1 (2 ^ 40) parts.wait_duration_in_open_state) field.WaitDurationInOpenState (checked (is_within 1 10000 parts.max_concurrent_calls) field.MaxConcurrentCalls (checked (parts.max_wait_duration == 0) field.MaxWaitDuration None)))) g.1 in
+    record { permitted = d.0; stay = f.0; window = g.0; size = h.0 }
+
+zero_stay : (stay : ℕ) (rest : Bool) → stay ≡ 0 → (nat_lt 0 stay && rest) ≡ false
+zero_stay stay rest e = rw e refl
+
+-- with no longest stay an event is taken as things stand
+pub no_stay : (s : Situation) (moment : ℕ) → bad_field s.config ≡ None → at_moment s moment ≡ s
+no_stay s moment e =
+    let none = (Decides-eqb s.config.max_wait_duration_in_half_open_state 0).0 (ranges s.config e).stay in
+    ap (λ (b : Bool). if b then in_state state.Open moment s else s) (zero_stay s.config.max_wait_duration_in_half_open_state _ none)
+
+and_left : (a b : Bool) → (a && b) ≡ true → a ≡ true
+and_left true b e = refl
+and_left false b e = e
+
+pub within_least : (least most number : ℕ) → is_within least most number ≡ true → least ≤ number
+within_least least most number e = leb-true least number (and_left (nat_le least number) (nat_le number most) e)

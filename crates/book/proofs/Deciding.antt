@@ -1,0 +1,323 @@
+-- What the machine's replies can be, and where the breaker stands then.
+use Rattle.std.proofs.Common.{◌≡◌, ℕ, zero, suc, ◌+◌, ◌-◌, ◌*◌, ◌≤◌, ◌<◌, ◌⊎◌, inl, inr, ◌==◌, nat_le, nat_lt, ◌&&◌, ◌||◌, not, Bool, true, false, if◌then◌else◌, List, [], ◌∷◌, ◌++◌, length, Option, Some, None, arith, refl, ap, sym, ◌∙◌}
+use Rattle.std.specs.List.{list_any, find}
+use Rattle.std.proofs.lemmas.Bool.{ltb-false, ltb-true, leb-false}
+use Rattle.std.proofs.lemmas.Bool.Decides.{Decides-eqb}
+use Rattle.bpf_profile.specs.declared.machine.Verdict.{Verdict}
+use Rattle.bpf_profile.specs.declared.machine.Verdict.TheVariants as verdict
+use Rattle.bpf_profile.specs.Outcomes.{Outcome}
+use Rattle.bpf_run.specs.JudgedWork.{Work}
+use Rattle.refusals.specs.declared.RefusalNumber.{RefusalNumber}
+use Rattle.refusals.specs.declared.RefusalNumber.TheVariants as refusal
+use Rattle.verifier.specs.Programs.{VerifiedProgram}
+use Rattle.book.specs.declared.breaker.Permission.{Permission}
+use Rattle.book.specs.declared.breaker.Standing.{Standing}
+use Rattle.book.specs.declared.configuration.ConfigParts.{ConfigParts}
+use Rattle.book.specs.declared.machine.Decision.{Decision}
+use Rattle.book.specs.declared.machine.Judgement.{Judgement}
+use Rattle.book.specs.declared.registry.OpenTicket.{OpenTicket}
+use Rattle.book.specs.declared.replies.Fate.{Fate}
+use Rattle.book.specs.declared.replies.Fate.TheVariants as fate
+use Rattle.book.specs.declared.replies.Reply.{Reply}
+use Rattle.book.specs.declared.replies.Reply.TheVariants as reply
+use Rattle.book.specs.declared.states.State.{State}
+use Rattle.book.specs.declared.states.State.TheVariants as state
+use Rattle.book.specs.declared.windows.Note.{Note}
+use Rattle.book.specs.declared.windows.Totals.{Totals}
+use Rattle.book.specs.Events.{Happening, acquires, finishes, releases, installs, moves, resets}
+use Rattle.book.specs.Machine.{Situation, refused, in_state, overstays, at_moment, permissions_held, half_open_permission, open_permission, permission_in, placed, admitted, acquired, current_version, open_ticket, is_open, is_issued, program_from, same_program, is_ignored, fate_of, note_of, next_by, finished_reply, concluded, finished_by, finished_under, finished, released_under, released, installed, moved_to, decided, used, is_full, decision, is_entered, is_entered_refusal}
+use Rattle.book.specs.Rates.{after_totals, after_notes, either_reaches, minimum}
+use Rattle.book.specs.Configuration.{bad_field}
+use Rattle.book.specs.Standings.{moved, is_half_open, is_disabled}
+use Rattle.book.proofs.Configured.{no_stay}
+use Rattle.book.specs.Verdicts.{judgement}
+
+-- ---- where the breaker stands: just as before, or some periods later
+
+pub record IsNear (before after : Standing) (steps : ℕ) : Type 0 where
+  pub least : before.period ≤ after.period
+  pub most : after.period ≤ before.period + steps
+  pub same : after.period ≡ before.period → after ≡ before
+
+near_none : (standing : Standing) (steps : ℕ) → IsNear standing standing steps
+near_none standing steps = record { least = omega arith; most = omega arith; same = λ e. refl }
+
+near_one : (s : State) (moment : ℕ) (standing : Standing) → IsNear standing (moved s moment standing) 1
+near_one s moment standing = record { least = omega arith; most = omega arith; same = λ e. absurd (omega (arith, e)) }
+
+by_test : (test : Bool) (standing a b : Standing) → IsNear standing a 1 → IsNear standing b 1 → IsNear standing (if test then a else b) 1
+by_test true standing a b p q = p
+by_test false standing a b p q = q
+
+after_totals_near : (config : ConfigParts) (moment : ℕ) (standing : Standing) (s : State) (totals : Totals) → IsNear standing (after_totals config moment standing s totals) 1
+after_totals_near config moment standing state.Closed totals =
+    by_test (nat_le (minimum config state.Closed) totals.total && either_reaches config totals) standing (moved state.Open moment standing) standing (near_one state.Open moment standing) (near_none standing 1)
+after_totals_near config moment standing state.HalfOpen totals =
+    by_test (nat_le (minimum config state.HalfOpen) totals.total) standing (if either_reaches config totals then moved state.Open moment standing else moved state.Closed moment standing) standing
+        (by_test (either_reaches config totals) standing (moved state.Open moment standing) (moved state.Closed moment standing) (near_one state.Open moment standing) (near_one state.Closed moment standing))
+        (near_none standing 1)
+after_totals_near config moment standing state.Open totals = near_none standing 1
+after_totals_near config moment standing state.Disabled totals = near_none standing 1
+after_totals_near config moment standing state.MetricsOnly totals = near_none standing 1
+after_totals_near config moment standing state.ForcedOpen totals = near_none standing 1
+
+next_by_near : (f : Fate) (config : ConfigParts) (moment : ℕ) (standing : Standing) (notes : List Note) (note : Note) → IsNear standing (next_by f config moment standing notes note) 1
+next_by_near fate.Recorded config moment standing notes note = after_totals_near config moment standing standing.state _
+next_by_near fate.Ignored config moment standing notes note = near_none standing 1
+next_by_near fate.Off config moment standing notes note = near_none standing 1
+next_by_near fate.Stale config moment standing notes note = near_none standing 1
+
+abbrev DecidesNear : Standing → Decision → Type 0
+DecidesNear standing d = IsNear standing d.next 1
+
+either_near : (test : Bool) (standing : Standing) (a b : Decision) → DecidesNear standing a → DecidesNear standing b → DecidesNear standing (if test then a else b)
+either_near true standing a b p q = p
+either_near false standing a b p q = q
+
+open_permission_near : (test : Bool) (standing : Standing) (a b : Permission) → IsNear standing a.standing 1 → IsNear standing b.standing 1 → IsNear standing (if test then a else b).standing 1
+open_permission_near true standing a b p q = p
+open_permission_near false standing a b p q = q
+
+permission_near : (s : State) (config : ConfigParts) (standing : Standing) (notes : List Note) (tickets : List OpenTicket) (moment : ℕ) → IsNear standing (permission_in s config standing notes tickets moment).standing 1
+permission_near state.Closed config standing notes tickets moment = near_none standing 1
+permission_near state.MetricsOnly config standing notes tickets moment = near_none standing 1
+permission_near state.Disabled config standing notes tickets moment = near_none standing 1
+permission_near state.ForcedOpen config standing notes tickets moment = near_none standing 1
+permission_near state.Open config standing notes tickets moment =
+    open_permission_near (nat_le config.wait_duration_in_open_state (moment - standing.since)) standing
+        (half_open_permission config (moved state.HalfOpen moment standing) [] tickets) (record { given = false; standing = standing })
+        (near_one state.HalfOpen moment standing) (near_none standing 1)
+permission_near state.HalfOpen config standing notes tickets moment = near_none standing 1
+
+placed_near : (s : Situation) (before : Standing) (standing : Standing) → IsNear before standing 1 → DecidesNear before (placed s standing)
+placed_near s before standing near =
+    either_near (nat_le s.config.max_concurrent_calls (length s.open_tickets)) before
+        (refused standing refusal.BulkheadFull)
+        (record { reply = reply.Permitted s.next_ticket (current_version s) standing.state; next = standing })
+        near near
+
+admitted_near : (s : Situation) (before : Standing) (permission : Permission) → IsNear before permission.standing 1 → DecidesNear before (admitted s permission)
+admitted_near s before permission near =
+    either_near permission.given before (placed s permission.standing) (refused permission.standing refusal.CallNotPermitted)
+        (placed_near s before permission.standing near) near
+
+acquired_near : (s : Situation) (moment : ℕ) → DecidesNear s.standing (acquired s moment)
+acquired_near s moment = admitted_near s s.standing _ (permission_near s.standing.state s.config s.standing s.notes s.open_tickets moment)
+
+finished_by_near : (s : Situation) (moment : ℕ) (ticket : OpenTicket) (work : Work) (program : Option VerifiedProgram) → DecidesNear s.standing (finished_by s moment ticket work program)
+finished_by_near s moment ticket work None = near_none s.standing 1
+finished_by_near s moment ticket work (Some program) =
+    either_near (same_program work.program program) s.standing (concluded s moment ticket work.outcome (judgement program work.outcome)) (refused s.standing refusal.Stranger)
+        (next_by_near (fate_of s.standing ticket (judgement program work.outcome).verdict) s.config moment s.standing s.notes _)
+        (near_none s.standing 1)
+
+finished_under_near : (s : Situation) (moment : ℕ) (work : Work) (ticket : Option OpenTicket) → DecidesNear s.standing (finished_under s moment work ticket)
+finished_under_near s moment work None = near_none s.standing 1
+finished_under_near s moment work (Some ticket) = finished_by_near s moment ticket work (program_from s.first_version s.programs ticket.version)
+
+released_under_near : (s : Situation) (ticket : Option OpenTicket) → DecidesNear s.standing (released_under s ticket)
+released_under_near s None = near_none s.standing 1
+released_under_near s (Some ticket) = near_none s.standing 1
+
+decided_near : (s : Situation) (moment : ℕ) (event : Happening) → DecidesNear s.standing (decided s moment event)
+decided_near s moment acquires = acquired_near s moment
+decided_near s moment (finishes work ticket) =
+    either_near (is_issued s ticket) s.standing (finished_under s moment work (open_ticket s.open_tickets ticket)) (refused s.standing refusal.NoTicket)
+        (finished_under_near s moment work (open_ticket s.open_tickets ticket)) (near_none s.standing 1)
+decided_near s moment (releases ticket) =
+    either_near (is_issued s ticket) s.standing (released_under s (open_ticket s.open_tickets ticket)) (refused s.standing refusal.NoTicket)
+        (released_under_near s (open_ticket s.open_tickets ticket)) (near_none s.standing 1)
+decided_near s moment (installs program) =
+    either_near (nat_le 256 (length s.programs)) s.standing (refused s.standing refusal.VersionsFull) (record { reply = reply.Installed (s.first_version + length s.programs) program.budget; next = s.standing })
+        (near_none s.standing 1) (near_none s.standing 1)
+decided_near s moment (moves to) = near_one to moment s.standing
+decided_near s moment resets = near_one state.Closed moment s.standing
+
+at_moment_near : (test : Bool) (s : Situation) (moment : ℕ) (event : Happening) → IsNear s.standing (decided (if test then in_state state.Open moment s else s) moment event).next 2
+at_moment_near true s moment event =
+    let near = decided_near (in_state state.Open moment s) moment event in
+    record { least = omega (arith, near.least); most = omega (arith, near.most); same = λ e. absurd (omega (arith, e, near.least)) }
+at_moment_near false s moment event =
+    let near = decided_near s moment event in
+    record { least = omega (arith, near.least); most = omega (arith, near.most); same = near.same }
+
+full_near : (test : Bool) (s : Situation) (moment : ℕ) (event : Happening) → IsNear s.standing (if test then refused s.standing refusal.JournalFull else decided (at_moment s moment) moment event).next 2
+full_near true s moment event = near_none s.standing 2
+full_near false s moment event = at_moment_near (overstays s moment) s moment event
+
+pub decision_near : (s : Situation) (moment : ℕ) (event : Happening) → IsNear s.standing (decision s moment event).next 2
+unfolding decision
+decision_near s moment event = full_near (is_full s event) s moment event
+
+-- ---- what the reply can be
+
+-- a call that is permitted in a HALF_OPEN period that goes on has a permission left
+abbrev pub HasPermission : Situation → Standing → Type 0
+HasPermission s next = is_half_open next.state ≡ true → next.period ≡ s.standing.period
+    → permissions_held s.standing.period s.open_tickets + length s.notes < s.config.permitted_number_of_calls_in_half_open_state
+
+-- a recorded verdict isn't ignored, and its ticket is of the present period
+abbrev pub IsPresent : Situation → ℕ → Fate → Verdict → Type 0
+IsPresent s ticket f v = f ≡ fate.Recorded → (t : OpenTicket) × (open_ticket s.open_tickets ticket ≡ Some t) × (t.period ≡ s.standing.period) × (is_ignored v ≡ false)
+
+pub data Shape (s : Situation) (event : Happening) (d : Decision) : Type 0 where
+  refuses : (number : RefusalNumber) → d.reply ≡ reply.Refused number → (is_entered_refusal number ≡ true → used s ≤ 65535) → Shape s event d
+  permits : (version : ℕ) (st : State) → event ≡ acquires → d.reply ≡ reply.Permitted s.next_ticket version st → used s ≤ 65534 → length s.open_tickets < s.config.max_concurrent_calls → HasPermission s d.next → Shape s event d
+  concludes : (work : Work) (ticket : ℕ) (f : Fate) (v : Verdict) (steps version : ℕ) (st : State) → event ≡ finishes work ticket → d.reply ≡ reply.Finished f v steps version st → is_open s.open_tickets ticket ≡ true → IsPresent s ticket f v → Shape s event d
+  lets_go : (ticket : ℕ) (st : State) → event ≡ releases ticket → d.reply ≡ reply.Released st → is_open s.open_tickets ticket ≡ true → Shape s event d
+  takes_in : (program : VerifiedProgram) (version budget : ℕ) → event ≡ installs program → d.reply ≡ reply.Installed version budget → length s.programs < 256 → used s ≤ 65535 → Shape s event d
+  turns : (st : State) (period : ℕ) → d.reply ≡ reply.Moved st period → used s ≤ 65535 → Shape s event d
+
+either_shape : (test : Bool) (s : Situation) (event : Happening) (a b : Decision) → (test ≡ true → Shape s event a) → (test ≡ false → Shape s event b) → Shape s event (if test then a else b)
+either_shape true s event a b p q = p refl
+either_shape false s event a b p q = q refl
+
+-- an entered refusal where the journal has room
+refused_shape : (s : Situation) (event : Happening) (standing : Standing) (number : RefusalNumber) → used s ≤ 65535 → Shape s event (refused standing number)
+refused_shape s event standing number room = refuses number refl (λ e. room)
+
+not_half_open : (s : Situation) (next : Standing) → is_half_open next.state ≡ false → HasPermission s next
+not_half_open s next none = λ h e. let bad : ◌≡◌ {A = Bool} true false = sym h ∙ none in cc
+
+open_given : (s : Situation) (moment : ℕ) (test : Bool) → (if test then half_open_permission s.config (moved state.HalfOpen moment s.standing) [] s.open_tickets else record { given = false; standing = s.standing }).given ≡ true
+    → HasPermission s (if test then half_open_permission s.config (moved state.HalfOpen moment s.standing) [] s.open_tickets else record { given = false; standing = s.standing }).standing
+open_given s moment true g = λ h e. absurd (omega (arith, e))
+open_given s moment false g = let bad : ◌≡◌ {A = Bool} false true = g in cc
+
+permission_given : (s : Situation) (moment : ℕ) (st : State) → s.standing.state ≡ st → (permission_in st s.config s.standing s.notes s.open_tickets moment).given ≡ true
+    → HasPermission s (permission_in st s.config s.standing s.notes s.open_tickets moment).standing
+permission_given s moment state.Closed e g = not_half_open s s.standing (ap is_half_open e)
+permission_given s moment state.MetricsOnly e g = not_half_open s s.standing (ap is_half_open e)
+permission_given s moment state.Disabled e g = not_half_open s s.standing (ap is_half_open e)
+permission_given s moment state.ForcedOpen e g = let bad : ◌≡◌ {A = Bool} false true = g in cc
+permission_given s moment state.Open e g = open_given s moment (nat_le s.config.wait_duration_in_open_state (moment - s.standing.since)) g
+permission_given s moment state.HalfOpen e g = λ h same. ltb-true _ _ g
+
+acquired_shape : (s : Situation) (moment : ℕ) → used s ≤ 65534 → Shape s acquires (acquired s moment)
+acquired_shape s moment room =
+    let permission : Permission = permission_in s.standing.state s.config s.standing s.notes s.open_tickets moment in
+    either_shape permission.given s acquires (placed s permission.standing) (refused permission.standing refusal.CallNotPermitted)
+        (λ g. either_shape (nat_le s.config.max_concurrent_calls (length s.open_tickets)) s acquires
+            (refused permission.standing refusal.BulkheadFull)
+            (record { reply = reply.Permitted s.next_ticket (current_version s) permission.standing.state; next = permission.standing })
+            (λ f. refused_shape s acquires permission.standing refusal.BulkheadFull (omega arith))
+            (λ f. permits (current_version s) permission.standing.state refl refl room (leb-false s.config.max_concurrent_calls (length s.open_tickets) f) (permission_given s moment s.standing.state refl g)))
+        (λ g. refused_shape s acquires permission.standing refusal.CallNotPermitted (omega arith))
+
+found_head : (t ticket : OpenTicket) (b rest : Bool) (later : Option OpenTicket) → (later ≡ Some ticket → rest ≡ true) → (if b then Some t else later) ≡ Some ticket → (b || rest) ≡ true
+found_head t ticket true rest later on h = refl
+found_head t ticket false rest later on h = on h
+
+-- a ticket that is found is open
+pub found_open : (tickets : List OpenTicket) (number : ℕ) (ticket : OpenTicket) → open_ticket tickets number ≡ Some ticket → is_open tickets number ≡ true
+found_open [] number ticket e = let bad : ◌≡◌ {A = Option OpenTicket} None (Some ticket) = e in cc
+found_open (t ∷ tickets) number ticket e = found_head t ticket (t.number == number) (is_open tickets number) (open_ticket tickets number) (found_open tickets number ticket) e
+
+lost_head : (t : OpenTicket) (b rest : Bool) (later : Option OpenTicket) → (later ≡ None → rest ≡ false) → (if b then Some t else later) ≡ None → (b || rest) ≡ false
+lost_head t true rest later on h = let bad : ◌≡◌ {A = Option OpenTicket} (Some t) None = h in cc
+lost_head t false rest later on h = on h
+
+-- a ticket that is not found is not open
+pub lost_closed : (tickets : List OpenTicket) (number : ℕ) → open_ticket tickets number ≡ None → is_open tickets number ≡ false
+lost_closed [] number e = refl
+lost_closed (t ∷ tickets) number e = lost_head t (t.number == number) (is_open tickets number) (open_ticket tickets number) (lost_closed tickets number) e
+
+both_false : (o b : Bool) → o ≡ false → (b && not o) ≡ false → b ≡ false
+both_false false true h e = let bad : ◌≡◌ {A = Bool} true false = e in cc
+both_false false false h e = refl
+both_false true b h e = let bad : ◌≡◌ {A = Bool} true false = h in cc
+
+-- the room that an event has whose ticket isn't open, where the journal isn't full
+closed_room : (s : Situation) (ticket : ℕ) → (nat_lt 65535 (used s) && not (is_open s.open_tickets ticket)) ≡ false → is_open s.open_tickets ticket ≡ false → used s ≤ 65535
+closed_room s ticket full closed = ltb-false 65535 (used s) (both_false (is_open s.open_tickets ticket) (nat_lt 65535 (used s)) closed full)
+
+-- a refusal that isn't entered
+unentered_shape : (s : Situation) (event : Happening) (standing : Standing) (number : RefusalNumber) → is_entered_refusal number ≡ false → Shape s event (refused standing number)
+unentered_shape s event standing number h = refuses number refl (λ e. let bad : ◌≡◌ {A = Bool} true false = sym e ∙ h in cc)
+
+abbrev pub OpenAreIssued : Situation → Type 0
+OpenAreIssued s = (number : ℕ) → is_open s.open_tickets number ≡ true → is_issued s number ≡ true
+
+-- a number that wasn't issued isn't open
+unissued_closed : (s : Situation) (number : ℕ) → OpenAreIssued s → is_issued s number ≡ false → is_open s.open_tickets number ≡ false
+unissued_closed s number issued none = by_open (is_open s.open_tickets number) refl
+  where
+    by_open : (b : Bool) → is_open s.open_tickets number ≡ b → b ≡ false
+    by_open true h = let bad : ◌≡◌ {A = Bool} true false = sym (issued number h) ∙ none in cc
+    by_open false h = refl
+
+recorded_fate : (standing : Standing) (t : OpenTicket) (v : Verdict) (same : Bool) → (t.period == standing.period) ≡ same → fate_of standing t v ≡ fate.Recorded → t.period ≡ standing.period
+recorded_fate standing t v true e r = (Decides-eqb t.period standing.period).0 e
+recorded_fate standing t v false e r =
+    let stale : fate_of standing t v ≡ fate.Stale = rw e refl in
+    let bad : ◌≡◌ {A = Fate} fate.Stale fate.Recorded = sym stale ∙ r in cc
+
+not_recorded : (f : Fate) → f ≡ fate.Recorded → f ≡ fate.Stale ⊎ ((f ≡ fate.Off) ⊎ (f ≡ fate.Ignored)) → ⊥
+not_recorded f e (inl h) = let bad : ◌≡◌ {A = Fate} fate.Recorded fate.Stale = sym e ∙ h in cc
+not_recorded f e (inr (inl h)) = let bad : ◌≡◌ {A = Fate} fate.Recorded fate.Off = sym e ∙ h in cc
+not_recorded f e (inr (inr h)) = let bad : ◌≡◌ {A = Fate} fate.Recorded fate.Ignored = sym e ∙ h in cc
+
+unignored : (a b : Bool) (v : Verdict) → (if not a then fate.Stale else (if b then fate.Off else (if is_ignored v then fate.Ignored else fate.Recorded))) ≡ fate.Recorded → is_ignored v ≡ false
+unignored false b v e = absurd (not_recorded fate.Stale e (inl refl))
+unignored true true v e = absurd (not_recorded fate.Off e (inr (inl refl)))
+unignored true false verdict.Ignored e = absurd (not_recorded fate.Ignored e (inr (inr refl)))
+unignored true false verdict.Success e = refl
+unignored true false verdict.Failure e = refl
+
+finished_by_shape : (s : Situation) (moment : ℕ) (t : OpenTicket) (work : Work) (ticket : ℕ) (program : Option VerifiedProgram) → is_open s.open_tickets ticket ≡ true → open_ticket s.open_tickets ticket ≡ Some t → Shape s (finishes work ticket) (finished_by s moment t work program)
+finished_by_shape s moment t work ticket None there found = unentered_shape s (finishes work ticket) s.standing refusal.Stranger refl
+finished_by_shape s moment t work ticket (Some program) there found =
+    let j : Judgement = judgement program work.outcome in
+    let d : Decision = concluded s moment t work.outcome j in
+    either_shape (same_program work.program program) s (finishes work ticket) d (refused s.standing refusal.Stranger)
+        (λ e. concludes work ticket (fate_of s.standing t j.verdict) j.verdict j.steps t.version d.next.state refl refl there
+            (λ r. (t, found, recorded_fate s.standing t j.verdict (t.period == s.standing.period) refl r, unignored (t.period == s.standing.period) (is_disabled s.standing.state) j.verdict r)))
+        (λ e. unentered_shape s (finishes work ticket) s.standing refusal.Stranger refl)
+
+finished_under_shape : (s : Situation) (moment : ℕ) (work : Work) (ticket : ℕ) (found : Option OpenTicket)
+    → (nat_lt 65535 (used s) && not (is_open s.open_tickets ticket)) ≡ false → open_ticket s.open_tickets ticket ≡ found → Shape s (finishes work ticket) (finished_under s moment work found)
+finished_under_shape s moment work ticket None full e = refused_shape s (finishes work ticket) s.standing refusal.TicketSpent (closed_room s ticket full (lost_closed s.open_tickets ticket e))
+finished_under_shape s moment work ticket (Some t) full e = finished_by_shape s moment t work ticket (program_from s.first_version s.programs t.version) (found_open s.open_tickets ticket t e) e
+
+finished_shape : (s : Situation) (moment : ℕ) (work : Work) (ticket : ℕ) → (nat_lt 65535 (used s) && not (is_open s.open_tickets ticket)) ≡ false → OpenAreIssued s → Shape s (finishes work ticket) (finished s moment work ticket)
+finished_shape s moment work ticket full issued =
+    either_shape (is_issued s ticket) s (finishes work ticket) (finished_under s moment work (open_ticket s.open_tickets ticket)) (refused s.standing refusal.NoTicket)
+        (λ e. finished_under_shape s moment work ticket (open_ticket s.open_tickets ticket) full refl)
+        (λ e. refused_shape s (finishes work ticket) s.standing refusal.NoTicket (closed_room s ticket full (unissued_closed s ticket issued e)))
+
+released_under_shape : (s : Situation) (ticket : ℕ) (found : Option OpenTicket)
+    → (nat_lt 65535 (used s) && not (is_open s.open_tickets ticket)) ≡ false → open_ticket s.open_tickets ticket ≡ found → Shape s (releases ticket) (released_under s found)
+released_under_shape s ticket None full e = refused_shape s (releases ticket) s.standing refusal.TicketSpent (closed_room s ticket full (lost_closed s.open_tickets ticket e))
+released_under_shape s ticket (Some t) full e = lets_go ticket s.standing.state refl refl (found_open s.open_tickets ticket t e)
+
+released_shape : (s : Situation) (ticket : ℕ) → (nat_lt 65535 (used s) && not (is_open s.open_tickets ticket)) ≡ false → OpenAreIssued s → Shape s (releases ticket) (released s ticket)
+released_shape s ticket full issued =
+    either_shape (is_issued s ticket) s (releases ticket) (released_under s (open_ticket s.open_tickets ticket)) (refused s.standing refusal.NoTicket)
+        (λ e. released_under_shape s ticket (open_ticket s.open_tickets ticket) full refl)
+        (λ e. refused_shape s (releases ticket) s.standing refusal.NoTicket (closed_room s ticket full (unissued_closed s ticket issued e)))
+
+installed_shape : (s : Situation) (program : VerifiedProgram) → used s ≤ 65535 → Shape s (installs program) (installed s program)
+installed_shape s program room =
+    either_shape (nat_le 256 (length s.programs)) s (installs program) (refused s.standing refusal.VersionsFull)
+        (record { reply = reply.Installed (s.first_version + length s.programs) program.budget; next = s.standing })
+        (λ e. unentered_shape s (installs program) s.standing refusal.VersionsFull refl)
+        (λ e. takes_in program (s.first_version + length s.programs) program.budget refl refl (leb-false 256 (length s.programs) e) room)
+
+decided_shape : (s : Situation) (moment : ℕ) (event : Happening) → is_full s event ≡ false → OpenAreIssued s → Shape s event (decided s moment event)
+decided_shape s moment acquires full issued = acquired_shape s moment (ltb-false 65534 (used s) full)
+decided_shape s moment (finishes work ticket) full issued = finished_shape s moment work ticket full issued
+decided_shape s moment (releases ticket) full issued = released_shape s ticket full issued
+decided_shape s moment (installs program) full issued = installed_shape s program (ltb-false 65535 (used s) full)
+decided_shape s moment (moves to) full issued = turns to (suc s.standing.period) refl (ltb-false 65535 (used s) full)
+decided_shape s moment resets full issued = turns state.Closed (suc s.standing.period) refl (ltb-false 65535 (used s) full)
+
+full_or_decided : (s t : Situation) (moment : ℕ) (event : Happening) → t ≡ s → is_full s event ≡ false → OpenAreIssued s → Shape s event (decided t moment event)
+full_or_decided s t moment event same full issued = rw same (decided_shape s moment event full issued)
+
+-- with no longest stay in HALF_OPEN
+pub decision_shape : (s : Situation) (moment : ℕ) (event : Happening) → bad_field s.config ≡ None → OpenAreIssued s → Shape s event (decision s moment event)
+unfolding decision
+decision_shape s moment event good issued =
+    either_shape (is_full s event) s event (refused s.standing refusal.JournalFull) (decided (at_moment s moment) moment event)
+        (λ e. unentered_shape s event s.standing refusal.JournalFull refl)
+        (λ e. full_or_decided s (at_moment s moment) moment event (no_stay s moment good) e issued)

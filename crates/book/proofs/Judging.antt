@@ -1,0 +1,62 @@
+-- The verdict of a safe program is the meaning's, and judged work carries it.
+use Rattle.std.proofs.Common.{◌≡◌, ℕ, zero, suc, ◌+◌, ◌≤◌, ◌<◌, List, Option, Some, None, Result, Ok, arith, refl, ap, sym, ◌∙◌, subst}
+use Rattle.std.specs.Option.{option_map_or}
+use Rattle.bpf_profile.specs.declared.machine.TrapReason.{TrapReason}
+use Rattle.bpf_profile.specs.declared.machine.Verdict.{Verdict}
+use Rattle.bpf_profile.specs.declared.machine.Verdict.TheVariants as verdict
+use Rattle.bpf_profile.specs.declared.slot.Slot.{Slot}
+use Rattle.bpf_profile.specs.Machine.{State, Effect, goes, answers}
+use Rattle.bpf_profile.specs.Meaning.{step, entry, Reaches, Ends, Judges, answer_of}
+use Rattle.bpf_profile.specs.Outcomes.{Outcome, IsOutcome}
+use Rattle.bpf_profile.specs.Safety.{IsSafe}
+use Rattle.bpf_profile.specs.Spelling.{Spells}
+use Rattle.bpf_profile.proofs.Runs.{ends_agree}
+use Rattle.bpf_decode.proofs.Spelled.{same_slots}
+use Rattle.verifier.specs.Analysis.{context_size}
+use Rattle.verifier.specs.Programs.{VerifiedProgram}
+use Rattle.book.specs.declared.machine.Judgement.{Judgement}
+use Rattle.book.specs.Verdicts.{Ending, one_later, ending_of, ending_within, verdict_of, judged_as, judgement}
+
+pub ending_of_run : (slots : List Slot) (outcome : Outcome) (count left : ℕ) (s t : State) (n : ℕ)
+    → Reaches context_size slots outcome s count t → step context_size slots outcome t ≡ Ok (answers n) → count < left
+    → ending_within slots outcome left s ≡ Some (record { answer = n; steps = suc count })
+unfolding Reaches ending_within
+ending_of_run slots outcome zero zero s t n r a h = absurd (omega arith)
+ending_of_run slots outcome (suc count) zero s t n r a h = absurd (omega arith)
+ending_of_run slots outcome zero (suc left) s t n r a h =
+    ap (ending_of (λ next. ending_within slots outcome left next)) (ap (step context_size slots outcome) r ∙ a)
+ending_of_run slots outcome (suc count) (suc left) s t n r a h =
+    ap (ending_of (λ next. ending_within slots outcome left next)) r.1
+    ∙ ap one_later (ending_of_run slots outcome count left r.0 t n r.2 a (omega arith))
+
+same_name : (v : Verdict) → verdict_of (answer_of v) ≡ v
+same_name verdict.Success = refl
+same_name verdict.Failure = refl
+same_name verdict.Ignored = refl
+
+named : (v : Verdict) (steps : ℕ) → judged_as (record { answer = answer_of v; steps = steps }) ≡ record { verdict = v; steps = steps }
+named v steps = ap (λ (w : Verdict). let j : Judgement = record { verdict = w; steps = steps } in j) (same_name v)
+
+pub judgement_is : (program : VerifiedProgram) (outcome : Outcome) (v : Verdict) (steps : ℕ)
+    → IsSafe context_size program.slots program.budget → IsOutcome context_size outcome → Judges context_size program.slots outcome v steps
+    → judgement program outcome ≡ record { verdict = v; steps = steps }
+unfolding judgement
+judgement_is program outcome v steps safe fits judges =
+    let ends = safe.ends outcome fits in
+    let same = ends_agree context_size program.slots outcome ends.0 (answer_of v) ends.1 steps ends.4 judges in
+    let within : judges.before < program.budget = omega (arith, same.1, ends.3, judges.counted) in
+    let ending = ending_of_run program.slots outcome judges.before program.budget entry judges.last (answer_of v) judges.reached judges.answered within in
+    ap (λ (e : Option Ending). option_map_or judged_as e (record { verdict = verdict.Ignored; steps = 0 })) ending
+    ∙ named v (suc judges.before)
+    ∙ ap (λ (k : ℕ). let j : Judgement = record { verdict = v; steps = k } in j) (sym judges.counted)
+
+-- programs with the same bytes have the same slots
+pub slots_by_bytes : (a b : VerifiedProgram) (x y : List ℕ) → Spells x a.slots → Spells y b.slots → x ≡ y → a.slots ≡ b.slots
+slots_by_bytes a b x y p q e = same_slots x a.slots b.slots p (subst (λ (z : List ℕ). Spells z b.slots) (sym e) q)
+
+-- the judgement of the same slots under another budget
+pub judgement_by_slots : (program : VerifiedProgram) (slots : List Slot) (outcome : Outcome) (v : Verdict) (steps : ℕ)
+    → slots ≡ program.slots → IsSafe context_size program.slots program.budget → IsOutcome context_size outcome → Judges context_size slots outcome v steps
+    → judgement program outcome ≡ record { verdict = v; steps = steps }
+judgement_by_slots program slots outcome v steps same safe fits judges =
+    judgement_is program outcome v steps safe fits (subst (λ (s : List Slot). Judges context_size s outcome v steps) same judges)

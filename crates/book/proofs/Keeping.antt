@@ -1,0 +1,323 @@
+-- Every legal history stays sound with one line more.
+use Rattle.std.proofs.Common.{◌≡◌, ℕ, zero, suc, ◌+◌, ◌*◌, ◌^◌, ◌≤◌, ◌<◌, ◌==◌, nat_le, nat_lt, max, ◌&&◌, ◌||◌, not, Bool, true, false, cond, if◌then◌else◌, List, [], ◌∷◌, ◌++◌, map, length, Option, Some, None, option_to_list, arith, refl, ap, sym, ◌∙◌, subst, length-append, append-nil}
+use Rattle.std.specs.List.{filter, filter_map, fold, list_any, AllByRecursion}
+use Rattle.std.proofs.lemmas.Bool.{le-leb, lt-ltb, lt-leb}
+use Rattle.std.proofs.lemmas.Bool.Decides.{Decides-eqb}
+use Rattle.verifier.specs.Programs.{VerifiedProgram}
+use Rattle.bpf_run.specs.JudgedWork.{Work}
+use Rattle.refusals.specs.declared.RefusalNumber.{RefusalNumber}
+use Rattle.book.specs.declared.breaker.Standing.{Standing}
+use Rattle.book.specs.declared.machine.Decision.{Decision}
+use Rattle.book.specs.declared.registry.OpenTicket.{OpenTicket}
+use Rattle.book.specs.declared.replies.Reply.{Reply}
+use Rattle.book.specs.declared.replies.Reply.TheVariants as reply
+use Rattle.book.specs.Events.{Happening, acquires, finishes, releases, installs, moves, resets, Line, Opening}
+use Rattle.book.specs.declared.windows.Note.{Note}
+use Rattle.book.specs.Following.{is_number, tickets_after, one_where_some, notes_after, refused_after}
+use Rattle.book.specs.Histories.{Stage, Past, issue_by, issue_at, end_by, end_at, issued, ended, open_of, install_by, install_at, programs_of, notes_of, situation_of, situation_after, machine, passed, greatest, Follows}
+use Rattle.book.specs.Machine.{Situation, used, is_open, is_issued, is_entered, is_entered_refusal, decision}
+use Rattle.book.specs.Safe.{IsAccepted, AreAccepted, InstallsAccepted}
+use Rattle.book.specs.Sound.{IsOpening, IsSound, next_ticket}
+use Rattle.book.proofs.Deciding.{Shape, refuses, permits, concludes, lets_go, takes_in, turns, decision_shape, decision_near, IsNear, OpenAreIssued}
+use Rattle.book.specs.Histories.{note_by}
+use Rattle.book.specs.Machine.{permissions_held}
+use Rattle.book.specs.Standings.{is_half_open}
+use Rattle.book.proofs.Configured.{ranges, within_least}
+use Rattle.book.proofs.Permissions.{permissions_after}
+use Rattle.book.proofs.Lists.{all_kept, all_kept_by, fewer_kept, map_with, all_append, all_weaken}
+use Rattle.book.proofs.Passing.{AreBefore, IsFresh, notes_step, open_step, issued_step, refused_step, greatest_step}
+
+end_refused : (event : Happening) (number : RefusalNumber) → end_by event (reply.Refused number) ≡ None
+end_refused acquires number = refl
+end_refused (finishes work ticket) number = refl
+end_refused (releases ticket) number = refl
+end_refused (installs program) number = refl
+end_refused (moves to) number = refl
+end_refused resets number = refl
+
+install_refused : (event : Happening) (number : RefusalNumber) → install_by event (reply.Refused number) ≡ None
+install_refused acquires number = refl
+install_refused (finishes work ticket) number = refl
+install_refused (releases ticket) number = refl
+install_refused (installs program) number = refl
+install_refused (moves to) number = refl
+install_refused resets number = refl
+
+end_moved : (event : Happening) (s : _) (period : ℕ) → end_by event (reply.Moved s period) ≡ None
+end_moved acquires s period = refl
+end_moved (finishes work ticket) s period = refl
+end_moved (releases ticket) s period = refl
+end_moved (installs program) s period = refl
+end_moved (moves to) s period = refl
+end_moved resets s period = refl
+
+install_moved : (event : Happening) (s : _) (period : ℕ) → install_by event (reply.Moved s period) ≡ None
+install_moved acquires s period = refl
+install_moved (finishes work ticket) s period = refl
+install_moved (releases ticket) s period = refl
+install_moved (installs program) s period = refl
+install_moved (moves to) s period = refl
+install_moved resets s period = refl
+
+-- what a line does to tickets and versions
+pub record IsMove (held : ℕ) (tickets : List OpenTicket) (next versions : ℕ) (event : Happening) (r : Reply) (period : ℕ) : Type 0 where
+  pub fresh : IsFresh next (end_by event r) (issue_by r period)
+  pub ended : (n : ℕ) → end_by event r ≡ Some n → is_open tickets n ≡ true
+  pub room : held + 1 + length (tickets_after tickets (end_by event r) (issue_by r period)) ≤ 65536
+  pub versions_held : versions + length (option_to_list (install_by event r)) ≤ 256
+  pub installed : (p : VerifiedProgram) → install_by event r ≡ Some p → event ≡ installs p
+
+untouched : (tickets : List OpenTicket) → length (tickets_after tickets None None) ≡ length tickets
+untouched tickets = ap length (append-nil (filter (λ (t : OpenTicket). not false) tickets)) ∙ ap length (all_kept tickets)
+
+one_more : (tickets : List OpenTicket) (t : OpenTicket) → length (tickets_after tickets None (Some t)) ≡ length tickets + 1
+one_more tickets t = ap (λ (ts : List OpenTicket). length (ts ++ t ∷ [])) (all_kept tickets) ∙ length-append tickets (t ∷ [])
+
+one_less : (tickets : List OpenTicket) (n : ℕ) → is_open tickets n ≡ true → length (tickets_after tickets (Some n) None) + 1 ≤ length tickets
+one_less tickets n e =
+    let same = ap length (append-nil (filter (λ (t : OpenTicket). not (t.number == n)) tickets)) in
+    omega (arith, same, fewer_kept (λ (t : OpenTicket). t.number == n) tickets e)
+
+none_fresh : (next : ℕ) (o : Option ℕ) → IsFresh next o None
+none_fresh next o = record { number = λ t e. let bad : ◌≡◌ {A = Option OpenTicket} None (Some t) = e in cc }
+
+no_number : (tickets : List OpenTicket) (n : ℕ) → ◌≡◌ {A = Option ℕ} None (Some n) → is_open tickets n ≡ true
+no_number tickets n e = cc
+
+no_program : (event : Happening) (p : VerifiedProgram) → ◌≡◌ {A = Option VerifiedProgram} None (Some p) → event ≡ installs p
+no_program event p e = cc
+
+-- a line that touches neither tickets nor versions
+still : (held : ℕ) (tickets : List OpenTicket) (next versions : ℕ) (event : Happening) (r : Reply) (period : ℕ)
+    → end_by event r ≡ None → issue_by r period ≡ None → install_by event r ≡ None → held + length tickets ≤ 65535 → versions ≤ 256
+    → IsMove held tickets next versions event r period
+still held tickets next versions event r period ends issues installs_ room few = record {
+  fresh = rw (ends, issues) (none_fresh next None);
+  ended = λ n e. no_number tickets n (sym ends ∙ e);
+  room = rw (ends, issues) (omega (arith, untouched tickets, room));
+  versions_held = rw installs_ (omega (arith, few));
+  installed = λ p e. no_program event p (sym installs_ ∙ e);
+}
+
+permit_move : (held : ℕ) (tickets : List OpenTicket) (next versions version : ℕ) (s : _) (period : ℕ)
+    → held + length tickets ≤ 65534 → versions ≤ 256 → IsMove held tickets next versions acquires (reply.Permitted next version s) period
+permit_move held tickets next versions version s period room few = record {
+  fresh = record { number = λ t e. (same_number next version period t e, refl) };
+  ended = λ n e. no_number tickets n e;
+  room = omega (arith, one_more tickets (record { number = next; version = version; period = period }), room);
+  versions_held = omega (arith, few);
+  installed = λ p e. no_program acquires p e;
+}
+  where
+    same_number : (next version period : ℕ) (t : OpenTicket) → ◌≡◌ {A = Option OpenTicket} (Some (record { number = next; version = version; period = period })) (Some t) → t.number ≡ next
+    same_number next version period t e = let same : ◌≡◌ {A = OpenTicket} (record { number = next; version = version; period = period }) t = cc in sym (ap (λ (u : OpenTicket). u.number) same)
+
+end_move : (held : ℕ) (tickets : List OpenTicket) (next versions : ℕ) (event : Happening) (r : Reply) (period : ℕ) (ticket : ℕ)
+    → end_by event r ≡ Some ticket → issue_by r period ≡ None → install_by event r ≡ None → is_open tickets ticket ≡ true → held + length tickets ≤ 65536 → versions ≤ 256
+    → IsMove held tickets next versions event r period
+end_move held tickets next versions event r period ticket ends issues installs_ there room few = record {
+  fresh = rw issues (none_fresh next (end_by event r));
+  ended = λ n e. let same : ◌≡◌ {A = Option ℕ} (Some ticket) (Some n) = sym ends ∙ e in let number : ticket ≡ n = cc in subst (λ (k : ℕ). is_open tickets k ≡ true) number there;
+  room = rw (ends, issues) (omega (arith, one_less tickets ticket there, room));
+  versions_held = rw installs_ (omega (arith, few));
+  installed = λ p e. no_program event p (sym installs_ ∙ e);
+}
+
+install_move : (held : ℕ) (tickets : List OpenTicket) (next versions : ℕ) (program : VerifiedProgram) (version budget period : ℕ)
+    → versions < 256 → held + length tickets ≤ 65535 → IsMove held tickets next versions (installs program) (reply.Installed version budget) period
+install_move held tickets next versions program version budget period few room = record {
+  fresh = none_fresh next None;
+  ended = λ n e. no_number tickets n e;
+  room = omega (arith, untouched tickets, room);
+  versions_held = omega (arith, few);
+  installed = λ p e. same_program_ p e;
+}
+  where
+    same_program_ : (p : VerifiedProgram) → ◌≡◌ {A = Option VerifiedProgram} (Some program) (Some p) → installs program ≡ installs p
+    same_program_ p e = let same : program ≡ p = cc in ap installs same
+
+pub move_of : (s : Situation) (event : Happening) (d : Decision)
+    → Shape s event d → is_entered d.reply ≡ true → used s ≤ 65536 → length s.programs ≤ 256
+    → IsMove s.held s.open_tickets s.next_ticket (length s.programs) event d.reply d.next.period
+move_of s event d (refuses number e room) entered most few =
+    rw e (still s.held s.open_tickets s.next_ticket (length s.programs) event (reply.Refused number) d.next.period (end_refused event number) refl (install_refused event number) (room (subst (λ (x : Reply). is_entered x ≡ true) e entered)) few)
+move_of s event d (permits version st e f room free given) entered most few =
+    rw (e, f) (permit_move s.held s.open_tickets s.next_ticket (length s.programs) version st d.next.period room few)
+move_of s event d (concludes work ticket fate v steps version st e f there present) entered most few =
+    rw (e, f) (end_move s.held s.open_tickets s.next_ticket (length s.programs) (finishes work ticket) (reply.Finished fate v steps version st) d.next.period ticket refl refl refl there most few)
+move_of s event d (lets_go ticket st e f there) entered most few =
+    rw (e, f) (end_move s.held s.open_tickets s.next_ticket (length s.programs) (releases ticket) (reply.Released st) d.next.period ticket refl refl refl there most few)
+move_of s event d (takes_in program version budget e f less room) entered most few =
+    rw (e, f) (install_move s.held s.open_tickets s.next_ticket (length s.programs) program version budget d.next.period less room)
+move_of s event d (turns st p e room) entered most few =
+    rw e (still s.held s.open_tickets s.next_ticket (length s.programs) event (reply.Moved st p) d.next.period (end_moved event st p) refl (install_moved event st p) room few)
+
+-- ---- one line more
+
+abbrev next_standing : Past → Line → Standing
+next_standing past line = (machine past line.moment line.event).next
+
+abbrev stage_of : Past → Line → Stage
+stage_of past line = record { line = line; before = past.standing; after = next_standing past line }
+
+pub in_range : (next n : ℕ) → (1 ≤ n) → (n < next) → (nat_le 1 n && nat_lt n next) ≡ true
+in_range next n a b = rw (le-leb 1 n a, lt-ltb n next b) refl
+
+issued_head : (next number : ℕ) (t : OpenTicket) (rest b : Bool) → (1 ≤ t.number) × (t.number < next) → (rest ≡ true → (1 ≤ number) × (number < next)) → (t.number == number) ≡ b → (b || rest) ≡ true → (1 ≤ number) × (number < next)
+issued_head next number t rest true h on same e = let is : t.number ≡ number = (Decides-eqb t.number number).0 same in (omega (arith, h.0, is), omega (arith, h.1, is))
+issued_head next number t rest false h on same e = on e
+
+all_issued : (next : ℕ) (tickets : List OpenTicket) (number : ℕ) → AllByRecursion (λ ticket. (1 ≤ ticket.number) × (ticket.number < next)) tickets → is_open tickets number ≡ true → (1 ≤ number) × (number < next)
+all_issued next [] number h e = let bad : ◌≡◌ {A = Bool} false true = e in cc
+all_issued next (t ∷ tickets) number h e = issued_head next number t (is_open tickets number) (t.number == number) h.0 (all_issued next tickets number h.1) refl e
+
+pub open_are_issued : (past : Past) → IsSound past → OpenAreIssued (situation_of past)
+open_are_issued past sound = λ number e.
+    let range = all_issued (next_ticket past) (open_of past.stages) number sound.open_issued e in
+    in_range (next_ticket past) number range.0 range.1
+
+pub shape_there : (past : Past) (line : Line) → IsSound past → Shape (situation_of past) line.event (machine past line.moment line.event)
+shape_there past line sound = decision_shape (situation_of past) line.moment line.event sound.opening.config (open_are_issued past sound)
+
+pub move_there : (past : Past) (line : Line) → IsSound past → Follows past line → IsMove (length past.stages) (open_of past.stages) (next_ticket past) (length (programs_of past)) line.event line.reply (next_standing past line).period
+move_there past line sound follows =
+    let entered = subst (λ (r : Reply). is_entered r ≡ true) follows.replied follows.entered in
+    let move = move_of (situation_of past) line.event (machine past line.moment line.event) (shape_there past line sound) entered sound.used sound.versions in
+    subst (λ (r : Reply). IsMove (length past.stages) (open_of past.stages) (next_ticket past) (length (programs_of past)) line.event r (next_standing past line).period) (sym follows.replied) move
+
+pub situated_step : (past : Past) (line : Line) → IsSound past → Follows past line → situation_of (passed past line) ≡ situation_after (situation_of past) line (next_standing past line)
+situated_step past line sound follows =
+    let near = decision_near (situation_of past) line.moment line.event in
+    let move = move_there past line sound follows in
+    let notes : notes_of (passed past line) ≡ notes_after past.standing (next_standing past line) (notes_of past) _ = notes_step past.opening.config past.stages (stage_of past line) sound.periods near.least in
+    let programs : programs_of (passed past line) ≡ programs_of past ++ option_to_list (install_by line.event line.reply) = ap (λ (ps : List VerifiedProgram). past.opening.program ∷ ps) (map_with install_at past.stages (stage_of past line)) in
+    let tickets : open_of (passed past line).stages ≡ tickets_after (open_of past.stages) (end_by line.event line.reply) (issue_by line.reply (next_standing past line).period) = open_step past.stages (stage_of past line) (next_ticket past) sound.ended move.fresh in
+    let next : next_ticket (passed past line) ≡ next_ticket past + one_where_some (issue_by line.reply (next_standing past line).period) = omega (arith, issued_step past.stages (stage_of past line)) in
+    let held : length (passed past line).stages ≡ length past.stages + 1 = length-append past.stages (stage_of past line ∷ []) in
+    cc
+
+abbrev Before : ℕ → Stage → Type 0
+Before period stage = (stage.before.period ≤ period) × (stage.after.period ≤ period)
+
+periods_step : (past : Past) (line : Line) → IsSound past → AreBefore (next_standing past line).period (past.stages ++ stage_of past line ∷ [])
+periods_step past line sound =
+    let near = decision_near (situation_of past) line.moment line.event in
+    let earlier = all_weaken (Before past.standing.period) (Before (next_standing past line).period) (λ (s : Stage) h. (omega (arith, h.0, near.least), omega (arith, h.1, near.least))) past.stages sound.periods in
+    all_append (Before (next_standing past line).period) past.stages (stage_of past line ∷ []) earlier ((near.least, omega arith), tt)
+
+ended_there : (next later : ℕ) (tickets : List OpenTicket) (o : Option ℕ) → next ≤ later → AllByRecursion (λ ticket. (1 ≤ ticket.number) × (ticket.number < next)) tickets
+    → ((n : ℕ) → o ≡ Some n → is_open tickets n ≡ true) → AllByRecursion (λ number. number < later) (option_to_list o)
+ended_there next later tickets None le issued_ there = tt
+ended_there next later tickets (Some n) le issued_ there = (omega (arith, le, (all_issued next tickets n issued_ (there n refl)).1), tt)
+
+ended_step : (past : Past) (line : Line) → IsSound past → Follows past line → next_ticket past ≤ next_ticket (passed past line) → AllByRecursion (λ number. number < next_ticket (passed past line)) (ended (passed past line).stages)
+ended_step past line sound follows le =
+    let move = move_there past line sound follows in
+    let later : ℕ = next_ticket (passed past line) in
+    let earlier = all_weaken (λ n. n < next_ticket past) (λ n. n < later) (λ (n : ℕ) h. omega (arith, h, le)) (ended past.stages) sound.ended in
+    let last = ended_there (next_ticket past) later (open_of past.stages) (end_by line.event line.reply) le sound.open_issued move.ended in
+    let all = all_append (λ n. n < later) (ended past.stages) (option_to_list (end_by line.event line.reply)) earlier last in
+    subst (λ (ns : List ℕ). AllByRecursion (λ number. number < later) ns) (sym (map_with end_at past.stages (stage_of past line))) all
+
+issued_there : (next later : ℕ) (o : Option OpenTicket) (e : Option ℕ) → 1 ≤ next → IsFresh next e o → next + one_where_some o ≡ later → AllByRecursion (λ ticket. (1 ≤ ticket.number) × (ticket.number < later)) (option_to_list o)
+issued_there next later None e first fresh le = tt
+issued_there next later (Some t) e first fresh le = let new = (fresh.number t refl).0 in ((omega (arith, new, first), omega (arith, new, le)), tt)
+
+open_issued_step : (past : Past) (line : Line) → IsSound past → Follows past line → next_ticket past + one_where_some (issue_by line.reply (next_standing past line).period) ≡ next_ticket (passed past line)
+    → AllByRecursion (λ ticket. (1 ≤ ticket.number) × (ticket.number < next_ticket (passed past line))) (open_of (passed past line).stages)
+open_issued_step past line sound follows next =
+    let move = move_there past line sound follows in
+    let later : ℕ = next_ticket (passed past line) in
+    let test : OpenTicket → Type 0 = λ ticket. (1 ≤ ticket.number) × (ticket.number < later) in
+    let earlier = all_weaken (λ ticket. (1 ≤ ticket.number) × (ticket.number < next_ticket past)) test (λ (t : OpenTicket) h. (h.0, omega (arith, h.1, next))) (open_of past.stages) sound.open_issued in
+    let kept = all_kept_by test (λ (t : OpenTicket). not (is_number (end_by line.event line.reply) t.number)) (open_of past.stages) earlier in
+    let last = issued_there (next_ticket past) later (issue_by line.reply (next_standing past line).period) (end_by line.event line.reply) (omega (arith, sound.opening.first_ticket)) move.fresh next in
+    let all = all_append test (filter (λ (t : OpenTicket). not (is_number (end_by line.event line.reply) t.number)) (open_of past.stages)) (option_to_list (issue_by line.reply (next_standing past line).period)) kept last in
+    subst (λ (ts : List OpenTicket). AllByRecursion test ts) (sym (open_step past.stages (stage_of past line) (next_ticket past) sound.ended move.fresh)) all
+
+-- ---- places
+
+places_after : (s : Situation) (event : Happening) (d : Decision) → Shape s event d → length s.open_tickets ≤ s.config.max_concurrent_calls
+    → length (tickets_after s.open_tickets (end_by event d.reply) (issue_by d.reply d.next.period)) ≤ s.config.max_concurrent_calls
+places_after s event d (refuses number e room) le = rw (e, end_refused event number) (omega (arith, untouched s.open_tickets, le))
+places_after s event d (permits version st e f room free given) le = rw (e, f) (omega (arith, one_more s.open_tickets (record { number = s.next_ticket; version = version; period = d.next.period }), free))
+places_after s event d (concludes work ticket fate v steps version st e f there present) le = rw (e, f) (omega (arith, one_less s.open_tickets ticket there, le))
+places_after s event d (lets_go ticket st e f there) le = rw (e, f) (omega (arith, one_less s.open_tickets ticket there, le))
+places_after s event d (takes_in program version budget e f less room) le = rw (e, f) (omega (arith, untouched s.open_tickets, le))
+places_after s event d (turns st p e room) le = rw (e, end_moved event st p) (omega (arith, untouched s.open_tickets, le))
+
+-- the tickets after a line, as the machine's reply has them
+tickets_there : (past : Past) (line : Line) → IsSound past → Follows past line
+    → open_of (passed past line).stages ≡ tickets_after (open_of past.stages) (end_by line.event (machine past line.moment line.event).reply) (issue_by (machine past line.moment line.event).reply (next_standing past line).period)
+tickets_there past line sound follows =
+    open_step past.stages (stage_of past line) (next_ticket past) sound.ended (move_there past line sound follows).fresh
+    ∙ ap (λ (r : Reply). tickets_after (open_of past.stages) (end_by line.event r) (issue_by r (next_standing past line).period)) follows.replied
+
+places_step : (past : Past) (line : Line) → IsSound past → Follows past line → length (open_of (passed past line).stages) ≤ past.opening.config.max_concurrent_calls
+places_step past line sound follows =
+    omega (arith, ap length (tickets_there past line sound follows), places_after (situation_of past) line.event (machine past line.moment line.event) (shape_there past line sound) sound.places)
+
+issued_period : (r : Reply) (period : ℕ) → AllByRecursion (λ ticket. ticket.period ≤ period) (option_to_list (issue_by r period))
+issued_period (reply.Permitted ticket version s) period = (omega arith, tt)
+issued_period (reply.Refused number) period = tt
+issued_period (reply.Finished f v steps version s) period = tt
+issued_period (reply.Released s) period = tt
+issued_period (reply.Installed version budget) period = tt
+issued_period (reply.Moved s p) period = tt
+
+ticket_periods_step : (past : Past) (line : Line) → IsSound past → Follows past line → AllByRecursion (λ ticket. ticket.period ≤ (next_standing past line).period) (open_of (passed past line).stages)
+ticket_periods_step past line sound follows =
+    let near = decision_near (situation_of past) line.moment line.event in
+    let r : Reply = (machine past line.moment line.event).reply in
+    let test : OpenTicket → Type 0 = λ ticket. ticket.period ≤ (next_standing past line).period in
+    let earlier = all_weaken (λ ticket. ticket.period ≤ past.standing.period) test (λ (t : OpenTicket) h. omega (arith, h, near.least)) (open_of past.stages) sound.ticket_periods in
+    let kept = all_kept_by test (λ (t : OpenTicket). not (is_number (end_by line.event r) t.number)) (open_of past.stages) earlier in
+    let all = all_append test (filter (λ (t : OpenTicket). not (is_number (end_by line.event r) t.number)) (open_of past.stages)) (option_to_list (issue_by r (next_standing past line).period)) kept (issued_period r (next_standing past line).period) in
+    subst (λ (ts : List OpenTicket). AllByRecursion test ts) (sym (tickets_there past line sound follows)) all
+
+some_permitted : (past : Past) → IsSound past → 1 ≤ past.opening.config.permitted_number_of_calls_in_half_open_state
+some_permitted past sound = within_least 1 10000 past.opening.config.permitted_number_of_calls_in_half_open_state (ranges past.opening.config sound.opening.config).permitted
+
+permissions_step : (past : Past) (line : Line) → IsSound past → Follows past line → is_half_open (next_standing past line).state ≡ true
+    → permissions_held (next_standing past line).period (open_of (passed past line).stages) + length (notes_of (passed past line)) ≤ past.opening.config.permitted_number_of_calls_in_half_open_state
+permissions_step past line sound follows half =
+    let d : Decision = machine past line.moment line.event in
+    let near = decision_near (situation_of past) line.moment line.event in
+    let notes : notes_of (passed past line) ≡ notes_after past.standing d.next (notes_of past) (note_by past.opening.config line.moment line.event d.reply) =
+        notes_step past.opening.config past.stages (stage_of past line) sound.periods near.least
+        ∙ ap (λ (r : Reply). notes_after past.standing d.next (notes_of past) (note_by past.opening.config line.moment line.event r)) follows.replied in
+    let after = permissions_after (situation_of past) line.event d line.moment (shape_there past line sound) near sound.ticket_periods (some_permitted past sound) sound.permissions half in
+    omega (arith, after, ap length notes, ap (permissions_held d.next.period) (tickets_there past line sound follows))
+
+one_at_most : {A : Type 0} (o : Option A) → one_where_some o ≤ 1
+one_at_most None = omega arith
+one_at_most (Some x) = omega arith
+
+accepted_there : (event : Happening) (o : Option VerifiedProgram) → ((p : VerifiedProgram) → o ≡ Some p → event ≡ installs p) → InstallsAccepted event → AreAccepted (option_to_list o)
+accepted_there event None from safe = tt
+accepted_there event (Some p) from safe = (safe p (from p refl), tt)
+
+pub sound_step : (past : Past) (line : Line) → IsSound past → Follows past line → InstallsAccepted line.event → line.moment < 2 ^ 64 → IsSound (passed past line)
+sound_step past line sound follows safe word =
+    let near = decision_near (situation_of past) line.moment line.event in
+    let move = move_there past line sound follows in
+    let held : length (passed past line).stages ≡ length past.stages + 1 = length-append past.stages (stage_of past line ∷ []) in
+    let count = issued_step past.stages (stage_of past line) in
+    let next : next_ticket past + one_where_some (issue_by line.reply (next_standing past line).period) ≡ next_ticket (passed past line) = omega (arith, count) in
+    let tickets = open_step past.stages (stage_of past line) (next_ticket past) sound.ended move.fresh in
+    let programs : programs_of (passed past line) ≡ programs_of past ++ option_to_list (install_by line.event line.reply) = ap (λ (ps : List VerifiedProgram). past.opening.program ∷ ps) (map_with install_at past.stages (stage_of past line)) in
+    record {
+      opening = sound.opening;
+      periods = periods_step past line sound;
+      period = omega (arith, held, near.most, sound.period);
+      ended = ended_step past line sound follows (omega (arith, next));
+      open_issued = open_issued_step past line sound follows next;
+      issued = omega (arith, held, count, sound.issued, one_at_most (issue_by line.reply (next_standing past line).period));
+      ticket_periods = ticket_periods_step past line sound follows;
+      places = places_step past line sound follows;
+      permissions = permissions_step past line sound follows;
+      used = omega (arith, held, ap length tickets, move.room);
+      versions = omega (arith, ap length programs, length-append (programs_of past) (option_to_list (install_by line.event line.reply)), move.versions_held);
+      accepted = subst (λ (ps : List VerifiedProgram). AreAccepted ps) (sym programs) (all_append IsAccepted (programs_of past) (option_to_list (install_by line.event line.reply)) sound.accepted (accepted_there line.event (install_by line.event line.reply) move.installed safe));
+      moment = rw (greatest_step past.opening.moment past.stages (stage_of past line) follows.raises) word;
+    }

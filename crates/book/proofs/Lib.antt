@@ -1,0 +1,12 @@
+pub mod Lists
+pub mod Sliding
+pub mod Judging
+pub mod Configured
+pub mod Deciding
+pub mod Passing
+pub mod Permissions
+pub mod Keeping
+pub mod Applying
+pub mod Openings
+pub mod Worlds
+pub mod Lawful

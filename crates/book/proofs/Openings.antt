@@ -1,0 +1,93 @@
+-- A book that has just been opened, and what any book shows.
+use Rattle.std.proofs.Common.{◌≡◌, ℕ, zero, suc, ◌+◌, ◌-◌, ◌*◌, ◌^◌, ◌≤◌, ◌<◌, ◌⊎◌, inl, inr, List, [], ◌∷◌, ◌++◌, map, length, Option, Some, None, Result, Ok, Err, arith, refl, ap, sym, ◌∙◌, subst}
+use Rattle.std.specs.Arc.{arc_value}
+use Rattle.book.specs.Safe.{IsAccepted}
+use Rattle.refusals.specs.declared.RefusalNumber.{RefusalNumber}
+use Rattle.refusals.specs.declared.RefusalNumber.TheVariants as refusal
+use Rattle.verifier.specs.Analysis.{context_size}
+use Rattle.verifier.specs.Programs.{VerifiedProgram}
+use Rattle.book.specs.declared.breaker.Breaker.{Breaker}
+use Rattle.book.specs.declared.configuration.ConfigParts.{ConfigParts}
+use Rattle.book.specs.declared.registry.Registry.{Registry}
+use Rattle.book.specs.declared.states.State.TheVariants as state
+use Rattle.book.specs.Answers.{IsLooked, looks, no_owner, looked, looked_under}
+use Rattle.book.specs.Books.{history_of, first_opening, IsBook}
+use Rattle.book.specs.Configuration.{bad_field}
+use Rattle.book.specs.Events.{Line, Opening, History}
+use Rattle.book.specs.Histories.{Past, opened, past_of, situation_of, next_line, refused_of, greatest, IsLegal}
+use Rattle.book.specs.declared.registry.OpenTicket.{OpenTicket}
+use Rattle.std.proofs.lemmas.Bool.{le-leb, lt-ltb}
+use Rattle.book.specs.Machine.{Situation, open_ticket}
+use Rattle.book.specs.Situations.{situation}
+use Rattle.book.specs.Sound.{IsOpening, IsSound}
+use Rattle.book.proofs.Applying.{same_opening, stage_count}
+
+pub sound_opened : (opening : Opening) → IsOpening opening → IsSound (opened opening)
+sound_opened opening good = record {
+  opening = good;
+  periods = tt;
+  period = omega arith;
+  ended = tt;
+  open_issued = tt;
+  issued = omega arith;
+  ticket_periods = tt;
+  places = omega arith;
+  permissions = λ h. omega arith;
+  used = omega arith;
+  versions = omega arith;
+  accepted = (good.accepted, tt);
+  moment = good.moment;
+}
+
+pub is_first : (config : ConfigParts) (program : VerifiedProgram) → bad_field config ≡ None → IsAccepted program → IsOpening (first_opening config program)
+is_first config program good accepted_ = record {
+  config = good;
+  accepted = accepted_;
+  version = omega arith;
+  period = omega arith;
+  ticket = omega arith;
+  first_ticket = omega arith;
+  line = omega arith;
+  first_line = omega arith;
+  moment = omega arith;
+}
+
+pub legal_opened : (opening : Opening) → IsLegal (history_of opening [])
+unfolding IsLegal
+legal_opened opening = tt
+
+pub first_book : (opening : Opening) (s : Situation) (refused : ℕ) → IsOpening opening → s ≡ situation_of (opened opening) → refused ≡ 0 → IsBook opening s refused opening.moment []
+first_book opening s refused good situated_ none = record {
+  legal = legal_opened opening;
+  sound = sound_opened opening good;
+  situated = situated_;
+  refused_calls = none;
+  greatest_moment = refl;
+}
+
+pub first_situation : (config : ConfigParts) (breaker : Breaker) (registry : Registry) (program : VerifiedProgram)
+    → breaker.standing ≡ record { state = state.Closed; period = 1; since = 0 } → breaker.notes.items ≡ []
+    → registry.first_version ≡ 1 → map arc_value registry.programs.items ≡ program ∷ [] → registry.open_tickets.items ≡ [] → registry.next_ticket ≡ 1
+    → situation config breaker registry 0 ≡ situation_of (opened (first_opening config program))
+first_situation config breaker registry program standing notes first programs tickets next = rw (standing, notes, first, programs, tickets, next) refl
+
+-- ---- what a book shows
+
+pub line_least : (opening : Opening) (s : Situation) (refused moment : ℕ) (lines : List Line) → IsBook opening s refused moment lines → 1 ≤ opening.line
+line_least opening s refused moment lines book = omega (arith, book.sound.opening.first_line, ap (λ (o : Opening). o.line) (same_opening opening lines))
+
+pub next_line_is : (opening : Opening) (lines : List Line) → opening.line + length lines ≡ next_line (past_of (history_of opening lines))
+next_line_is opening lines = omega (arith, stage_count opening lines, ap (λ (o : Opening). o.line) (same_opening opening lines))
+
+pub looked_there : (opening : Opening) (s : Situation) (refused moment : ℕ) (lines : List Line) (ticket : ℕ) (program : VerifiedProgram) (r : Result VerifiedProgram RefusalNumber)
+    → IsBook opening s refused moment lines → looked s ticket ≡ Ok program → (r ≡ Ok program) ⊎ (r ≡ Err refusal.ServiceOutOfMemory) → IsLooked (history_of opening lines) ticket r
+looked_there opening s refused moment lines ticket program r book found (inl e) = looks (e ∙ sym found ∙ ap (λ (t : Situation). looked t ticket) book.situated)
+looked_there opening s refused moment lines ticket program r book found (inr e) = no_owner program e (ap (λ (t : Situation). looked t ticket) (sym book.situated) ∙ found)
+
+pub refused_there : (opening : Opening) (s : Situation) (refused moment : ℕ) (lines : List Line) (ticket : ℕ) (number : RefusalNumber)
+    → IsBook opening s refused moment lines → looked s ticket ≡ Err number → IsLooked (history_of opening lines) ticket (Err number)
+refused_there opening s refused moment lines ticket number book lost = looks (sym lost ∙ ap (λ (t : Situation). looked t ticket) book.situated)
+
+-- a look under an open ticket
+pub looked_open : (s : Situation) (ticket : ℕ) (t : OpenTicket) → 1 ≤ ticket → ticket < s.next_ticket → open_ticket s.open_tickets ticket ≡ Some t → looked s ticket ≡ looked_under s (Some t)
+looked_open s ticket t least less found = rw (le-leb 1 ticket least, lt-ltb ticket s.next_ticket less, found) refl

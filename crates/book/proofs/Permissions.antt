@@ -1,0 +1,189 @@
+-- In HALF_OPEN the permissions that are held and the notes are never more than the permitted number.
+use Rattle.std.proofs.Common.{◌≡◌, ℕ, zero, suc, ◌+◌, ◌≤◌, ◌<◌, ◌==◌, ◌&&◌, ◌||◌, not, Bool, true, false, cond, if◌then◌else◌, List, [], ◌∷◌, ◌++◌, length, Option, Some, None, option_to_list, arith, refl, ap, sym, ◌∙◌, subst, length-append, append-nil}
+use Rattle.std.specs.List.{filter, AllByRecursion}
+use Rattle.std.proofs.lemmas.Bool.Decides.{Decides-eqb}
+use Rattle.std.proofs.lemmas.List.Elements.{filter-append}
+use Rattle.bpf_profile.specs.declared.machine.Verdict.{Verdict}
+use Rattle.bpf_run.specs.JudgedWork.{Work}
+use Rattle.refusals.specs.declared.RefusalNumber.{RefusalNumber}
+use Rattle.book.specs.declared.breaker.Standing.{Standing}
+use Rattle.book.specs.declared.configuration.ConfigParts.{ConfigParts}
+use Rattle.book.specs.declared.machine.Decision.{Decision}
+use Rattle.book.specs.declared.registry.OpenTicket.{OpenTicket}
+use Rattle.book.specs.declared.replies.Fate.{Fate}
+use Rattle.book.specs.declared.replies.Fate.TheVariants as fate
+use Rattle.book.specs.declared.replies.Reply.{Reply}
+use Rattle.book.specs.declared.replies.Reply.TheVariants as reply
+use Rattle.book.specs.declared.states.State.{State}
+use Rattle.book.specs.declared.windows.Note.{Note}
+use Rattle.book.specs.Events.{Happening, acquires, finishes, releases, installs, moves, resets}
+use Rattle.book.specs.Following.{notes_after, is_number, tickets_after}
+use Rattle.book.specs.Histories.{note_by, issue_by, end_by}
+use Rattle.book.specs.Machine.{Situation, permissions_held, open_ticket, is_open}
+use Rattle.book.specs.Standings.{is_half_open}
+use Rattle.book.proofs.Deciding.{Shape, refuses, permits, concludes, lets_go, takes_in, turns, IsNear, IsPresent}
+use Rattle.book.proofs.Lists.{length_filter_le, all_kept, all_kept_by, none_kept}
+use Rattle.book.proofs.Passing.{eqb_false, strictly}
+
+-- ---- counting the tickets of a period
+
+held_append : (period : ℕ) (xs ys : List OpenTicket) → permissions_held period (xs ++ ys) ≡ permissions_held period xs + permissions_held period ys
+held_append period xs ys =
+    ap length (filter-append (λ (t : OpenTicket). t.period == period) xs ys)
+    ∙ length-append (filter (λ (t : OpenTicket). t.period == period) xs) (filter (λ (t : OpenTicket). t.period == period) ys)
+
+held_one : (period : ℕ) (t : OpenTicket) → permissions_held period (t ∷ []) ≤ 1
+held_one period t = length_filter_le (λ (u : OpenTicket). u.period == period) (t ∷ [])
+
+kept_count : (a b : Bool) (xs ys : List OpenTicket) (t : OpenTicket) (test : OpenTicket → Bool) → test t ≡ a → length (filter test xs) ≤ length (filter test ys) → length (filter test (cond b (t ∷ xs) xs)) ≤ length (filter test (t ∷ ys))
+kept_count true true xs ys t test e le = rw e (omega (arith, le))
+kept_count true false xs ys t test e le = rw e (omega (arith, le))
+kept_count false true xs ys t test e le = rw e le
+kept_count false false xs ys t test e le = rw e le
+
+-- dropping tickets holds no more
+held_kept : (period : ℕ) (keep : OpenTicket → Bool) (xs : List OpenTicket) → permissions_held period (filter keep xs) ≤ permissions_held period xs
+held_kept period keep [] = omega arith
+held_kept period keep (t ∷ xs) = kept_count (t.period == period) (keep t) (filter keep xs) xs t (λ (u : OpenTicket). u.period == period) refl (held_kept period keep xs)
+
+dropped_count : (a b : Bool) (xs ys : List OpenTicket) (t u : OpenTicket) (later : Option OpenTicket) (test : OpenTicket → Bool) → test t ≡ a → test u ≡ true
+    → length (filter test xs) ≤ length (filter test ys) → (later ≡ Some u → length (filter test xs) + 1 ≤ length (filter test ys)) → (if b then Some t else later) ≡ Some u
+    → length (filter test (cond (not b) (t ∷ xs) xs)) + 1 ≤ length (filter test (t ∷ ys))
+dropped_count true true xs ys t u later test e f le on same = rw e (omega (arith, le))
+dropped_count false true xs ys t u later test e f le on same =
+    let is : ◌≡◌ {A = Option OpenTicket} (Some t) (Some u) = same in
+    let is_u : t ≡ u = cc in
+    let bad : ◌≡◌ {A = Bool} false true = sym e ∙ ap test is_u ∙ f in cc
+dropped_count true false xs ys t u later test e f le on same = rw e (omega (arith, on same))
+dropped_count false false xs ys t u later test e f le on same = rw e (on same)
+
+-- dropping a ticket of the period holds one less
+held_dropped : (period number : ℕ) (xs : List OpenTicket) (t : OpenTicket) → open_ticket xs number ≡ Some t → t.period ≡ period
+    → permissions_held period (filter (λ (u : OpenTicket). not (u.number == number)) xs) + 1 ≤ permissions_held period xs
+held_dropped period number [] t e f = let bad : ◌≡◌ {A = Option OpenTicket} None (Some t) = e in cc
+held_dropped period number (x ∷ xs) t e f =
+    dropped_count (x.period == period) (x.number == number) (filter (λ (u : OpenTicket). not (u.number == number)) xs) xs x t (open_ticket xs number) (λ (u : OpenTicket). u.period == period) refl
+        ((Decides-eqb t.period period).1 f) (held_kept period (λ (u : OpenTicket). not (u.number == number)) xs) (λ g. held_dropped period number xs t g f) e
+
+held_after_none : (period : ℕ) (tickets : List OpenTicket) → permissions_held period (tickets_after tickets None None) ≡ permissions_held period tickets
+held_after_none period tickets = ap (permissions_held period) (append-nil (filter (λ (t : OpenTicket). not false) tickets) ∙ all_kept tickets)
+
+held_after_issue : (period : ℕ) (tickets : List OpenTicket) (t : OpenTicket) → permissions_held period (tickets_after tickets None (Some t)) ≤ permissions_held period tickets + 1
+held_after_issue period tickets t =
+    let split = held_append period (filter (λ (u : OpenTicket). not false) tickets) (t ∷ []) in
+    let all = ap (permissions_held period) (all_kept tickets) in
+    omega (arith, split, all, held_one period t)
+
+held_after_end : (period : ℕ) (tickets : List OpenTicket) (n : ℕ) → permissions_held period (tickets_after tickets (Some n) None) ≡ permissions_held period (filter (λ (t : OpenTicket). not (t.number == n)) tickets)
+held_after_end period tickets n = ap (permissions_held period) (append-nil (filter (λ (t : OpenTicket). not (t.number == n)) tickets))
+
+-- ---- which replies make no note
+
+note_refused : (config : ConfigParts) (moment : ℕ) (event : Happening) (number : RefusalNumber) → note_by config moment event (reply.Refused number) ≡ None
+note_refused config moment acquires number = refl
+note_refused config moment (finishes work ticket) number = refl
+note_refused config moment (releases ticket) number = refl
+note_refused config moment (installs program) number = refl
+note_refused config moment (moves to) number = refl
+note_refused config moment resets number = refl
+
+note_moved : (config : ConfigParts) (moment : ℕ) (event : Happening) (s : State) (period : ℕ) → note_by config moment event (reply.Moved s period) ≡ None
+note_moved config moment acquires s period = refl
+note_moved config moment (finishes work ticket) s period = refl
+note_moved config moment (releases ticket) s period = refl
+note_moved config moment (installs program) s period = refl
+note_moved config moment (moves to) s period = refl
+note_moved config moment resets s period = refl
+
+end_none : (event : Happening) (number : RefusalNumber) → end_by event (reply.Refused number) ≡ None
+end_none acquires number = refl
+end_none (finishes work ticket) number = refl
+end_none (releases ticket) number = refl
+end_none (installs program) number = refl
+end_none (moves to) number = refl
+end_none resets number = refl
+
+end_none_moved : (event : Happening) (s : State) (period : ℕ) → end_by event (reply.Moved s period) ≡ None
+end_none_moved acquires s period = refl
+end_none_moved (finishes work ticket) s period = refl
+end_none_moved (releases ticket) s period = refl
+end_none_moved (installs program) s period = refl
+end_none_moved (moves to) s period = refl
+end_none_moved resets s period = refl
+
+-- ---- a line in the same period
+
+abbrev Left : Situation → Happening → Reply → ℕ → ℕ → ℕ
+Left s event r period moment = permissions_held s.standing.period (tickets_after s.open_tickets (end_by event r) (issue_by r period)) + length (s.notes ++ option_to_list (note_by s.config moment event r))
+
+no_more_notes : (notes : List Note) → length (notes ++ []) ≡ length notes
+no_more_notes notes = ap length (append-nil notes)
+
+concluded_left : (s : Situation) (work : Work) (ticket : ℕ) (f : Fate) (v : Verdict) (steps version : ℕ) (st : State) (period moment limit : ℕ)
+    → IsPresent s ticket f v
+    → permissions_held s.standing.period s.open_tickets + length s.notes ≤ limit
+    → Left s (finishes work ticket) (reply.Finished f v steps version st) period moment ≤ limit
+concluded_left s work ticket fate.Recorded v steps version st period moment limit present le =
+    let t = present refl in
+    omega (arith, le, held_after_end s.standing.period s.open_tickets ticket, held_dropped s.standing.period ticket s.open_tickets t.0 t.1 t.2, length-append s.notes (option_to_list (note_by s.config moment (finishes work ticket) (reply.Finished fate.Recorded v steps version st))))
+concluded_left s work ticket fate.Ignored v steps version st period moment limit present le =
+    omega (arith, le, held_after_end s.standing.period s.open_tickets ticket, held_kept s.standing.period (λ (t : OpenTicket). not (t.number == ticket)) s.open_tickets, no_more_notes s.notes)
+concluded_left s work ticket fate.Off v steps version st period moment limit present le =
+    omega (arith, le, held_after_end s.standing.period s.open_tickets ticket, held_kept s.standing.period (λ (t : OpenTicket). not (t.number == ticket)) s.open_tickets, no_more_notes s.notes)
+concluded_left s work ticket fate.Stale v steps version st period moment limit present le =
+    omega (arith, le, held_after_end s.standing.period s.open_tickets ticket, held_kept s.standing.period (λ (t : OpenTicket). not (t.number == ticket)) s.open_tickets, no_more_notes s.notes)
+
+left_there : (s : Situation) (event : Happening) (d : Decision) (moment : ℕ) → Shape s event d → d.next ≡ s.standing → is_half_open d.next.state ≡ true
+    → permissions_held s.standing.period s.open_tickets + length s.notes ≤ s.config.permitted_number_of_calls_in_half_open_state
+    → Left s event d.reply d.next.period moment ≤ s.config.permitted_number_of_calls_in_half_open_state
+left_there s event d moment (refuses number e room) same half le =
+    rw (e, end_none event number, note_refused s.config moment event number) (omega (arith, le, held_after_none s.standing.period s.open_tickets, no_more_notes s.notes))
+left_there s event d moment (permits version st e f room free given) same half le =
+    let less = given half (ap (λ (x : Standing). x.period) same) in
+    rw (e, f) (omega (arith, less, held_after_issue s.standing.period s.open_tickets (record { number = s.next_ticket; version = version; period = d.next.period }), no_more_notes s.notes))
+left_there s event d moment (concludes work ticket f v steps version st e r there present) same half le =
+    rw (e, r) (concluded_left s work ticket f v steps version st d.next.period moment s.config.permitted_number_of_calls_in_half_open_state present le)
+left_there s event d moment (lets_go ticket st e r there) same half le =
+    rw (e, r) (omega (arith, le, held_after_end s.standing.period s.open_tickets ticket, held_kept s.standing.period (λ (t : OpenTicket). not (t.number == ticket)) s.open_tickets, no_more_notes s.notes))
+left_there s event d moment (takes_in program version budget e r less room) same half le =
+    rw (e, r) (omega (arith, le, held_after_none s.standing.period s.open_tickets, no_more_notes s.notes))
+left_there s event d moment (turns st p e room) same half le =
+    rw (e, end_none_moved event st p, note_moved s.config moment event st p) (omega (arith, le, held_after_none s.standing.period s.open_tickets, no_more_notes s.notes))
+
+-- ---- a line that begins a period
+
+held_option : (period : ℕ) (o : Option OpenTicket) → permissions_held period (option_to_list o) ≤ 1
+held_option period None = omega arith
+held_option period (Some t) = held_one period t
+
+held_later : (period later : ℕ) (tickets : List OpenTicket) (e : Option ℕ) (o : Option OpenTicket) → AllByRecursion (λ ticket. ticket.period ≤ period) tickets → period < later
+    → permissions_held later (tickets_after tickets e o) ≤ 1
+held_later period later tickets e o all less =
+    let kept : List OpenTicket = filter (λ (t : OpenTicket). not (is_number e t.number)) tickets in
+    let none = none_kept (λ (t : OpenTicket). t.period == later) (λ (t : OpenTicket). t.period ≤ period) (λ t h. eqb_false t.period later (omega (arith, h, less))) kept
+        (all_kept_by (λ (t : OpenTicket). t.period ≤ period) (λ (t : OpenTicket). not (is_number e t.number)) tickets all) in
+    omega (arith, held_append later kept (option_to_list o), ap length none, held_option later o)
+
+by_period : (s : Situation) (event : Happening) (d : Decision) (moment : ℕ) (test : Bool) → (d.next.period == s.standing.period) ≡ test → Shape s event d → IsNear s.standing d.next 2
+    → AllByRecursion (λ ticket. ticket.period ≤ s.standing.period) s.open_tickets → 1 ≤ s.config.permitted_number_of_calls_in_half_open_state
+    → (is_half_open s.standing.state ≡ true → permissions_held s.standing.period s.open_tickets + length s.notes ≤ s.config.permitted_number_of_calls_in_half_open_state)
+    → is_half_open d.next.state ≡ true
+    → permissions_held d.next.period (tickets_after s.open_tickets (end_by event d.reply) (issue_by d.reply d.next.period))
+        + length (if test then s.notes ++ option_to_list (note_by s.config moment event d.reply) else []) ≤ s.config.permitted_number_of_calls_in_half_open_state
+by_period s event d moment true e shape near all some old half =
+    let period : d.next.period ≡ s.standing.period = (Decides-eqb _ _).0 e in
+    let same = near.same period in
+    let before = old (ap (λ (x : Standing). is_half_open x.state) (sym same) ∙ half) in
+    subst (λ (q : ℕ). permissions_held q (tickets_after s.open_tickets (end_by event d.reply) (issue_by d.reply d.next.period)) + length (s.notes ++ option_to_list (note_by s.config moment event d.reply)) ≤ s.config.permitted_number_of_calls_in_half_open_state)
+        (sym period) (left_there s event d moment shape same half before)
+by_period s event d moment false e shape near all some old half =
+    let later = strictly s.standing.period d.next.period near.least e in
+    omega (arith, some, held_later s.standing.period d.next.period s.open_tickets (end_by event d.reply) (issue_by d.reply d.next.period) all later)
+
+pub permissions_after : (s : Situation) (event : Happening) (d : Decision) (moment : ℕ) → Shape s event d → IsNear s.standing d.next 2
+    → AllByRecursion (λ ticket. ticket.period ≤ s.standing.period) s.open_tickets → 1 ≤ s.config.permitted_number_of_calls_in_half_open_state
+    → (is_half_open s.standing.state ≡ true → permissions_held s.standing.period s.open_tickets + length s.notes ≤ s.config.permitted_number_of_calls_in_half_open_state)
+    → is_half_open d.next.state ≡ true
+    → permissions_held d.next.period (tickets_after s.open_tickets (end_by event d.reply) (issue_by d.reply d.next.period))
+        + length (notes_after s.standing d.next s.notes (note_by s.config moment event d.reply)) ≤ s.config.permitted_number_of_calls_in_half_open_state
+permissions_after s event d moment shape near all some old half = by_period s event d moment (d.next.period == s.standing.period) refl shape near all some old half

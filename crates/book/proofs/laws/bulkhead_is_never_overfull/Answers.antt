@@ -1,0 +1,5 @@
+use Rattle.book.proofs.Lawful.{places_kept}
+use Rattle.book.proofs.laws.bulkhead_is_never_overfull.Goals as goal
+
+pub returns : goal.returns
+returns c = places_kept

@@ -1,0 +1,9 @@
+use Rattle.std.proofs.Common.{arith, ap}
+use Rattle.book.specs.Events.{Opening}
+use Rattle.book.proofs.Applying.{same_opening}
+use Rattle.book.proofs.Lawful.{service_sound}
+use Rattle.book.proofs.laws.half_open_is_never_overfull.Goals as goal
+
+pub returns : goal.returns
+returns c = λ history service half.
+    omega (arith, (service_sound history service).permissions half, ap (λ (o : Opening). o.config.permitted_number_of_calls_in_half_open_state) (same_opening history.opening history.lines))

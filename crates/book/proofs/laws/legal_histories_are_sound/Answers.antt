@@ -1,0 +1,5 @@
+use Rattle.book.proofs.Lawful.{service_sound}
+use Rattle.book.proofs.laws.legal_histories_are_sound.Goals as goal
+
+pub returns : goal.returns
+returns c = service_sound

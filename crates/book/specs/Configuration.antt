@@ -1,0 +1,46 @@
+-- The configuration of a service (the configuration properties of CircuitBreaker and Bulkhead in the Resilience4j documentation), with the ranges that this product takes.
+use Rattle.std.specs.Prelude.{ℕ, ◌^◌, nat_le, ◌==◌, ◌&&◌, Bool, true, false, if◌then◌else◌, Option, Some, None, Result, Ok, Err}
+use Rattle.refusals.specs.declared.RefusalNumber.TheVariants as refusal
+use Rattle.book.specs.declared.configuration.BadConfig.{BadConfig}
+use Rattle.book.specs.declared.configuration.ConfigField.{ConfigField}
+use Rattle.book.specs.declared.configuration.ConfigField.TheVariants as field
+use Rattle.book.specs.declared.configuration.ConfigParts.{ConfigParts}
+use Rattle.book.specs.declared.configuration.SlidingWindowType.{SlidingWindowType}
+use Rattle.book.specs.declared.configuration.SlidingWindowType.TheVariants as window
+
+abbrev pub is_within : ℕ → ℕ → ℕ → Bool
+is_within least most number = nat_le least number && nat_le number most
+
+abbrev pub is_count_based : SlidingWindowType → Bool
+is_count_based window.CountBased = true
+is_count_based window.TimeBased = false
+
+-- the field where its value is out of range, else a later field that is
+abbrev pub checked : Bool → ConfigField → Option ConfigField → Option ConfigField
+checked good field later = if good then later else Some field
+
+abbrev pub bad_limit : ConfigParts → Option ConfigField
+bad_limit parts =
+    checked (is_within 1 10000 parts.sliding_window_size) field.SlidingWindowSize
+    (checked (is_within 1 1000000 parts.minimum_number_of_calls) field.MinimumNumberOfCalls
+    (checked (is_within 1 (2 ^ 40) parts.wait_duration_in_open_state) field.WaitDurationInOpenState
+    (checked (is_within 1 10000 parts.max_concurrent_calls) field.MaxConcurrentCalls
+    (checked (parts.max_wait_duration == 0) field.MaxWaitDuration None))))
+
+-- the first field whose value is out of range; time windows and a longest stay in HALF_OPEN are defined below, and not yet taken
+abbrev pub bad_field : ConfigParts → Option ConfigField
+bad_field parts =
+    checked (is_within 1 100 parts.failure_rate_threshold) field.FailureRateThreshold
+    (checked (is_within 1 100 parts.slow_call_rate_threshold) field.SlowCallRateThreshold
+    (checked (is_within 1 (2 ^ 32) parts.slow_call_duration_threshold) field.SlowCallDurationThreshold
+    (checked (is_within 1 10000 parts.permitted_number_of_calls_in_half_open_state) field.PermittedNumberOfCallsInHalfOpenState
+    (checked (parts.max_wait_duration_in_half_open_state == 0) field.MaxWaitDurationInHalfOpenState
+    (checked (is_count_based parts.sliding_window_type) field.SlidingWindowType
+    (bad_limit parts))))))
+
+abbrev pub configured_by : ConfigParts → Option ConfigField → Result ConfigParts BadConfig
+configured_by parts None = Ok parts
+configured_by parts (Some bad) = Err (record { field = bad; number = refusal.BadConfig })
+
+abbrev pub configured : ConfigParts → Result ConfigParts BadConfig
+configured parts = configured_by parts (bad_field parts)

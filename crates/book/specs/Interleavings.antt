@@ -1,0 +1,195 @@
+-- Any list of atomic steps of workers and operators on a service. The world is one history, and what each actor holds.
+use Rattle.std.specs.Prelude.{◌≡◌, ℕ, ◌^◌, ◌<◌, ◌==◌, Bool, true, false, if◌then◌else◌, List, [], ◌∷◌, ◌++◌, slice_get, Option, Some, None, Result, Ok, Err}
+use Rattle.std.specs.List.{AllByRecursion}
+use Rattle.bpf_profile.specs.Outcomes.{Outcome, IsOutcome}
+use Rattle.bpf_run.specs.JudgedWork.{Work, IsTied}
+use Rattle.refusals.specs.declared.RefusalNumber.{RefusalNumber}
+use Rattle.refusals.specs.declared.RefusalNumber.TheVariants as refusal
+use Rattle.verifier.specs.Analysis.{context_size}
+use Rattle.verifier.specs.Programs.{VerifiedProgram}
+use Rattle.book.specs.declared.machine.Decision.{Decision}
+use Rattle.book.specs.declared.readings.Reading.{Reading}
+use Rattle.book.specs.declared.registry.OpenTicket.{OpenTicket}
+use Rattle.book.specs.declared.replies.Reply.{Reply}
+use Rattle.book.specs.declared.states.State.{State}
+use Rattle.book.specs.Answers.{looked, reading, with_line, cut}
+use Rattle.book.specs.Events.{Happening, acquires, finishes, releases, installs, moves, resets, Line, Opening, History}
+use Rattle.book.specs.Histories.{Past, past_of, situation_of, raised, next_line, IsLegal}
+use Rattle.book.specs.Machine.{Situation, decision, refused, is_full, at_moment, is_issued, open_ticket, program_from, same_program, judged_as, concluded, is_entered}
+use Rattle.book.specs.Safe.{IsAccepted, AreAccepted, InstallsAccepted}
+use Rattle.book.specs.Sound.{IsSound}
+use Rattle.book.specs.Verdicts.{judgement}
+
+-- ---- what the world answers: an outcome is answered on the verdict that the work carries
+
+abbrev pub carried_by : Situation → ℕ → OpenTicket → Work → Option VerifiedProgram → Decision
+carried_by s moment ticket work None = refused s.standing refusal.Stranger
+carried_by s moment ticket work (Some program) =
+    if same_program work.program program then concluded s moment ticket work.outcome (judged_as work) else refused s.standing refusal.Stranger
+
+abbrev pub carried_under : Situation → ℕ → Work → Option OpenTicket → Decision
+carried_under s moment work None = refused s.standing refusal.TicketSpent
+carried_under s moment work (Some ticket) = carried_by s moment ticket work (program_from s.first_version s.programs ticket.version)
+
+abbrev pub carried_finish : Situation → ℕ → Work → ℕ → Decision
+carried_finish s moment work ticket = if is_issued s ticket then carried_under s moment work (open_ticket s.open_tickets ticket) else refused s.standing refusal.NoTicket
+
+abbrev pub carried : Situation → ℕ → Happening → Decision
+carried s moment (finishes work ticket) =
+    if is_full s (finishes work ticket) then refused s.standing refusal.JournalFull else carried_finish (at_moment s moment) moment work ticket
+carried s moment other = decision s moment other
+
+-- ---- the world and its steps
+
+-- programs that an actor was given, and work that it judged
+pub record Hands : Type 0 where
+  pub programs : List VerifiedProgram
+  pub works : List Work
+
+pub record World : Type 0 where
+  pub history : History
+  pub hands : ℕ → Hands
+
+-- a step, with the moment at which it is taken; programs and works are named by their place in the actor's hands
+pub data Step : Type 0 where
+  acquire : ℕ → Step
+  look : ℕ → Step
+  judge : ℕ → Outcome → Step
+  finish : ℕ → ℕ → ℕ → Step
+  release : ℕ → ℕ → Step
+  install : ℕ → VerifiedProgram → Step
+  move : ℕ → State → Step
+  reset : ℕ → Step
+  read : ℕ → Step
+  cut_off : Step
+
+-- what a step gives its actor
+pub data Given : Type 0 where
+  replied : Reply → Given
+  found : Result VerifiedProgram RefusalNumber → Given
+  shown : Reading → Given
+  handed : Result (List Line) RefusalNumber → Given
+  nothing : Given
+
+pub record Turn : Type 0 where
+  pub world : World
+  pub given : Given
+
+-- how an event is answered in a situation, at its raised moment
+abbrev pub Answering : Type 0
+Answering = Situation → ℕ → Happening → Decision
+
+abbrev pub written : History → ℕ → ℕ → Happening → Reply → Line
+written history seat moment event reply = record { number = next_line (past_of history); seat = seat; event = event; moment = raised (past_of history) moment; reply = reply }
+
+abbrev pub entered_by : Bool → World → Line → World
+entered_by true w line = record { history = with_line w.history line; hands = w.hands }
+entered_by false w line = w
+
+abbrev pub answered : World → ℕ → ℕ → Happening → Decision → Turn
+answered w actor moment event d = record {
+  world = entered_by (is_entered d.reply) w (written w.history actor moment event d.reply);
+  given = replied d.reply;
+}
+
+abbrev pub happens : Answering → World → ℕ → ℕ → Happening → Turn
+happens answering w actor moment event = answered w actor moment event (answering (situation_of (past_of w.history)) (raised (past_of w.history) moment) event)
+
+abbrev pub holding : World → ℕ → Hands → World
+holding w actor hands = record { history = w.history; hands = λ other. if other == actor then hands else w.hands other }
+
+abbrev pub with_program : Hands → VerifiedProgram → Hands
+with_program hands program = record { programs = hands.programs ++ program ∷ []; works = hands.works }
+
+abbrev pub with_work : Hands → Work → Hands
+with_work hands work = record { programs = hands.programs; works = hands.works ++ work ∷ [] }
+
+abbrev pub looking : World → ℕ → Result VerifiedProgram RefusalNumber → Turn
+looking w actor (Ok program) = record { world = holding w actor (with_program (w.hands actor) program); given = found (Ok program) }
+looking w actor (Err number) = record { world = w; given = found (Err number) }
+
+-- verdict and steps are the meaning's
+abbrev pub work_of : VerifiedProgram → Outcome → Work
+work_of program outcome = record { program = program; outcome = outcome; verdict = (judgement program outcome).verdict; steps = (judgement program outcome).steps }
+
+-- judging touches nothing but the actor's hands
+abbrev pub judging : World → ℕ → Outcome → Option VerifiedProgram → Turn
+judging w actor outcome None = record { world = w; given = nothing }
+judging w actor outcome (Some program) = record { world = holding w actor (with_work (w.hands actor) (work_of program outcome)); given = nothing }
+
+-- a finish brings any work of its actor with any ticket
+abbrev pub finishing : Answering → World → ℕ → ℕ → ℕ → Option Work → Turn
+finishing answering w actor moment ticket None = record { world = w; given = nothing }
+finishing answering w actor moment ticket (Some work) = happens answering w actor moment (finishes work ticket)
+
+abbrev pub cutting : World → Result Opening RefusalNumber → Turn
+cutting w (Ok opening) = record { world = record { history = record { opening = opening; lines = [] }; hands = w.hands }; given = handed (Ok w.history.lines) }
+cutting w (Err number) = record { world = w; given = handed (Err number) }
+
+abbrev pub taken : Answering → World → ℕ → Step → Turn
+taken answering w actor (acquire moment) = happens answering w actor moment acquires
+taken answering w actor (look ticket) = looking w actor (looked (situation_of (past_of w.history)) ticket)
+taken answering w actor (judge place outcome) = judging w actor outcome (slice_get (w.hands actor).programs place)
+taken answering w actor (finish moment place ticket) = finishing answering w actor moment ticket (slice_get (w.hands actor).works place)
+taken answering w actor (release moment ticket) = happens answering w actor moment (releases ticket)
+taken answering w actor (install moment program) = happens answering w actor moment (installs program)
+taken answering w actor (move moment state) = happens answering w actor moment (moves state)
+taken answering w actor (reset moment) = happens answering w actor moment resets
+taken answering w actor (read moment) = record { world = w; given = shown (reading (past_of w.history) moment) }
+taken answering w actor cut_off = cutting w (cut (past_of w.history))
+
+-- ---- lists of steps
+
+pub record Act : Type 0 where
+  pub actor : ℕ
+  pub step : Step
+
+pub record Course : Type 0 where
+  pub world : World
+  pub given : List Given
+
+abbrev pub preceded : Given → Course → Course
+preceded given course = record { world = course.world; given = given ∷ course.given }
+
+-- the steps one after another, by any actors in any order
+unfoldable pub course : Answering → World → List Act → Course
+course answering w [] = record { world = w; given = [] }
+course answering w (act ∷ acts) = preceded (taken answering w act.actor act.step).given (course answering (taken answering w act.actor act.step).world acts)
+
+-- before the first step nobody holds anything
+abbrev pub begun : Opening → World
+begun opening = record { history = record { opening = opening; lines = [] }; hands = λ actor. record { programs = []; works = [] } }
+
+-- moments are words, outcomes are records, and what is installed was accepted
+abbrev pub IsStep : Step → Type 0
+IsStep (acquire moment) = moment < 2 ^ 64
+IsStep (look ticket) = Unit {0}
+IsStep (judge place outcome) = IsOutcome context_size outcome
+IsStep (finish moment place ticket) = moment < 2 ^ 64
+IsStep (release moment ticket) = moment < 2 ^ 64
+IsStep (install moment program) = (moment < 2 ^ 64) × IsAccepted program
+IsStep (move moment state) = moment < 2 ^ 64
+IsStep (reset moment) = moment < 2 ^ 64
+IsStep (read moment) = moment < 2 ^ 64
+IsStep cut_off = Unit {0}
+
+abbrev pub AreSteps : List Act → Type 0
+AreSteps acts = AllByRecursion (λ act. IsStep act.step) acts
+
+-- ---- what holds of the world throughout
+
+-- the meaning's verdict of an accepted program on a record
+pub record IsJudged (work : Work) : Type 0 where
+  pub program : IsAccepted work.program
+  pub outcome : IsOutcome context_size work.outcome
+  pub tied : IsTied work
+
+pub record AreHands (hands : Hands) : Type 0 where
+  pub programs : AreAccepted hands.programs
+  pub works : AllByRecursion IsJudged hands.works
+
+-- the history is legal, every installed program was accepted, and all work carries the meaning's verdict
+pub record IsWorld (w : World) : Type 0 where
+  pub legal : IsLegal w.history
+  pub sound : IsSound (past_of w.history)
+  pub hands : (actor : ℕ) → AreHands (w.hands actor)

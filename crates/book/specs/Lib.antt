@@ -1,0 +1,17 @@
+pub mod Configuration
+pub mod Windows
+pub mod Standings
+pub mod Rates
+pub mod Events
+pub mod Verdicts
+pub mod Machine
+pub mod Histories
+pub mod Safe
+pub mod Following
+pub mod Sound
+pub mod Situations
+pub mod Answers
+pub mod Interleavings
+pub mod Laws
+pub mod Books
+pub mod Seen

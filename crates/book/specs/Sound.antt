@@ -1,0 +1,49 @@
+-- What is true of every legal history, and what keeps numbers below 2 ^ 64.
+use Rattle.std.specs.Prelude.{◌≡◌, ℕ, ◌+◌, ◌*◌, ◌^◌, ◌<◌, ◌≤◌, List, length, true, None}
+use Rattle.std.specs.List.{filter, AllByRecursion}
+use Rattle.verifier.specs.Programs.{VerifiedProgram}
+use Rattle.book.specs.declared.registry.OpenTicket.{OpenTicket}
+use Rattle.book.specs.Configuration.{bad_field}
+use Rattle.book.specs.Events.{Opening}
+use Rattle.book.specs.Histories.{Past, Stage, ended, issued, notes_of, open_of, programs_of, greatest}
+use Rattle.book.specs.Machine.{permissions_held}
+use Rattle.book.specs.Standings.{is_half_open}
+use Rattle.book.specs.Safe.{IsAccepted, AreAccepted}
+
+-- an opening with a good configuration, an accepted program and numbers that leave room
+pub record IsOpening (opening : Opening) : Type 0 where
+  pub config : bad_field opening.config ≡ None
+  pub accepted : IsAccepted opening.program
+  pub version : opening.version ≤ 2 ^ 63
+  pub period : opening.period ≤ 2 ^ 63
+  pub ticket : opening.ticket ≤ 2 ^ 63
+  pub first_ticket : 1 ≤ opening.ticket
+  pub line : opening.line ≤ 2 ^ 63
+  pub first_line : 1 ≤ opening.line
+  pub moment : opening.moment < 2 ^ 64
+
+abbrev pub next_ticket : Past → ℕ
+next_ticket past = past.opening.ticket + length (issued past.stages)
+
+pub record IsSound (past : Past) : Type 0 where
+  pub opening : IsOpening past.opening
+  -- no stage was taken in a later period, and a line makes at most two transitions
+  pub periods : AllByRecursion (λ stage. (stage.before.period ≤ past.standing.period) × (stage.after.period ≤ past.standing.period)) past.stages
+  pub period : past.standing.period ≤ past.opening.period + 2 * length past.stages
+  -- a ticket that has ended, or is open, was issued
+  pub ended : AllByRecursion (λ number. number < next_ticket past) (ended past.stages)
+  pub open_issued : AllByRecursion (λ ticket. (1 ≤ ticket.number) × (ticket.number < next_ticket past)) (open_of past.stages)
+  pub issued : length (issued past.stages) ≤ length past.stages
+  -- tickets are of periods that have begun
+  pub ticket_periods : AllByRecursion (λ ticket. ticket.period ≤ past.standing.period) (open_of past.stages)
+  -- the bulkhead's places
+  pub places : length (open_of past.stages) ≤ past.opening.config.max_concurrent_calls
+  -- permissions held and notes in HALF_OPEN
+  pub permissions : is_half_open past.standing.state ≡ true
+    → permissions_held past.standing.period (open_of past.stages) + length (notes_of past) ≤ past.opening.config.permitted_number_of_calls_in_half_open_state
+  -- the journal has a line left for the end of each open ticket
+  pub used : length past.stages + length (open_of past.stages) ≤ 65536
+  pub versions : length (programs_of past) ≤ 256
+  -- every program that was installed was accepted
+  pub accepted : AreAccepted (programs_of past)
+  pub moment : greatest past < 2 ^ 64

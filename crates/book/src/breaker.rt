@@ -1,0 +1,291 @@
+//! The circuit breaker of a service: where it stands, the notes of its period, and what it permits.
+ghost use Rattle.std.specs.Prelude.{◌≡◌, ◌<◌, ◌≤◌, ◌+◌, ◌^◌, ℕ, length, ◌++◌, ◌∷◌, [], None, true, OnOk, OnSome};
+ghost use Rattle.std.specs.List.{filter};
+ghost use Rattle.book.specs.Configuration.{bad_field, is_count_based};
+ghost use Rattle.book.specs.Machine.{permissions_held, half_open_permission, open_permission, permission_in, fate_of, next_by, is_ignored};
+ghost use Rattle.book.specs.Rates.{minimum, reaches, either_reaches, after_totals, after_notes, shown_rate};
+ghost use Rattle.book.specs.Standings.{moved, is_disabled};
+ghost use Rattle.book.specs.Windows.{AreTotals};
+ghost use Rattle.book.specs.Following.{notes_after, refused_after, is_refused_call, is_not_permitted};
+ghost use Rattle.std.specs.Vec.{vec_len, vec_capacity};
+
+use crate::configuration::{Config, ConfigParts};
+use crate::registry::OpenTicket;
+use crate::replies::{Fate, Reply};
+use crate::states::State;
+use crate::windows::{Note, Totals, totals_with};
+use bpf_profile::Verdict;
+use refusals::RefusalNumber;
+use std::alloc::{AllocError, Global};
+
+/// Where a breaker stands: its state, the number of its period, and since when, in milliseconds.
+#[derive(Clone, Copy, Debug, PartialEq, Eq)]
+pub struct Standing {
+    pub state: State,
+    /// Every transition starts the next period.
+    pub period: u64,
+    pub since: u64,
+}
+
+/// Whether a call is permitted, and where the breaker stands then.
+#[derive(Clone, Copy, Debug, PartialEq, Eq)]
+pub(crate) struct Permission {
+    pub given: bool,
+    pub standing: Standing,
+}
+
+/// Where the breaker stands, and the notes of the period, the oldest first.
+#[derive(Drop)]
+pub(crate) struct Breaker {
+    pub standing: Standing,
+    pub notes: Vec<Note>,
+    /// How many calls were refused in this period.
+    pub refused: u64,
+}
+
+impl Standing {
+    /// After a transition, also to the same state.
+    pub(crate) fn moved(self, state: State, moment: u64) -> Standing
+        requires { self.period + 1 < 2 ^ 64 }
+        ensures { result ≡ moved state moment self }
+    {
+        Standing {
+            state,
+            period: self.period + 1,
+            since: moment,
+        }
+    }
+}
+
+/// How many open tickets hold a permission of a period.
+fn permissions_held(period: u64, tickets: &[OpenTicket]) -> usize
+    ensures { result ≡ permissions_held period tickets.now }
+{
+    tickets
+        .iter()
+        .filter(|ticket| ticket.period == period)
+        .count()
+}
+
+fn half_open_permission(
+    config: &ConfigParts,
+    standing: Standing,
+    notes: &[Note],
+    tickets: &[OpenTicket],
+) -> Permission
+    ensures { result ≡ half_open_permission config.now standing notes.now tickets.now }
+{
+    let held = permissions_held(standing.period, tickets) as u64;
+    let left = config
+        .permitted_number_of_calls_in_half_open_state
+        .saturating_sub(held);
+    Permission {
+        given: (notes.len() as u64) < left,
+        standing,
+    }
+}
+
+fn open_permission(
+    config: &ConfigParts,
+    standing: Standing,
+    tickets: &[OpenTicket],
+    moment: u64,
+) -> Permission
+    requires { standing.period + 1 < 2 ^ 64 }
+    ensures { result ≡ open_permission config.now standing tickets.now moment }
+{
+    if moment.saturating_sub(standing.since) < config.wait_duration_in_open_state {
+        return Permission {
+            given: false,
+            standing,
+        };
+    }
+    half_open_permission(
+        config,
+        standing.moved(State::HalfOpen, moment),
+        &[],
+        tickets,
+    )
+}
+
+/// What the breaker says to a call.
+pub(crate) fn permit(
+    config: &ConfigParts,
+    standing: Standing,
+    notes: &[Note],
+    tickets: &[OpenTicket],
+    moment: u64,
+) -> Permission
+    requires { standing.period + 1 < 2 ^ 64 }
+    ensures { result ≡ permission_in standing.state config.now standing notes.now tickets.now moment }
+{
+    match standing.state {
+        State::Closed | State::MetricsOnly | State::Disabled => Permission {
+            given: true,
+            standing,
+        },
+        State::ForcedOpen => Permission {
+            given: false,
+            standing,
+        },
+        State::Open => open_permission(config, standing, tickets, moment),
+        State::HalfOpen => half_open_permission(config, standing, notes, tickets),
+    }
+}
+
+/// From how many notes on the rates are used.
+pub(crate) fn minimum(config: &ConfigParts, state: State) -> u64
+    requires { is_count_based config.now.sliding_window_type ≡ true }
+    ensures { result ≡ minimum config.now state }
+{
+    match state {
+        State::HalfOpen => config.permitted_number_of_calls_in_half_open_state,
+        _ => config
+            .minimum_number_of_calls
+            .min(config.sliding_window_size),
+    }
+}
+
+/// Whether a part of the total reaches a threshold in percent.
+fn reaches(threshold: u64, total: u64, part: u64) -> bool
+    requires { (threshold < 2 ^ 7) × (total ≤ 2 ^ 48) × (part ≤ 2 ^ 48) }
+    ensures { result ≡ reaches threshold total part }
+{
+    threshold * total <= 100 * part
+}
+
+/// Whether the failures or the slow calls reach their threshold.
+fn either_reaches(config: &Config, totals: Totals) -> bool
+    requires { AreTotals (2 ^ 48) totals }
+    ensures { result ≡ either_reaches config.now totals }
+{
+    let parts = config.parts();
+    reaches(parts.failure_rate_threshold, totals.total, totals.failed)
+        || reaches(parts.slow_call_rate_threshold, totals.total, totals.slow)
+}
+
+/// Where the breaker stands after a note, by the totals with that note.
+fn after_totals(config: &Config, moment: u64, standing: Standing, totals: Totals) -> Standing
+    requires totals { AreTotals (2 ^ 48) totals }
+    requires period { standing.period + 1 < 2 ^ 64 }
+    ensures { result ≡ after_totals config.now moment standing standing.state totals }
+{
+    let reached = totals.total >= minimum(&config.parts(), standing.state);
+    match standing.state {
+        State::Closed => {
+            if reached && either_reaches(config, totals) {
+                standing.moved(State::Open, moment)
+            } else {
+                standing
+            }
+        }
+        State::HalfOpen => {
+            if !reached {
+                standing
+            } else if either_reaches(config, totals) {
+                standing.moved(State::Open, moment)
+            } else {
+                standing.moved(State::Closed, moment)
+            }
+        }
+        _ => standing,
+    }
+}
+
+/// Where the breaker stands after a note that follows these.
+pub(crate) fn after_note(
+    config: &Config,
+    moment: u64,
+    standing: Standing,
+    notes: &[Note],
+    note: Note,
+) -> Standing
+    requires notes { length notes.now < 2 ^ 32 }
+    requires period { standing.period + 1 < 2 ^ 64 }
+    ensures { result ≡ after_notes config.now moment standing (notes.now ++ note ∷ []) }
+{
+    let totals = totals_with(config, standing.state, notes, note);
+    after_totals(config, moment, standing, totals)
+}
+
+/// Whether a reply refuses a call.
+fn is_refused_call(reply: Reply) -> bool
+    ensures { result ≡ is_refused_call reply }
+{
+    match reply {
+        Reply::Refused(number) => is_not_permitted(number),
+        _ => false,
+    }
+}
+
+fn is_not_permitted(number: RefusalNumber) -> bool
+    ensures { result ≡ is_not_permitted number }
+{
+    match number {
+        RefusalNumber::CallNotPermitted => true,
+        _ => false,
+    }
+}
+
+/// A part of the total in whole percent, rounded down; none below the least total, and none of nothing.
+pub(crate) fn shown_rate(least: u64, total: u64, part: u64) -> Option<u64>
+    requires { part < 2 ^ 48 }
+    ensures { result ≡ shown_rate least total part }
+{
+    if total < least || total == 0 {
+        return None;
+    }
+    Some(100 * part / total)
+}
+
+impl Breaker {
+    /// A breaker in CLOSED, in its first period, since moment 0.
+    pub(crate) fn new(alloc: Global) -> Breaker
+        ensures standing { result.standing ≡ record { state = State.Closed; period = 1; since = 0 } }
+        ensures notes { result.notes.items ≡ [] }
+        ensures refused { result.refused ≡ 0 }
+    {
+        Breaker {
+            standing: Standing {
+                state: State::Closed,
+                period: 1,
+                since: 0,
+            },
+            notes: Vec::new(alloc),
+            refused: 0,
+        }
+    }
+
+    /// Makes room for a note, where there is one.
+    pub(crate) fn make_room(&mut self, note: Option<Note>) -> Result<(), AllocError>
+        ensures standing { self.new.standing ≡ self.old.standing }
+        ensures notes { self.new.notes.items ≡ self.old.notes.items }
+        ensures refused { self.new.refused ≡ self.old.refused }
+        ensures room { OnOk result (OnSome note (vec_len self.new.notes < vec_capacity self.new.notes)) }
+    {
+        match note {
+            Some(_) => self.notes.reserve(1),
+            None => Ok(()),
+        }
+    }
+
+    /// Stands where a line leads, with its note in the same period, or with none in a new one.
+    pub(crate) fn follow(&mut self, next: Standing, note: Option<Note>, reply: Reply)
+        requires room { OnSome note (vec_len self.old.notes < vec_capacity self.old.notes) }
+        requires refused { self.old.refused + 1 < 2 ^ 64 }
+        ensures standing { self.new.standing ≡ next }
+        ensures notes { self.new.notes.items ≡ notes_after self.old.standing next self.old.notes.items note }
+        ensures refused { self.new.refused ≡ refused_after self.old.standing next self.old.refused reply }
+    {
+        if next.period != self.standing.period {
+            self.notes.clear();
+            self.refused = 0;
+        } else if let Some(note) = note {
+            self.notes.push_reserved(note);
+        }
+        if is_refused_call(reply) {
+            self.refused += 1;
+        }
+        self.standing = next;
+    }
+}

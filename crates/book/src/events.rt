@@ -1,0 +1,85 @@
+//! Events, and the entries of the journal.
+ghost use Rattle.std.specs.Prelude.{◌≡◌};
+ghost use Rattle.book.specs.Seen.{seen, line};
+
+use crate::replies::Reply;
+use bpf_run::Judged;
+use std::marker::Model;
+
+/// What happens on a service.
+#[derive(Drop)]
+pub enum Event {
+    /// A call asks whether it may be made.
+    Acquire,
+    /// The outcome of the call under a ticket, as it was judged.
+    Finish(Judged, u64),
+}
+
+/// A line of the journal: what happened, who made it, at which moment, and what was answered.
+#[derive(Drop)]
+pub struct Entry {
+    number: u64,
+    seat: u32,
+    event: Event,
+    moment: u64,
+    reply: Reply,
+}
+
+impl Model for Entry {
+    ghost use Rattle.book.specs.Events.{Line};
+
+    ghost Value = { Line };
+
+    ghost use Rattle.book.specs.Seen.{seen, line};
+
+    ghost view = { λ e. line e.number e.seat (seen e.event) e.moment e.reply };
+}
+
+impl Entry {
+    pub(crate) fn new(number: u64, seat: u32, event: Event, moment: u64, reply: Reply) -> Entry
+        ensures { result ≡ line number seat (seen event) moment reply }
+    {
+        Entry {
+            number,
+            seat,
+            event,
+            moment,
+            reply,
+        }
+    }
+
+    /// From 1 on, one more for each entry, also over cuts.
+    pub fn number(&self) -> u64
+        ensures { result ≡ self.now.number }
+    {
+        self.number
+    }
+
+    /// Who made it.
+    pub fn seat(&self) -> u32
+        ensures { result ≡ self.now.seat }
+    {
+        self.seat
+    }
+
+    /// What happened.
+    pub fn event(&self) -> &Event
+        ensures { seen result.now ≡ self.now.event }
+    {
+        &self.event
+    }
+
+    /// When, in milliseconds: the moment that was given, raised to that of the entry before.
+    pub fn moment(&self) -> u64
+        ensures { result ≡ self.now.moment }
+    {
+        self.moment
+    }
+
+    /// What was answered.
+    pub fn reply(&self) -> Reply
+        ensures { result ≡ self.now.reply }
+    {
+        self.reply
+    }
+}

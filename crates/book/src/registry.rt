@@ -1,0 +1,196 @@
+//! The versions of programs that are held, and the tickets that are open.
+ghost use Rattle.std.specs.Prelude.{◌≡◌, ℕ, ◌<◌, ◌≤◌, ◌+◌, ◌-◌, ◌^◌, not, map, [], ◌++◌, option_to_list, length, Some, OnOk, OnSome};
+ghost use Rattle.std.specs.Arc.{arc_value};
+ghost use Rattle.std.specs.Option.{option_map};
+ghost use Rattle.std.specs.List.{filter};
+ghost use Rattle.std.specs.Vec.{vec_len, vec_capacity};
+ghost use Rattle.book.specs.Answers.{budget_of, looked, looked_under, map_ok};
+ghost use Rattle.book.specs.Following.{is_number, tickets_after, one_where_some};
+ghost use Rattle.book.specs.Situations.{situation};
+ghost use Rattle.book.specs.declared.breaker.Breaker.{Breaker};
+ghost use Rattle.book.specs.declared.configuration.ConfigParts.{ConfigParts};
+ghost use Rattle.book.specs.Machine.{open_ticket, is_open, program_from};
+
+use refusals::RefusalNumber;
+use std::alloc::{AllocError, Global};
+use std::sync::Arc;
+use verifier::Verified;
+
+/// A ticket that was issued and has not ended.
+#[derive(Clone, Copy, Debug, PartialEq, Eq)]
+pub(crate) struct OpenTicket {
+    pub number: u64,
+    pub version: u64,
+    pub period: u64,
+}
+
+/// Versions and tickets.
+#[derive(Drop)]
+pub(crate) struct Registry {
+    /// The version of the first program.
+    pub first_version: u64,
+    /// The programs of this version and of those after it.
+    pub programs: Vec<Arc<Verified>>,
+    /// In the order in which they were issued.
+    pub open_tickets: Vec<OpenTicket>,
+    pub next_ticket: u64,
+}
+
+/// The open ticket of a number.
+fn open_ticket_in(tickets: &[OpenTicket], number: u64) -> Option<OpenTicket>
+    ensures { result ≡ open_ticket tickets.now number }
+{
+    tickets
+        .iter()
+        .copied()
+        .find(|ticket| ticket.number == number)
+}
+
+/// Whether a ticket of a number is open.
+fn is_open_in(tickets: &[OpenTicket], number: u64) -> bool
+    ensures { result ≡ is_open tickets.now number }
+{
+    tickets.iter().any(|ticket| ticket.number == number)
+}
+
+/// Drops the ticket of a number.
+fn drop_ticket(tickets: &mut Vec<OpenTicket>, number: u64)
+    ensures tickets { tickets.new.items ≡ filter (λ ticket. not (is_number (Some number) ticket.number)) tickets.old.items }
+    ensures len { vec_len tickets.new ≤ vec_len tickets.old }
+    ensures capacity { vec_capacity tickets.new ≡ vec_capacity tickets.old }
+{
+    tickets.retain(|ticket| ticket.number != number)
+}
+
+/// Drops the ticket that ended, where there is one.
+fn end(tickets: &mut Vec<OpenTicket>, ended: Option<u64>)
+    ensures tickets { tickets.new.items ≡ filter (λ ticket. not (is_number ended ticket.number)) tickets.old.items }
+    ensures len { vec_len tickets.new ≤ vec_len tickets.old }
+    ensures capacity { vec_capacity tickets.new ≡ vec_capacity tickets.old }
+{
+    if let Some(number) = ended {
+        drop_ticket(tickets, number);
+    }
+}
+
+/// Keeps the ticket that was issued, where there is one.
+fn keep(tickets: &mut Vec<OpenTicket>, issued: Option<OpenTicket>)
+    requires room { OnSome issued (vec_len tickets.old < vec_capacity tickets.old) }
+    ensures tickets { tickets.new.items ≡ tickets.old.items ++ option_to_list issued }
+{
+    if let Some(ticket) = issued {
+        tickets.push_reserved(ticket);
+    }
+}
+
+impl Registry {
+    /// These programs from version 1 on, and no ticket.
+    pub(crate) fn new(alloc: Global, programs: Vec<Arc<Verified>>) -> Registry
+        ensures programs { result.programs.items ≡ programs.items }
+        ensures tickets { result.open_tickets.items ≡ [] }
+        ensures numbers { (result.first_version ≡ 1) × (result.next_ticket ≡ 1) }
+    {
+        Registry {
+            first_version: 1,
+            programs,
+            open_tickets: Vec::new(alloc),
+            next_ticket: 1,
+        }
+    }
+
+    /// The budget of the program of new tickets.
+    pub(crate) fn current_budget(&self) -> u32
+        requires { self.now.first_version + length self.now.programs.items < 2 ^ 64 }
+        ensures { result ≡ budget_of (program_from self.now.first_version (map arc_value self.now.programs.items) (self.now.first_version + (length self.now.programs.items - 1))) }
+    {
+        match self.program(self.current_version()) {
+            Some(program) => program.budget(),
+            None => 0,
+        }
+    }
+
+    /// Whether the ticket of a number is open.
+    pub(crate) fn is_open(&self, number: u64) -> bool
+        ensures { result ≡ is_open self.now.open_tickets.items number }
+    {
+        is_open_in(self.open_tickets.as_slice(), number)
+    }
+
+    /// The version of new tickets.
+    pub(crate) fn current_version(&self) -> u64
+        requires { self.now.first_version + length self.now.programs.items < 2 ^ 64 }
+        ensures { result ≡ self.now.first_version + (length self.now.programs.items - 1) }
+    {
+        self.first_version + (self.programs.len() as u64).saturating_sub(1)
+    }
+
+    /// The program of a version.
+    pub(crate) fn program(&self, version: u64) -> Option<&Arc<Verified>>
+        ensures { option_map (λ p. arc_value p.now) result ≡ program_from self.now.first_version (map arc_value self.now.programs.items) version }
+    {
+        if version < self.first_version {
+            return None;
+        }
+        self.programs
+            .get((version - self.first_version) as usize)
+    }
+
+    /// The open ticket of a number.
+    pub(crate) fn open_ticket(&self, number: u64) -> Option<OpenTicket>
+        ensures { result ≡ open_ticket self.now.open_tickets.items number }
+    {
+        open_ticket_in(self.open_tickets.as_slice(), number)
+    }
+
+    /// The program that judges under an open ticket.
+    fn looked_under(&self, ticket: OpenTicket) -> Result<&Arc<Verified>, RefusalNumber>
+        ensures { (config : ConfigParts) (breaker : Breaker) (held : ℕ) → map_ok (λ p. arc_value p.now) result ≡ looked_under (situation config breaker self.now held) (Some ticket) }
+    {
+        match self.program(ticket.version) {
+            Some(program) => Ok(program),
+            None => Err(RefusalNumber::TicketSpent),
+        }
+    }
+
+    /// The program that judges under a ticket.
+    pub(crate) fn look(&self, ticket: u64) -> Result<&Arc<Verified>, RefusalNumber>
+        ensures { (config : ConfigParts) (breaker : Breaker) (held : ℕ) → map_ok (λ p. arc_value p.now) result ≡ looked (situation config breaker self.now held) ticket }
+    {
+        if ticket == 0 || ticket >= self.next_ticket {
+            return Err(RefusalNumber::NoTicket);
+        }
+        let Some(open) = self.open_ticket(ticket) else {
+            return Err(RefusalNumber::TicketSpent);
+        };
+        self.looked_under(open)
+    }
+
+    /// Makes room for a ticket, where one is issued.
+    pub(crate) fn make_room(&mut self, issued: Option<OpenTicket>) -> Result<(), AllocError>
+        ensures tickets { self.new.open_tickets.items ≡ self.old.open_tickets.items }
+        ensures programs { map arc_value self.new.programs.items ≡ map arc_value self.old.programs.items }
+        ensures numbers { (self.new.first_version ≡ self.old.first_version) × (self.new.next_ticket ≡ self.old.next_ticket) }
+        ensures room { OnOk result (OnSome issued (vec_len self.new.open_tickets < vec_capacity self.new.open_tickets)) }
+    {
+        match issued {
+            Some(_) => self.open_tickets.reserve(1),
+            None => Ok(()),
+        }
+    }
+
+    /// Drops the ticket that ended, and keeps the one that was issued.
+    pub(crate) fn follow(&mut self, ended: Option<u64>, issued: Option<OpenTicket>)
+        requires room { OnSome issued (vec_len self.old.open_tickets < vec_capacity self.old.open_tickets) }
+        requires next { self.old.next_ticket + 1 < 2 ^ 64 }
+        ensures tickets { self.new.open_tickets.items ≡ tickets_after self.old.open_tickets.items ended issued }
+        ensures next { self.new.next_ticket ≡ self.old.next_ticket + one_where_some issued }
+        ensures programs { map arc_value self.new.programs.items ≡ map arc_value self.old.programs.items }
+        ensures first { self.new.first_version ≡ self.old.first_version }
+    {
+        end(&mut self.open_tickets, ended);
+        keep(&mut self.open_tickets, issued);
+        if issued.is_some() {
+            self.next_ticket += 1;
+        }
+    }
+}

@@ -1,0 +1,119 @@
+//! One step.
+ghost use Rattle.std.specs.Prelude.{◌≡◌, ◌≤◌, ◌<◌, ◌+◌, ◌^◌, length};
+ghost use Rattle.bpf_profile.specs.Machine.{goes};
+ghost use Rattle.bpf_profile.specs.Meaning.{sets, effect_of, step};
+ghost use Rattle.bpf_slow.specs.Progress.{effect_of_step};
+
+use crate::jumps::target_of;
+use crate::machine::Machine;
+use crate::progress::Progress;
+use bpf_profile::{Instruction, Operand, Register, Slot, TrapReason, Value, instruction_at};
+use helpers::Record;
+
+impl Machine {
+    /// Goes to the next slot with this value in the register.
+    fn set(
+        &mut self,
+        register: Register,
+        value: Result<Value, TrapReason>,
+    ) -> Result<Progress, TrapReason>
+        requires { self.old.slot < 4096 }
+        ensures { effect_of_step result self.new ≡ sets self.old register value }
+    {
+        self.set_register(0, register, value?);
+        Ok(Progress::Goes)
+    }
+
+    /// Does what an instruction says.
+    #[tactic(auto, unfolding(bpf_profile::specs::Meaning::effect_of))]
+    fn execute(
+        &mut self,
+        outcome: &Record,
+        instruction: &Instruction,
+    ) -> Result<Progress, TrapReason>
+        requires { self.old.slot < 4096 }
+        ensures { effect_of_step result self.new ≡ effect_of 128 outcome.now self.old instruction.now }
+    {
+        match *instruction {
+            Instruction::Arithmetic {
+                operation,
+                width,
+                destination,
+                ref operand,
+            } => {
+                let value = self.arithmetic_value(operation, width, destination, operand);
+                self.set(destination, value)
+            }
+            Instruction::Negate { width, destination } => {
+                let value = self.negated(width, destination);
+                self.set(destination, value)
+            }
+            Instruction::MoveSigned {
+                width,
+                size,
+                destination,
+                source,
+            } => {
+                let value = self.moved_signed(width, size, source);
+                self.set(destination, value)
+            }
+            Instruction::Convert {
+                order,
+                size,
+                destination,
+            } => {
+                let value = self.converted(order, size, destination);
+                self.set(destination, value)
+            }
+            Instruction::LoadImmediate { destination, value } => {
+                self.set_register(1, destination, Value::Number(value));
+                Ok(Progress::Goes)
+            }
+            Instruction::Load {
+                size,
+                extension,
+                destination,
+                base,
+                offset,
+            } => {
+                let value = self.load_value(outcome, size, extension, base, offset);
+                self.set(destination, value)
+            }
+            Instruction::Store {
+                size,
+                base,
+                offset,
+                ref operand,
+            } => self.store(size, base, offset, operand),
+            Instruction::Jump { distance, .. } => {
+                self.jump(target_of(self.slot(), distance));
+                Ok(Progress::Goes)
+            }
+            Instruction::Branch {
+                comparison,
+                width,
+                left,
+                ref right,
+                distance,
+            } => self.branch(comparison, width, left, right, distance),
+            Instruction::Call { helper } => self.call(outcome, helper),
+            Instruction::Exit => self.exit(),
+        }
+    }
+
+    /// One step of the program. On a trap or an answer nothing is said of the state.
+    #[tactic(auto, unfolding(bpf_profile::specs::Meaning::step))]
+    pub(crate) fn step(&mut self, slots: &[Slot], outcome: &Record) -> Result<Progress, TrapReason>
+        requires { length slots.now ≤ 4096 }
+        ensures { effect_of_step result self.new ≡ step 128 slots.now outcome.now self.old }
+    {
+        let slot = self.slot();
+        if slot >= slots.len() {
+            return Err(TrapReason::OutsideProgram);
+        }
+        match instruction_at(slots, slot) {
+            Some(instruction) => self.execute(outcome, &instruction),
+            None => Err(TrapReason::OutsideProgram),
+        }
+    }
+}
