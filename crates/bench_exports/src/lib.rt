@@ -1,6 +1,8 @@
 //! What the benchmark calls from C. Nothing of the product stands on it.
 #![tactic(auto)]
 
+mod calls;
+
 use bpf_decode::Program;
 use bpf_run::{Verdict, run};
 use flow_check::check;

@@ -1,5 +1,5 @@
 -- A book with one line more.
-use Rattle.std.proofs.Common.{◌≡◌, ℕ, zero, suc, ◌+◌, ◌*◌, ◌^◌, ◌≤◌, ◌<◌, ◌==◌, ◌&&◌, max, Bool, true, false, cond, if◌then◌else◌, List, [], ◌∷◌, ◌++◌, map, length, Option, Some, None, option_to_list, arith, refl, ap, sym, ◌∙◌, subst, length-append, append-nil}
+use Rattle.std.proofs.Common.{◌≡◌, ℕ, suc, ◌+◌, ◌^◌, ◌≤◌, ◌<◌, ◌==◌, ◌&&◌, max, Bool, true, false, if◌then◌else◌, List, [], ◌∷◌, ◌++◌, map, length, Option, Some, None, option_to_list, arith, refl, ap, sym, ◌∙◌, subst, length-append, append-nil}
 use Rattle.std.proofs.lemmas.List.{length-map}
 use Rattle.std.specs.Arc.{arc_value}
 use Rattle.std.specs.List.{filter_map, cons_option, fold}
@@ -7,7 +7,6 @@ use Rattle.std.proofs.Math.Nat.{le-max_right, max-le}
 use Rattle.bpf_run.specs.JudgedWork.{Work}
 use Rattle.verifier.specs.Programs.{VerifiedProgram}
 use Rattle.std.proofs.lemmas.List.Sums.{fold-append}
-use Rattle.refusals.specs.declared.RefusalNumber.TheVariants as refusal
 use Rattle.book.specs.declared.books.Start.{Start}
 use Rattle.book.specs.declared.breaker.Breaker.{Breaker}
 use Rattle.book.specs.declared.breaker.Standing.{Standing}
@@ -17,18 +16,16 @@ use Rattle.book.specs.declared.events.Event.TheVariants as event
 use Rattle.book.specs.declared.machine.Decision.{Decision}
 use Rattle.book.specs.declared.registry.Registry.{Registry}
 use Rattle.book.specs.declared.replies.Reply.{Reply}
-use Rattle.book.specs.declared.replies.Reply.TheVariants as reply
-use Rattle.book.specs.declared.windows.Note.{Note}
-use Rattle.book.specs.Answers.{answer, line_of, with_line, applied, IsApplied, as_documented, out_of_memory}
+use Rattle.book.specs.Answers.{answer, line_of, with_line, IsApplied, as_documented}
 use Rattle.book.specs.Books.{opening_of, history_of, IsBook}
-use Rattle.book.specs.Events.{Happening, acquires, finishes, installs, Line, Opening, History}
+use Rattle.book.specs.Events.{acquires, finishes, installs, Line, Opening}
 use Rattle.book.specs.Following.{notes_after, tickets_after, one_where_some, is_refused_call, refused_after}
 use Rattle.book.specs.Histories.{Stage, Past, note_by, note_at, taken_in, notes_of, end_by, issue_by, install_by, situation_of, situation_after, machine, opened, passed, past_of, greatest, raised, next_line, refused_of, Follows, AreLegal, IsLegal}
 use Rattle.book.specs.Machine.{Situation, decision, is_entered}
 use Rattle.book.specs.Safe.{InstallsAccepted}
 use Rattle.book.specs.Seen.{seen, line}
 use Rattle.book.specs.Situations.{situation, IsRoomy}
-use Rattle.book.specs.Sound.{IsSound, IsOpening}
+use Rattle.book.specs.Sound.{IsSound}
 use Rattle.book.proofs.Deciding.{decision_near}
 use Rattle.book.proofs.Keeping.{situated_step, sound_step}
 use Rattle.book.proofs.Lists.{length_filter_le}
@@ -108,7 +105,7 @@ pub situation_by : (config : ConfigParts) (breaker after : Breaker) (registry la
     → situation config after later more ≡ situation_after (situation config breaker registry held) (line number seat (seen e) moment d.reply) d.next
 situation_by config breaker after registry later held more number seat moment e d standing notes first programs tickets next count =
     let installed : map arc_value registry.programs.items ++ option_to_list (install_by (seen e) d.reply) ≡ map arc_value registry.programs.items =
-        ap (λ (o : Option _). map arc_value registry.programs.items ++ option_to_list o) (never_installs e d.reply) ∙ append-nil (map arc_value registry.programs.items) in
+    ap (λ (o : Option _). map arc_value registry.programs.items ++ option_to_list o) (never_installs e d.reply) ∙ append-nil (map arc_value registry.programs.items) in
     cc
 
 -- ---- the book after a line
@@ -174,8 +171,8 @@ applied_there opening s refused moment lines number seat raw now e d book number
     let written : line number seat (seen e) now d.reply ≡ line_of (history_of opening lines) seat raw (seen e) = rw (counted, when, replied) refl in
     let enters : is_entered (answer (history_of opening lines) raw (seen e)).reply ≡ true = ap is_entered (sym replied) ∙ entered in
     as_documented replied
-        (ap (λ (l : Line). history_of opening (lines ++ l ∷ [])) written
-        ∙ sym (chosen_true (is_entered (answer (history_of opening lines) raw (seen e)).reply) (with_line (history_of opening lines) (line_of (history_of opening lines) seat raw (seen e))) (history_of opening lines) enters))
+    (ap (λ (l : Line). history_of opening (lines ++ l ∷ [])) written
+    ∙ sym (chosen_true (is_entered (answer (history_of opening lines) raw (seen e)).reply) (with_line (history_of opening lines) (line_of (history_of opening lines) seat raw (seen e))) (history_of opening lines) enters))
 
 -- ---- numbers that fit
 

@@ -1,5 +1,5 @@
 -- What the ranges of a configuration say.
-use Rattle.std.proofs.Common.{◌≡◌, ℕ, zero, suc, ◌+◌, ◌≤◌, ◌<◌, ◌==◌, nat_le, nat_lt, ◌&&◌, ◌^◌, Bool, true, false, if◌then◌else◌, List, Option, Some, None, arith, refl, ap, sym, ◌∙◌, subst}
+use Rattle.std.proofs.Common.{◌≡◌, ℕ, ◌≤◌, ◌==◌, nat_le, nat_lt, ◌&&◌, ◌^◌, Bool, true, false, if◌then◌else◌, Option, Some, None, refl, ap}
 use Rattle.book.specs.declared.configuration.ConfigField.{ConfigField}
 use Rattle.book.specs.declared.configuration.ConfigParts.{ConfigParts}
 use Rattle.book.specs.Configuration.{checked, bad_field, bad_limit, is_within, is_count_based}
@@ -7,7 +7,7 @@ use Rattle.std.proofs.lemmas.Bool.{leb-true}
 use Rattle.std.proofs.lemmas.Bool.Decides.{Decides-eqb}
 use Rattle.book.specs.declared.configuration.ConfigField.TheVariants as field
 use Rattle.book.specs.declared.states.State.TheVariants as state
-use Rattle.book.specs.Machine.{Situation, overstays, at_moment, in_state}
+use Rattle.book.specs.Machine.{Situation, at_moment, in_state}
 
 -- where nothing is bad, neither this field nor a later one is
 good_field : (good : Bool) (field : ConfigField) (later : Option ConfigField) → checked good field later ≡ None → (good ≡ true) × (later ≡ None)

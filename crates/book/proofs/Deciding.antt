@@ -1,11 +1,9 @@
 -- What the machine's replies can be, and where the breaker stands then.
-use Rattle.std.proofs.Common.{◌≡◌, ℕ, zero, suc, ◌+◌, ◌-◌, ◌*◌, ◌≤◌, ◌<◌, ◌⊎◌, inl, inr, ◌==◌, nat_le, nat_lt, ◌&&◌, ◌||◌, not, Bool, true, false, if◌then◌else◌, List, [], ◌∷◌, ◌++◌, length, Option, Some, None, arith, refl, ap, sym, ◌∙◌}
-use Rattle.std.specs.List.{list_any, find}
+use Rattle.std.proofs.Common.{◌≡◌, ℕ, suc, ◌+◌, ◌-◌, ◌≤◌, ◌<◌, ◌⊎◌, inl, inr, ◌==◌, nat_le, nat_lt, ◌&&◌, ◌||◌, not, Bool, true, false, if◌then◌else◌, List, [], ◌∷◌, length, Option, Some, None, arith, refl, ap, sym, ◌∙◌}
 use Rattle.std.proofs.lemmas.Bool.{ltb-false, ltb-true, leb-false}
 use Rattle.std.proofs.lemmas.Bool.Decides.{Decides-eqb}
 use Rattle.bpf_profile.specs.declared.machine.Verdict.{Verdict}
 use Rattle.bpf_profile.specs.declared.machine.Verdict.TheVariants as verdict
-use Rattle.bpf_profile.specs.Outcomes.{Outcome}
 use Rattle.bpf_run.specs.JudgedWork.{Work}
 use Rattle.refusals.specs.declared.RefusalNumber.{RefusalNumber}
 use Rattle.refusals.specs.declared.RefusalNumber.TheVariants as refusal
@@ -18,15 +16,14 @@ use Rattle.book.specs.declared.machine.Judgement.{Judgement}
 use Rattle.book.specs.declared.registry.OpenTicket.{OpenTicket}
 use Rattle.book.specs.declared.replies.Fate.{Fate}
 use Rattle.book.specs.declared.replies.Fate.TheVariants as fate
-use Rattle.book.specs.declared.replies.Reply.{Reply}
 use Rattle.book.specs.declared.replies.Reply.TheVariants as reply
 use Rattle.book.specs.declared.states.State.{State}
 use Rattle.book.specs.declared.states.State.TheVariants as state
 use Rattle.book.specs.declared.windows.Note.{Note}
 use Rattle.book.specs.declared.windows.Totals.{Totals}
 use Rattle.book.specs.Events.{Happening, acquires, finishes, releases, installs, moves, resets}
-use Rattle.book.specs.Machine.{Situation, refused, in_state, overstays, at_moment, permissions_held, half_open_permission, open_permission, permission_in, placed, admitted, acquired, current_version, open_ticket, is_open, is_issued, program_from, same_program, is_ignored, fate_of, note_of, next_by, finished_reply, concluded, finished_by, finished_under, finished, released_under, released, installed, moved_to, decided, used, is_full, decision, is_entered, is_entered_refusal}
-use Rattle.book.specs.Rates.{after_totals, after_notes, either_reaches, minimum}
+use Rattle.book.specs.Machine.{Situation, refused, in_state, overstays, at_moment, permissions_held, half_open_permission, permission_in, placed, admitted, acquired, current_version, open_ticket, is_open, is_issued, program_from, same_program, is_ignored, fate_of, next_by, concluded, finished_by, finished_under, finished, released_under, released, installed, decided, used, is_full, decision, is_entered_refusal}
+use Rattle.book.specs.Rates.{after_totals, either_reaches, minimum}
 use Rattle.book.specs.Configuration.{bad_field}
 use Rattle.book.specs.Standings.{moved, is_half_open, is_disabled}
 use Rattle.book.proofs.Configured.{no_stay}
@@ -54,8 +51,8 @@ after_totals_near config moment standing state.Closed totals =
     by_test (nat_le (minimum config state.Closed) totals.total && either_reaches config totals) standing (moved state.Open moment standing) standing (near_one state.Open moment standing) (near_none standing 1)
 after_totals_near config moment standing state.HalfOpen totals =
     by_test (nat_le (minimum config state.HalfOpen) totals.total) standing (if either_reaches config totals then moved state.Open moment standing else moved state.Closed moment standing) standing
-        (by_test (either_reaches config totals) standing (moved state.Open moment standing) (moved state.Closed moment standing) (near_one state.Open moment standing) (near_one state.Closed moment standing))
-        (near_none standing 1)
+    (by_test (either_reaches config totals) standing (moved state.Open moment standing) (moved state.Closed moment standing) (near_one state.Open moment standing) (near_one state.Closed moment standing))
+    (near_none standing 1)
 after_totals_near config moment standing state.Open totals = near_none standing 1
 after_totals_near config moment standing state.Disabled totals = near_none standing 1
 after_totals_near config moment standing state.MetricsOnly totals = near_none standing 1
@@ -85,21 +82,21 @@ permission_near state.Disabled config standing notes tickets moment = near_none 
 permission_near state.ForcedOpen config standing notes tickets moment = near_none standing 1
 permission_near state.Open config standing notes tickets moment =
     open_permission_near (nat_le config.wait_duration_in_open_state (moment - standing.since)) standing
-        (half_open_permission config (moved state.HalfOpen moment standing) [] tickets) (record { given = false; standing = standing })
-        (near_one state.HalfOpen moment standing) (near_none standing 1)
+    (half_open_permission config (moved state.HalfOpen moment standing) [] tickets) (record { given = false; standing = standing })
+    (near_one state.HalfOpen moment standing) (near_none standing 1)
 permission_near state.HalfOpen config standing notes tickets moment = near_none standing 1
 
 placed_near : (s : Situation) (before : Standing) (standing : Standing) → IsNear before standing 1 → DecidesNear before (placed s standing)
 placed_near s before standing near =
     either_near (nat_le s.config.max_concurrent_calls (length s.open_tickets)) before
-        (refused standing refusal.BulkheadFull)
-        (record { reply = reply.Permitted s.next_ticket (current_version s) standing.state; next = standing })
-        near near
+    (refused standing refusal.BulkheadFull)
+    (record { reply = reply.Permitted s.next_ticket (current_version s) standing.state; next = standing })
+    near near
 
 admitted_near : (s : Situation) (before : Standing) (permission : Permission) → IsNear before permission.standing 1 → DecidesNear before (admitted s permission)
 admitted_near s before permission near =
     either_near permission.given before (placed s permission.standing) (refused permission.standing refusal.CallNotPermitted)
-        (placed_near s before permission.standing near) near
+    (placed_near s before permission.standing near) near
 
 acquired_near : (s : Situation) (moment : ℕ) → DecidesNear s.standing (acquired s moment)
 acquired_near s moment = admitted_near s s.standing _ (permission_near s.standing.state s.config s.standing s.notes s.open_tickets moment)
@@ -108,8 +105,8 @@ finished_by_near : (s : Situation) (moment : ℕ) (ticket : OpenTicket) (work : 
 finished_by_near s moment ticket work None = near_none s.standing 1
 finished_by_near s moment ticket work (Some program) =
     either_near (same_program work.program program) s.standing (concluded s moment ticket work.outcome (judgement program work.outcome)) (refused s.standing refusal.Stranger)
-        (next_by_near (fate_of s.standing ticket (judgement program work.outcome).verdict) s.config moment s.standing s.notes _)
-        (near_none s.standing 1)
+    (next_by_near (fate_of s.standing ticket (judgement program work.outcome).verdict) s.config moment s.standing s.notes _)
+    (near_none s.standing 1)
 
 finished_under_near : (s : Situation) (moment : ℕ) (work : Work) (ticket : Option OpenTicket) → DecidesNear s.standing (finished_under s moment work ticket)
 finished_under_near s moment work None = near_none s.standing 1
@@ -123,13 +120,13 @@ decided_near : (s : Situation) (moment : ℕ) (event : Happening) → DecidesNea
 decided_near s moment acquires = acquired_near s moment
 decided_near s moment (finishes work ticket) =
     either_near (is_issued s ticket) s.standing (finished_under s moment work (open_ticket s.open_tickets ticket)) (refused s.standing refusal.NoTicket)
-        (finished_under_near s moment work (open_ticket s.open_tickets ticket)) (near_none s.standing 1)
+    (finished_under_near s moment work (open_ticket s.open_tickets ticket)) (near_none s.standing 1)
 decided_near s moment (releases ticket) =
     either_near (is_issued s ticket) s.standing (released_under s (open_ticket s.open_tickets ticket)) (refused s.standing refusal.NoTicket)
-        (released_under_near s (open_ticket s.open_tickets ticket)) (near_none s.standing 1)
+    (released_under_near s (open_ticket s.open_tickets ticket)) (near_none s.standing 1)
 decided_near s moment (installs program) =
     either_near (nat_le 256 (length s.programs)) s.standing (refused s.standing refusal.VersionsFull) (record { reply = reply.Installed (s.first_version + length s.programs) program.budget; next = s.standing })
-        (near_none s.standing 1) (near_none s.standing 1)
+    (near_none s.standing 1) (near_none s.standing 1)
 decided_near s moment (moves to) = near_one to moment s.standing
 decided_near s moment resets = near_one state.Closed moment s.standing
 
@@ -197,12 +194,12 @@ acquired_shape : (s : Situation) (moment : ℕ) → used s ≤ 65534 → Shape s
 acquired_shape s moment room =
     let permission : Permission = permission_in s.standing.state s.config s.standing s.notes s.open_tickets moment in
     either_shape permission.given s acquires (placed s permission.standing) (refused permission.standing refusal.CallNotPermitted)
-        (λ g. either_shape (nat_le s.config.max_concurrent_calls (length s.open_tickets)) s acquires
-            (refused permission.standing refusal.BulkheadFull)
-            (record { reply = reply.Permitted s.next_ticket (current_version s) permission.standing.state; next = permission.standing })
-            (λ f. refused_shape s acquires permission.standing refusal.BulkheadFull (omega arith))
-            (λ f. permits (current_version s) permission.standing.state refl refl room (leb-false s.config.max_concurrent_calls (length s.open_tickets) f) (permission_given s moment s.standing.state refl g)))
-        (λ g. refused_shape s acquires permission.standing refusal.CallNotPermitted (omega arith))
+    (λ g. either_shape (nat_le s.config.max_concurrent_calls (length s.open_tickets)) s acquires
+    (refused permission.standing refusal.BulkheadFull)
+    (record { reply = reply.Permitted s.next_ticket (current_version s) permission.standing.state; next = permission.standing })
+    (λ f. refused_shape s acquires permission.standing refusal.BulkheadFull (omega arith))
+    (λ f. permits (current_version s) permission.standing.state refl refl room (leb-false s.config.max_concurrent_calls (length s.open_tickets) f) (permission_given s moment s.standing.state refl g)))
+    (λ g. refused_shape s acquires permission.standing refusal.CallNotPermitted (omega arith))
 
 found_head : (t ticket : OpenTicket) (b rest : Bool) (later : Option OpenTicket) → (later ≡ Some ticket → rest ≡ true) → (if b then Some t else later) ≡ Some ticket → (b || rest) ≡ true
 found_head t ticket true rest later on h = refl
@@ -270,9 +267,9 @@ finished_by_shape s moment t work ticket (Some program) there found =
     let j : Judgement = judgement program work.outcome in
     let d : Decision = concluded s moment t work.outcome j in
     either_shape (same_program work.program program) s (finishes work ticket) d (refused s.standing refusal.Stranger)
-        (λ e. concludes work ticket (fate_of s.standing t j.verdict) j.verdict j.steps t.version d.next.state refl refl there
-            (λ r. (t, found, recorded_fate s.standing t j.verdict (t.period == s.standing.period) refl r, unignored (t.period == s.standing.period) (is_disabled s.standing.state) j.verdict r)))
-        (λ e. unentered_shape s (finishes work ticket) s.standing refusal.Stranger refl)
+    (λ e. concludes work ticket (fate_of s.standing t j.verdict) j.verdict j.steps t.version d.next.state refl refl there
+    (λ r. (t, found, recorded_fate s.standing t j.verdict (t.period == s.standing.period) refl r, unignored (t.period == s.standing.period) (is_disabled s.standing.state) j.verdict r)))
+    (λ e. unentered_shape s (finishes work ticket) s.standing refusal.Stranger refl)
 
 finished_under_shape : (s : Situation) (moment : ℕ) (work : Work) (ticket : ℕ) (found : Option OpenTicket)
     → (nat_lt 65535 (used s) && not (is_open s.open_tickets ticket)) ≡ false → open_ticket s.open_tickets ticket ≡ found → Shape s (finishes work ticket) (finished_under s moment work found)
@@ -282,8 +279,8 @@ finished_under_shape s moment work ticket (Some t) full e = finished_by_shape s 
 finished_shape : (s : Situation) (moment : ℕ) (work : Work) (ticket : ℕ) → (nat_lt 65535 (used s) && not (is_open s.open_tickets ticket)) ≡ false → OpenAreIssued s → Shape s (finishes work ticket) (finished s moment work ticket)
 finished_shape s moment work ticket full issued =
     either_shape (is_issued s ticket) s (finishes work ticket) (finished_under s moment work (open_ticket s.open_tickets ticket)) (refused s.standing refusal.NoTicket)
-        (λ e. finished_under_shape s moment work ticket (open_ticket s.open_tickets ticket) full refl)
-        (λ e. refused_shape s (finishes work ticket) s.standing refusal.NoTicket (closed_room s ticket full (unissued_closed s ticket issued e)))
+    (λ e. finished_under_shape s moment work ticket (open_ticket s.open_tickets ticket) full refl)
+    (λ e. refused_shape s (finishes work ticket) s.standing refusal.NoTicket (closed_room s ticket full (unissued_closed s ticket issued e)))
 
 released_under_shape : (s : Situation) (ticket : ℕ) (found : Option OpenTicket)
     → (nat_lt 65535 (used s) && not (is_open s.open_tickets ticket)) ≡ false → open_ticket s.open_tickets ticket ≡ found → Shape s (releases ticket) (released_under s found)
@@ -293,15 +290,15 @@ released_under_shape s ticket (Some t) full e = lets_go ticket s.standing.state 
 released_shape : (s : Situation) (ticket : ℕ) → (nat_lt 65535 (used s) && not (is_open s.open_tickets ticket)) ≡ false → OpenAreIssued s → Shape s (releases ticket) (released s ticket)
 released_shape s ticket full issued =
     either_shape (is_issued s ticket) s (releases ticket) (released_under s (open_ticket s.open_tickets ticket)) (refused s.standing refusal.NoTicket)
-        (λ e. released_under_shape s ticket (open_ticket s.open_tickets ticket) full refl)
-        (λ e. refused_shape s (releases ticket) s.standing refusal.NoTicket (closed_room s ticket full (unissued_closed s ticket issued e)))
+    (λ e. released_under_shape s ticket (open_ticket s.open_tickets ticket) full refl)
+    (λ e. refused_shape s (releases ticket) s.standing refusal.NoTicket (closed_room s ticket full (unissued_closed s ticket issued e)))
 
 installed_shape : (s : Situation) (program : VerifiedProgram) → used s ≤ 65535 → Shape s (installs program) (installed s program)
 installed_shape s program room =
     either_shape (nat_le 256 (length s.programs)) s (installs program) (refused s.standing refusal.VersionsFull)
-        (record { reply = reply.Installed (s.first_version + length s.programs) program.budget; next = s.standing })
-        (λ e. unentered_shape s (installs program) s.standing refusal.VersionsFull refl)
-        (λ e. takes_in program (s.first_version + length s.programs) program.budget refl refl (leb-false 256 (length s.programs) e) room)
+    (record { reply = reply.Installed (s.first_version + length s.programs) program.budget; next = s.standing })
+    (λ e. unentered_shape s (installs program) s.standing refusal.VersionsFull refl)
+    (λ e. takes_in program (s.first_version + length s.programs) program.budget refl refl (leb-false 256 (length s.programs) e) room)
 
 decided_shape : (s : Situation) (moment : ℕ) (event : Happening) → is_full s event ≡ false → OpenAreIssued s → Shape s event (decided s moment event)
 decided_shape s moment acquires full issued = acquired_shape s moment (ltb-false 65534 (used s) full)
@@ -319,5 +316,5 @@ pub decision_shape : (s : Situation) (moment : ℕ) (event : Happening) → bad_
 unfolding decision
 decision_shape s moment event good issued =
     either_shape (is_full s event) s event (refused s.standing refusal.JournalFull) (decided (at_moment s moment) moment event)
-        (λ e. unentered_shape s event s.standing refusal.JournalFull refl)
-        (λ e. full_or_decided s (at_moment s moment) moment event (no_stay s moment good) e issued)
+    (λ e. unentered_shape s event s.standing refusal.JournalFull refl)
+    (λ e. full_or_decided s (at_moment s moment) moment event (no_stay s moment good) e issued)

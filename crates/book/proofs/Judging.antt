@@ -1,12 +1,11 @@
 -- The verdict of a safe program is the meaning's, and judged work carries it.
-use Rattle.std.proofs.Common.{◌≡◌, ℕ, zero, suc, ◌+◌, ◌≤◌, ◌<◌, List, Option, Some, None, Result, Ok, arith, refl, ap, sym, ◌∙◌, subst}
+use Rattle.std.proofs.Common.{◌≡◌, ℕ, zero, suc, ◌<◌, List, Option, Some, Ok, arith, refl, ap, sym, ◌∙◌, subst}
 use Rattle.std.specs.Option.{option_map_or}
-use Rattle.bpf_profile.specs.declared.machine.TrapReason.{TrapReason}
 use Rattle.bpf_profile.specs.declared.machine.Verdict.{Verdict}
 use Rattle.bpf_profile.specs.declared.machine.Verdict.TheVariants as verdict
 use Rattle.bpf_profile.specs.declared.slot.Slot.{Slot}
-use Rattle.bpf_profile.specs.Machine.{State, Effect, goes, answers}
-use Rattle.bpf_profile.specs.Meaning.{step, entry, Reaches, Ends, Judges, answer_of}
+use Rattle.bpf_profile.specs.Machine.{State, answers}
+use Rattle.bpf_profile.specs.Meaning.{step, entry, Reaches, Judges, answer_of}
 use Rattle.bpf_profile.specs.Outcomes.{Outcome, IsOutcome}
 use Rattle.bpf_profile.specs.Safety.{IsSafe}
 use Rattle.bpf_profile.specs.Spelling.{Spells}

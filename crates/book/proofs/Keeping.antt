@@ -1,31 +1,29 @@
 -- Every legal history stays sound with one line more.
-use Rattle.std.proofs.Common.{◌≡◌, ℕ, zero, suc, ◌+◌, ◌*◌, ◌^◌, ◌≤◌, ◌<◌, ◌==◌, nat_le, nat_lt, max, ◌&&◌, ◌||◌, not, Bool, true, false, cond, if◌then◌else◌, List, [], ◌∷◌, ◌++◌, map, length, Option, Some, None, option_to_list, arith, refl, ap, sym, ◌∙◌, subst, length-append, append-nil}
-use Rattle.std.specs.List.{filter, filter_map, fold, list_any, AllByRecursion}
-use Rattle.std.proofs.lemmas.Bool.{le-leb, lt-ltb, lt-leb}
+use Rattle.std.proofs.Common.{◌≡◌, ℕ, ◌+◌, ◌^◌, ◌≤◌, ◌<◌, ◌==◌, nat_le, nat_lt, ◌&&◌, ◌||◌, not, Bool, true, false, List, [], ◌∷◌, ◌++◌, length, Option, Some, None, option_to_list, arith, refl, ap, sym, ◌∙◌, subst, length-append, append-nil}
+use Rattle.std.specs.List.{filter, AllByRecursion}
+use Rattle.std.proofs.lemmas.Bool.{le-leb, lt-ltb}
 use Rattle.std.proofs.lemmas.Bool.Decides.{Decides-eqb}
 use Rattle.verifier.specs.Programs.{VerifiedProgram}
-use Rattle.bpf_run.specs.JudgedWork.{Work}
 use Rattle.refusals.specs.declared.RefusalNumber.{RefusalNumber}
 use Rattle.book.specs.declared.breaker.Standing.{Standing}
 use Rattle.book.specs.declared.machine.Decision.{Decision}
 use Rattle.book.specs.declared.registry.OpenTicket.{OpenTicket}
 use Rattle.book.specs.declared.replies.Reply.{Reply}
 use Rattle.book.specs.declared.replies.Reply.TheVariants as reply
-use Rattle.book.specs.Events.{Happening, acquires, finishes, releases, installs, moves, resets, Line, Opening}
-use Rattle.book.specs.declared.windows.Note.{Note}
-use Rattle.book.specs.Following.{is_number, tickets_after, one_where_some, notes_after, refused_after}
-use Rattle.book.specs.Histories.{Stage, Past, issue_by, issue_at, end_by, end_at, issued, ended, open_of, install_by, install_at, programs_of, notes_of, situation_of, situation_after, machine, passed, greatest, Follows}
-use Rattle.book.specs.Machine.{Situation, used, is_open, is_issued, is_entered, is_entered_refusal, decision}
+use Rattle.book.specs.Events.{Happening, acquires, finishes, releases, installs, moves, resets, Line}
+use Rattle.book.specs.Following.{is_number, tickets_after, one_where_some, notes_after}
+use Rattle.book.specs.Histories.{Stage, Past, issue_by, end_by, end_at, ended, open_of, install_by, install_at, programs_of, notes_of, situation_of, situation_after, machine, passed, Follows}
+use Rattle.book.specs.Machine.{Situation, used, is_open, is_entered}
 use Rattle.book.specs.Safe.{IsAccepted, AreAccepted, InstallsAccepted}
-use Rattle.book.specs.Sound.{IsOpening, IsSound, next_ticket}
-use Rattle.book.proofs.Deciding.{Shape, refuses, permits, concludes, lets_go, takes_in, turns, decision_shape, decision_near, IsNear, OpenAreIssued}
+use Rattle.book.specs.Sound.{IsSound, next_ticket}
+use Rattle.book.proofs.Deciding.{Shape, refuses, permits, concludes, lets_go, takes_in, turns, decision_shape, decision_near, OpenAreIssued}
 use Rattle.book.specs.Histories.{note_by}
 use Rattle.book.specs.Machine.{permissions_held}
 use Rattle.book.specs.Standings.{is_half_open}
 use Rattle.book.proofs.Configured.{ranges, within_least}
 use Rattle.book.proofs.Permissions.{permissions_after}
 use Rattle.book.proofs.Lists.{all_kept, all_kept_by, fewer_kept, map_with, all_append, all_weaken}
-use Rattle.book.proofs.Passing.{AreBefore, IsFresh, notes_step, open_step, issued_step, refused_step, greatest_step}
+use Rattle.book.proofs.Passing.{AreBefore, IsFresh, notes_step, open_step, issued_step, greatest_step}
 
 end_refused : (event : Happening) (number : RefusalNumber) → end_by event (reply.Refused number) ≡ None
 end_refused acquires number = refl
@@ -284,8 +282,8 @@ permissions_step past line sound follows half =
     let d : Decision = machine past line.moment line.event in
     let near = decision_near (situation_of past) line.moment line.event in
     let notes : notes_of (passed past line) ≡ notes_after past.standing d.next (notes_of past) (note_by past.opening.config line.moment line.event d.reply) =
-        notes_step past.opening.config past.stages (stage_of past line) sound.periods near.least
-        ∙ ap (λ (r : Reply). notes_after past.standing d.next (notes_of past) (note_by past.opening.config line.moment line.event r)) follows.replied in
+    notes_step past.opening.config past.stages (stage_of past line) sound.periods near.least
+    ∙ ap (λ (r : Reply). notes_after past.standing d.next (notes_of past) (note_by past.opening.config line.moment line.event r)) follows.replied in
     let after = permissions_after (situation_of past) line.event d line.moment (shape_there past line sound) near sound.ticket_periods (some_permitted past sound) sound.permissions half in
     omega (arith, after, ap length notes, ap (permissions_held d.next.period) (tickets_there past line sound follows))
 

@@ -1,5 +1,5 @@
 -- What every legal history keeps.
-use Rattle.std.proofs.Common.{◌≡◌, ℕ, zero, suc, ◌+◌, ◌≤◌, ◌<◌, ◌==◌, ◌&&◌, ◌||◌, not, Bool, true, false, cond, List, [], ◌∷◌, ◌++◌, length, slice_get, Option, Some, None, arith, refl, ap, sym, ◌∙◌, subst, length-append}
+use Rattle.std.proofs.Common.{◌≡◌, ℕ, zero, suc, ◌+◌, ◌≤◌, ◌==◌, not, Bool, true, false, cond, List, [], ◌∷◌, length, slice_get, Option, Some, None, arith, refl, ap, sym, ◌∙◌, length-append}
 use Rattle.std.specs.List.{filter, fold, AllByRecursion}
 use Rattle.bpf_profile.specs.declared.machine.Verdict.TheVariants as verdict
 use Rattle.std.proofs.lemmas.Bool.Decides.{Decides-eqb}
@@ -11,8 +11,6 @@ use Rattle.book.specs.declared.replies.Fate.TheVariants as fate
 use Rattle.book.specs.declared.replies.Reply.{Reply}
 use Rattle.book.specs.declared.replies.Reply.TheVariants as reply
 use Rattle.book.specs.declared.states.State.{State}
-use Rattle.book.specs.declared.windows.Note.{Note}
-use Rattle.book.specs.Books.{history_of}
 use Rattle.book.specs.Events.{Happening, acquires, finishes, releases, installs, moves, resets, Line, Opening, History}
 use Rattle.book.specs.Histories.{Stage, Past, note_by, ended, issued, is_listed, open_of, opened, passed, past_of, next_line, situation_of, machine, Follows, AreLegal, IsLegal}
 use Rattle.book.specs.Laws.{IsLine, IsService}
@@ -63,8 +61,8 @@ spent_closed : (numbers : List ℕ) (number : ℕ) (tickets : List OpenTicket) �
 spent_closed numbers number [] listed = refl
 spent_closed numbers number (t ∷ tickets) listed =
     closed_head t number (not (is_listed numbers t.number)) (t.number == number) false (filter (λ (u : OpenTicket). not (is_listed numbers u.number)) tickets) refl
-        (λ e. let same : t.number ≡ number = (Decides-eqb t.number number).0 e in ap not (ap (is_listed numbers) same ∙ listed))
-        (spent_closed numbers number tickets listed)
+    (λ e. let same : t.number ≡ number = (Decides-eqb t.number number).0 e in ap not (ap (is_listed numbers) same ∙ listed))
+    (spent_closed numbers number tickets listed)
 
 pub spent_not_open : (stages : List Stage) (number : ℕ) → is_listed (ended stages) number ≡ true → is_open (open_of stages) number ≡ false
 spent_not_open stages number listed = spent_closed (ended stages) number (issued stages) listed

@@ -1,10 +1,9 @@
 -- A book that has just been opened, and what any book shows.
-use Rattle.std.proofs.Common.{◌≡◌, ℕ, zero, suc, ◌+◌, ◌-◌, ◌*◌, ◌^◌, ◌≤◌, ◌<◌, ◌⊎◌, inl, inr, List, [], ◌∷◌, ◌++◌, map, length, Option, Some, None, Result, Ok, Err, arith, refl, ap, sym, ◌∙◌, subst}
+use Rattle.std.proofs.Common.{◌≡◌, ℕ, ◌+◌, ◌≤◌, ◌<◌, ◌⊎◌, inl, inr, List, [], ◌∷◌, map, length, Some, None, Result, Ok, Err, arith, refl, ap, sym, ◌∙◌}
 use Rattle.std.specs.Arc.{arc_value}
 use Rattle.book.specs.Safe.{IsAccepted}
 use Rattle.refusals.specs.declared.RefusalNumber.{RefusalNumber}
 use Rattle.refusals.specs.declared.RefusalNumber.TheVariants as refusal
-use Rattle.verifier.specs.Analysis.{context_size}
 use Rattle.verifier.specs.Programs.{VerifiedProgram}
 use Rattle.book.specs.declared.breaker.Breaker.{Breaker}
 use Rattle.book.specs.declared.configuration.ConfigParts.{ConfigParts}
@@ -13,8 +12,8 @@ use Rattle.book.specs.declared.states.State.TheVariants as state
 use Rattle.book.specs.Answers.{IsLooked, looks, no_owner, looked, looked_under}
 use Rattle.book.specs.Books.{history_of, first_opening, IsBook}
 use Rattle.book.specs.Configuration.{bad_field}
-use Rattle.book.specs.Events.{Line, Opening, History}
-use Rattle.book.specs.Histories.{Past, opened, past_of, situation_of, next_line, refused_of, greatest, IsLegal}
+use Rattle.book.specs.Events.{Line, Opening}
+use Rattle.book.specs.Histories.{opened, past_of, situation_of, next_line, IsLegal}
 use Rattle.book.specs.declared.registry.OpenTicket.{OpenTicket}
 use Rattle.std.proofs.lemmas.Bool.{le-leb, lt-ltb}
 use Rattle.book.specs.Machine.{Situation, open_ticket}

@@ -1,6 +1,6 @@
 -- What one line more changes in what a history says.
-use Rattle.std.proofs.Common.{◌≡◌, ℕ, zero, suc, ◌+◌, ◌*◌, ◌≤◌, ◌<◌, ◌==◌, max, ◌&&◌, ◌||◌, not, Bool, true, false, cond, if◌then◌else◌, List, [], ◌∷◌, ◌++◌, map, length, Option, Some, None, option_to_list, arith, refl, ap, sym, ◌∙◌, subst, length-append, append-nil}
-use Rattle.std.specs.List.{filter, filter_map, fold, list_any, AllByRecursion}
+use Rattle.std.proofs.Common.{◌≡◌, ℕ, ◌+◌, ◌≤◌, ◌<◌, ◌==◌, max, ◌&&◌, ◌||◌, not, Bool, true, false, cond, if◌then◌else◌, List, [], ◌∷◌, ◌++◌, map, length, Option, Some, None, option_to_list, arith, refl, ap, sym, ◌∙◌, length-append, append-nil}
+use Rattle.std.specs.List.{filter, filter_map, fold, AllByRecursion}
 use Rattle.std.proofs.lemmas.Bool.Decides.{Decides-eqb, not_from_Decides}
 use Rattle.std.proofs.Math.Arith.{lt_of_le-ne}
 use Rattle.std.proofs.lemmas.List.{map-append}
@@ -8,16 +8,11 @@ use Rattle.std.proofs.lemmas.List.Elements.{filter-append}
 use Rattle.std.proofs.lemmas.List.Folds.{list_any-append}
 use Rattle.std.proofs.lemmas.List.Sums.{fold-append}
 use Rattle.std.proofs.Math.Nat.{max-eq_right}
-use Rattle.verifier.specs.Programs.{VerifiedProgram}
-use Rattle.book.specs.declared.breaker.Standing.{Standing}
 use Rattle.book.specs.declared.configuration.ConfigParts.{ConfigParts}
 use Rattle.book.specs.declared.registry.OpenTicket.{OpenTicket}
-use Rattle.book.specs.declared.replies.Reply.{Reply}
-use Rattle.book.specs.declared.windows.Note.{Note}
-use Rattle.book.specs.Events.{Happening, Line, Opening}
 use Rattle.book.specs.Following.{notes_after, is_number, tickets_after, one_where_some, is_refused_call, refused_after}
-use Rattle.book.specs.Histories.{Stage, Past, note_by, note_at, taken_in, issue_by, issue_at, end_by, end_at, issued, ended, is_listed, open_of, install_by, install_at, refused_in}
-use Rattle.book.proofs.Lists.{none_kept, all_kept_by, kept_again, same_kept, map_with, one_kept, one_dropped, all_append, all_weaken}
+use Rattle.book.specs.Histories.{Stage, note_at, taken_in, issue_at, end_at, issued, ended, is_listed, open_of, refused_in}
+use Rattle.book.proofs.Lists.{none_kept, kept_again, same_kept, map_with, one_kept, one_dropped}
 
 -- no stage was taken in a later period than this, nor led to one
 abbrev pub AreBefore : ℕ → List Stage → Type 0
@@ -47,7 +42,7 @@ strictly a b h t = lt_of_le-ne h (λ e. not_from_Decides (b == a) (Decides-eqb b
 
 notes_by : (test : Bool) (config : ConfigParts) (stages : List Stage) (stage : Stage) → AreBefore stage.before.period stages → stage.before.period ≤ stage.after.period → (stage.after.period == stage.before.period) ≡ test
     → filter_map (note_at config) (taken_in stage.after.period (stages ++ stage ∷ []))
-        ≡ (if test then filter_map (note_at config) (taken_in stage.before.period stages) ++ option_to_list (note_at config stage) else [])
+    ≡ (if test then filter_map (note_at config) (taken_in stage.before.period stages) ++ option_to_list (note_at config stage) else [])
 notes_by true config stages stage before le e =
     let same : stage.after.period ≡ stage.before.period = (Decides-eqb _ _).0 e in
     let split = filter-append (λ (s : Stage). s.before.period == stage.before.period) stages (stage ∷ []) in
@@ -64,7 +59,7 @@ notes_by false config stages stage before le e =
 
 pub notes_step : (config : ConfigParts) (stages : List Stage) (stage : Stage) → AreBefore stage.before.period stages → stage.before.period ≤ stage.after.period
     → filter_map (note_at config) (taken_in stage.after.period (stages ++ stage ∷ []))
-        ≡ notes_after stage.before stage.after (filter_map (note_at config) (taken_in stage.before.period stages)) (note_at config stage)
+    ≡ notes_after stage.before stage.after (filter_map (note_at config) (taken_in stage.before.period stages)) (note_at config stage)
 notes_step config stages stage before le = notes_by (stage.after.period == stage.before.period) config stages stage before le refl
 
 -- ---- refused calls
@@ -141,7 +136,7 @@ fresh_kept numbers next end_ None h fresh = refl
 fresh_kept numbers next end_ (Some ticket) h fresh =
     let new = fresh.number ticket refl in
     let unended : is_listed (numbers ++ option_to_list end_) ticket.number ≡ false =
-        rw (new.0, new.1) (ap (λ (ns : List ℕ). is_listed ns next) (append-nil numbers) ∙ unlisted next numbers h) in
+    rw (new.0, new.1) (ap (λ (ns : List ℕ). is_listed ns next) (append-nil numbers) ∙ unlisted next numbers h) in
     one_kept (λ (t : OpenTicket). not (is_listed (numbers ++ option_to_list end_) t.number)) ticket (ap not unended)
 
 pub open_step : (stages : List Stage) (stage : Stage) (next : ℕ) → AllByRecursion (λ number. number < next) (ended stages) → IsFresh next (end_at stage) (issue_at stage)
@@ -156,8 +151,8 @@ open_step stages stage next h fresh =
     ∙ filter-append (test now) (issued stages) (option_to_list (issue_at stage))
     ∙ ap (λ (xs : List OpenTicket). filter (test now) (issued stages) ++ xs) (fresh_kept (ended stages) next (end_at stage) (issue_at stage) h fresh)
     ∙ ap (λ (xs : List OpenTicket). xs ++ option_to_list (issue_at stage))
-        (same_kept (test now) (λ (t : OpenTicket). not (is_listed (ended stages) t.number) && not (is_number (end_at stage) t.number)) (λ t. listed_step (ended stages) (end_at stage) t.number) (issued stages)
-        ∙ kept_again (λ (t : OpenTicket). not (is_listed (ended stages) t.number)) (λ (t : OpenTicket). not (is_number (end_at stage) t.number)) (issued stages))
+    (same_kept (test now) (λ (t : OpenTicket). not (is_listed (ended stages) t.number) && not (is_number (end_at stage) t.number)) (λ t. listed_step (ended stages) (end_at stage) t.number) (issued stages)
+    ∙ kept_again (λ (t : OpenTicket). not (is_listed (ended stages) t.number)) (λ (t : OpenTicket). not (is_number (end_at stage) t.number)) (issued stages))
 
 length_of_option : {A : Type 0} (o : Option A) → length (option_to_list o) ≡ one_where_some o
 length_of_option None = refl

@@ -1,5 +1,5 @@
 -- In HALF_OPEN the permissions that are held and the notes are never more than the permitted number.
-use Rattle.std.proofs.Common.{◌≡◌, ℕ, zero, suc, ◌+◌, ◌≤◌, ◌<◌, ◌==◌, ◌&&◌, ◌||◌, not, Bool, true, false, cond, if◌then◌else◌, List, [], ◌∷◌, ◌++◌, length, Option, Some, None, option_to_list, arith, refl, ap, sym, ◌∙◌, subst, length-append, append-nil}
+use Rattle.std.proofs.Common.{◌≡◌, ℕ, ◌+◌, ◌≤◌, ◌<◌, ◌==◌, not, Bool, true, false, cond, if◌then◌else◌, List, [], ◌∷◌, ◌++◌, length, Option, Some, None, option_to_list, arith, refl, ap, sym, ◌∙◌, subst, length-append, append-nil}
 use Rattle.std.specs.List.{filter, AllByRecursion}
 use Rattle.std.proofs.lemmas.Bool.Decides.{Decides-eqb}
 use Rattle.std.proofs.lemmas.List.Elements.{filter-append}
@@ -19,7 +19,7 @@ use Rattle.book.specs.declared.windows.Note.{Note}
 use Rattle.book.specs.Events.{Happening, acquires, finishes, releases, installs, moves, resets}
 use Rattle.book.specs.Following.{notes_after, is_number, tickets_after}
 use Rattle.book.specs.Histories.{note_by, issue_by, end_by}
-use Rattle.book.specs.Machine.{Situation, permissions_held, open_ticket, is_open}
+use Rattle.book.specs.Machine.{Situation, permissions_held, open_ticket}
 use Rattle.book.specs.Standings.{is_half_open}
 use Rattle.book.proofs.Deciding.{Shape, refuses, permits, concludes, lets_go, takes_in, turns, IsNear, IsPresent}
 use Rattle.book.proofs.Lists.{length_filter_le, all_kept, all_kept_by, none_kept}
@@ -63,7 +63,7 @@ held_dropped : (period number : ℕ) (xs : List OpenTicket) (t : OpenTicket) →
 held_dropped period number [] t e f = let bad : ◌≡◌ {A = Option OpenTicket} None (Some t) = e in cc
 held_dropped period number (x ∷ xs) t e f =
     dropped_count (x.period == period) (x.number == number) (filter (λ (u : OpenTicket). not (u.number == number)) xs) xs x t (open_ticket xs number) (λ (u : OpenTicket). u.period == period) refl
-        ((Decides-eqb t.period period).1 f) (held_kept period (λ (u : OpenTicket). not (u.number == number)) xs) (λ g. held_dropped period number xs t g f) e
+    ((Decides-eqb t.period period).1 f) (held_kept period (λ (u : OpenTicket). not (u.number == number)) xs) (λ g. held_dropped period number xs t g f) e
 
 held_after_none : (period : ℕ) (tickets : List OpenTicket) → permissions_held period (tickets_after tickets None None) ≡ permissions_held period tickets
 held_after_none period tickets = ap (permissions_held period) (append-nil (filter (λ (t : OpenTicket). not false) tickets) ∙ all_kept tickets)
@@ -161,7 +161,7 @@ held_later : (period later : ℕ) (tickets : List OpenTicket) (e : Option ℕ) (
 held_later period later tickets e o all less =
     let kept : List OpenTicket = filter (λ (t : OpenTicket). not (is_number e t.number)) tickets in
     let none = none_kept (λ (t : OpenTicket). t.period == later) (λ (t : OpenTicket). t.period ≤ period) (λ t h. eqb_false t.period later (omega (arith, h, less))) kept
-        (all_kept_by (λ (t : OpenTicket). t.period ≤ period) (λ (t : OpenTicket). not (is_number e t.number)) tickets all) in
+    (all_kept_by (λ (t : OpenTicket). t.period ≤ period) (λ (t : OpenTicket). not (is_number e t.number)) tickets all) in
     omega (arith, held_append later kept (option_to_list o), ap length none, held_option later o)
 
 by_period : (s : Situation) (event : Happening) (d : Decision) (moment : ℕ) (test : Bool) → (d.next.period == s.standing.period) ≡ test → Shape s event d → IsNear s.standing d.next 2
@@ -169,13 +169,13 @@ by_period : (s : Situation) (event : Happening) (d : Decision) (moment : ℕ) (t
     → (is_half_open s.standing.state ≡ true → permissions_held s.standing.period s.open_tickets + length s.notes ≤ s.config.permitted_number_of_calls_in_half_open_state)
     → is_half_open d.next.state ≡ true
     → permissions_held d.next.period (tickets_after s.open_tickets (end_by event d.reply) (issue_by d.reply d.next.period))
-        + length (if test then s.notes ++ option_to_list (note_by s.config moment event d.reply) else []) ≤ s.config.permitted_number_of_calls_in_half_open_state
+    + length (if test then s.notes ++ option_to_list (note_by s.config moment event d.reply) else []) ≤ s.config.permitted_number_of_calls_in_half_open_state
 by_period s event d moment true e shape near all some old half =
     let period : d.next.period ≡ s.standing.period = (Decides-eqb _ _).0 e in
     let same = near.same period in
     let before = old (ap (λ (x : Standing). is_half_open x.state) (sym same) ∙ half) in
     subst (λ (q : ℕ). permissions_held q (tickets_after s.open_tickets (end_by event d.reply) (issue_by d.reply d.next.period)) + length (s.notes ++ option_to_list (note_by s.config moment event d.reply)) ≤ s.config.permitted_number_of_calls_in_half_open_state)
-        (sym period) (left_there s event d moment shape same half before)
+    (sym period) (left_there s event d moment shape same half before)
 by_period s event d moment false e shape near all some old half =
     let later = strictly s.standing.period d.next.period near.least e in
     omega (arith, some, held_later s.standing.period d.next.period s.open_tickets (end_by event d.reply) (issue_by d.reply d.next.period) all later)
@@ -185,5 +185,5 @@ pub permissions_after : (s : Situation) (event : Happening) (d : Decision) (mome
     → (is_half_open s.standing.state ≡ true → permissions_held s.standing.period s.open_tickets + length s.notes ≤ s.config.permitted_number_of_calls_in_half_open_state)
     → is_half_open d.next.state ≡ true
     → permissions_held d.next.period (tickets_after s.open_tickets (end_by event d.reply) (issue_by d.reply d.next.period))
-        + length (notes_after s.standing d.next s.notes (note_by s.config moment event d.reply)) ≤ s.config.permitted_number_of_calls_in_half_open_state
+    + length (notes_after s.standing d.next s.notes (note_by s.config moment event d.reply)) ≤ s.config.permitted_number_of_calls_in_half_open_state
 permissions_after s event d moment shape near all some old half = by_period s event d moment (d.next.period == s.standing.period) refl shape near all some old half

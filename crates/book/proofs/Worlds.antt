@@ -1,14 +1,13 @@
 -- Whatever steps are taken, in any order, each answer is the documented machine's on the meaning's verdicts, and the history stays legal.
-use Rattle.std.proofs.Common.{◌≡◌, ℕ, zero, suc, ◌+◌, ◌-◌, ◌*◌, ◌^◌, ◌≤◌, ◌<◌, ◌==◌, max, nat_le, nat_lt, ◌||◌, Bool, true, false, cond, if◌then◌else◌, List, [], ◌∷◌, ◌++◌, map, length, slice_get, Option, Some, None, Result, Ok, Err, arith, refl, ap, sym, ◌∙◌, subst, length-append}
-use Rattle.std.specs.List.{filter_map, fold, AllByRecursion}
+use Rattle.std.proofs.Common.{◌≡◌, ℕ, zero, suc, ◌-◌, ◌^◌, ◌≤◌, ◌<◌, ◌==◌, nat_le, ◌||◌, Bool, true, false, if◌then◌else◌, List, [], ◌∷◌, slice_get, Option, Some, None, Result, Ok, Err, arith, refl, ap, sym, ◌∙◌, subst}
+use Rattle.std.specs.List.{filter_map, AllByRecursion}
 use Rattle.std.proofs.Math.Nat.{le-max_right, max-le}
 use Rattle.std.proofs.lemmas.Bool.{ltb-false}
 use Rattle.std.proofs.lemmas.Slice.Eq.{bytes_eq-Decides}
-use Rattle.bpf_profile.specs.declared.machine.Verdict.{Verdict}
-use Rattle.bpf_profile.specs.Meaning.{Ends, Judges, answer_of}
+use Rattle.bpf_profile.specs.Meaning.{Ends, Judges}
 use Rattle.bpf_profile.specs.Outcomes.{Outcome, IsOutcome}
 use Rattle.bpf_profile.proofs.Runs.{named_answer}
-use Rattle.bpf_run.specs.JudgedWork.{Work, IsTied}
+use Rattle.bpf_run.specs.JudgedWork.{Work}
 use Rattle.refusals.specs.declared.RefusalNumber.{RefusalNumber}
 use Rattle.refusals.specs.declared.RefusalNumber.TheVariants as refusal
 use Rattle.verifier.specs.Analysis.{context_size}
@@ -16,13 +15,11 @@ use Rattle.verifier.specs.Programs.{VerifiedProgram}
 use Rattle.book.specs.declared.machine.Decision.{Decision}
 use Rattle.book.specs.declared.machine.Judgement.{Judgement}
 use Rattle.book.specs.declared.registry.OpenTicket.{OpenTicket}
-use Rattle.book.specs.declared.replies.Reply.{Reply}
-use Rattle.book.specs.Answers.{looked_up, looked_under, looked, reading, with_line, last_of, current_program, is_past_the_limit, is_worn_out, is_some_open, reopened, cut}
-use Rattle.book.specs.Books.{history_of}
-use Rattle.book.specs.Events.{Happening, acquires, finishes, releases, installs, moves, resets, Line, Opening, History}
-use Rattle.book.specs.Histories.{Stage, Past, past_of, opened, passed, situation_of, machine, raised, greatest, next_line, programs_of, install_at, Follows, IsLegal}
-use Rattle.book.specs.Interleavings.{carried_by, carried_under, carried_finish, carried, Hands, World, Step, acquire, look, judge, finish, release, install, move, reset, read, cut_off, Given, Turn, Answering, written, entered_by, answered, happens, holding, with_program, with_work, looking, work_of, judging, finishing, cutting, taken, Act, Course, preceded, course, begun, IsStep, AreSteps, IsJudged, AreHands, IsWorld}
-use Rattle.book.specs.Machine.{Situation, decision, decided, refused, is_full, at_moment, is_issued, open_ticket, program_from, same_program, bytes_of, judged_as, concluded, finished_by, finished_under, finished, is_entered, current_version}
+use Rattle.book.specs.Answers.{looked_up, looked_under, looked, last_of, is_past_the_limit, is_worn_out, is_some_open, reopened, cut}
+use Rattle.book.specs.Events.{Happening, acquires, finishes, releases, installs, moves, resets, Line, Opening}
+use Rattle.book.specs.Histories.{Past, past_of, situation_of, machine, raised, greatest, next_line, install_at, Follows}
+use Rattle.book.specs.Interleavings.{carried_by, carried_under, carried_finish, carried, Hands, World, Step, acquire, look, judge, finish, release, install, move, reset, read, cut_off, Turn, written, entered_by, answered, happens, holding, with_program, with_work, looking, work_of, judging, finishing, cutting, taken, Act, preceded, course, begun, IsStep, AreSteps, IsJudged, AreHands, IsWorld}
+use Rattle.book.specs.Machine.{Situation, decision, refused, is_full, at_moment, is_issued, open_ticket, program_from, same_program, bytes_of, judged_as, concluded, finished_by, finished_under, finished, is_entered, current_version}
 use Rattle.book.specs.Safe.{IsAccepted, AreAccepted, InstallsAccepted}
 use Rattle.book.specs.Sound.{IsOpening, IsSound}
 use Rattle.book.specs.Verdicts.{judgement}
@@ -48,11 +45,11 @@ judgement_judges program outcome accepted_ fits =
 pub same_slots_there : (a b : VerifiedProgram) → IsAccepted a → IsAccepted b → same_program a b ≡ true → a.slots ≡ b.slots
 same_slots_there a b p q e =
     slots_by_bytes a b (bytes_of a) (bytes_of b) (record { program = p.program_there; text = refl }) (record { program = q.program_there; text = refl })
-        ((bytes_eq-Decides (bytes_of a) (bytes_of b)).0 e)
+    ((bytes_eq-Decides (bytes_of a) (bytes_of b)).0 e)
 
 same_answer : (s : Situation) (moment : ℕ) (ticket : OpenTicket) (work : Work) (program : VerifiedProgram) (same : Bool) → same_program work.program program ≡ same → IsJudged work → IsAccepted program
     → (if same then concluded s moment ticket work.outcome (judged_as work) else refused s.standing refusal.Stranger)
-        ≡ (if same then concluded s moment ticket work.outcome (judgement program work.outcome) else refused s.standing refusal.Stranger)
+    ≡ (if same then concluded s moment ticket work.outcome (judgement program work.outcome) else refused s.standing refusal.Stranger)
 same_answer s moment ticket work program true e judged_ accepted_ =
     let slots = same_slots_there work.program program judged_.program accepted_ e in
     let same = judgement_by_slots program work.program.slots work.outcome work.verdict work.steps slots accepted_.safe judged_.outcome judged_.tied in
@@ -92,7 +89,7 @@ pub carried_is : (s : Situation) (moment : ℕ) (work : Work) (ticket : ℕ) →
 unfolding decision
 carried_is s moment work ticket still_ all judged_ =
     ap (λ (d : Decision). if is_full s (finishes work ticket) then refused s.standing refusal.JournalFull else d)
-        (carried_finish_is (at_moment s moment) moment work ticket (at_moment_accepted s moment all still_) judged_)
+    (carried_finish_is (at_moment s moment) moment work ticket (at_moment_accepted s moment all still_) judged_)
 
 -- ---- an event
 
@@ -141,7 +138,7 @@ looked_by false s ticket program all e = let bad : ◌≡◌ {A = Result Verifie
 looking_world : (w : World) (actor : ℕ) (r : Result VerifiedProgram RefusalNumber) → ((p : VerifiedProgram) → r ≡ Ok p → IsAccepted p) → IsWorld w → IsWorld (looking w actor r).world
 looking_world w actor (Ok program) all whole =
     held_world w actor (with_program (w.hands actor) program) whole
-        (record { programs = all_append IsAccepted (w.hands actor).programs (program ∷ []) (whole.hands actor).programs (all program refl, tt); works = (whole.hands actor).works })
+    (record { programs = all_append IsAccepted (w.hands actor).programs (program ∷ []) (whole.hands actor).programs (all program refl, tt); works = (whole.hands actor).works })
 looking_world w actor (Err number) all whole = whole
 
 judging_world : (w : World) (actor : ℕ) (outcome : Outcome) (o : Option VerifiedProgram) → ((p : VerifiedProgram) → o ≡ Some p → IsAccepted p) → IsOutcome context_size outcome → IsWorld w → IsWorld (judging w actor outcome o).world
@@ -149,7 +146,7 @@ judging_world w actor outcome None all fits whole = whole
 judging_world w actor outcome (Some program) all fits whole =
     let judged_ : IsJudged (work_of program outcome) = record { program = all program refl; outcome = fits; tied = judgement_judges program outcome (all program refl) fits } in
     held_world w actor (with_work (w.hands actor) (work_of program outcome)) whole
-        (record { programs = (whole.hands actor).programs; works = all_append IsJudged (w.hands actor).works (work_of program outcome ∷ []) (whole.hands actor).works (judged_, tt) })
+    (record { programs = (whole.hands actor).programs; works = all_append IsJudged (w.hands actor).works (work_of program outcome ∷ []) (whole.hands actor).works (judged_, tt) })
 
 never_installed : (work : Work) (ticket : ℕ) → InstallsAccepted (finishes work ticket)
 never_installed work ticket = λ program e. absurd (not_that work ticket program e)
@@ -166,7 +163,7 @@ finishing_same w actor moment ticket None all whole = refl
 finishing_same w actor moment ticket (Some work) all whole =
     let past : Past = past_of w.history in
     ap (answered w actor moment (finishes work ticket))
-        (carried_is (situation_of past) (raised past moment) work ticket (no_stay (situation_of past) (raised past moment) whole.sound.opening.config) whole.sound.accepted (all work refl))
+    (carried_is (situation_of past) (raised past moment) work ticket (no_stay (situation_of past) (raised past moment) whole.sound.opening.config) whole.sound.accepted (all work refl))
 
 -- ---- cuts
 
@@ -247,7 +244,7 @@ pub step_world : (w : World) (actor : ℕ) (step : Step) → IsWorld w → IsSte
 step_world w actor (acquire moment) whole good = event_world w actor moment acquires whole good no_install_acquires
 step_world w actor (look ticket) whole good =
     looking_world w actor (looked (situation_of (past_of w.history)) ticket)
-        (λ p e. looked_by (is_issued (situation_of (past_of w.history)) ticket) (situation_of (past_of w.history)) (open_ticket (situation_of (past_of w.history)).open_tickets ticket) p whole.sound.accepted e) whole
+    (λ p e. looked_by (is_issued (situation_of (past_of w.history)) ticket) (situation_of (past_of w.history)) (open_ticket (situation_of (past_of w.history)).open_tickets ticket) p whole.sound.accepted e) whole
 step_world w actor (judge place outcome) whole good =
     judging_world w actor outcome (slice_get (w.hands actor).programs place) (λ p e. got IsAccepted (w.hands actor).programs place p (whole.hands actor).programs e) good whole
 step_world w actor (finish moment place ticket) whole good = finishing_world w actor moment ticket (slice_get (w.hands actor).works place) whole good

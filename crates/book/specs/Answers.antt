@@ -1,16 +1,14 @@
 -- What a book answers to calls, by its history.
-use Rattle.std.specs.Prelude.{◌≡◌, ℕ, suc, ◌-◌, ◌+◌, ◌^◌, nat_lt, ◌||◌, Bool, true, false, if◌then◌else◌, List, [], ◌∷◌, ◌++◌, length, drop, Option, Some, None, Result, Ok, Err}
+use Rattle.std.specs.Prelude.{◌≡◌, ℕ, suc, ◌-◌, ◌^◌, nat_lt, ◌||◌, Bool, true, false, if◌then◌else◌, List, [], ◌∷◌, ◌++◌, length, drop, Option, Some, None, Result, Ok, Err}
 use Rattle.std.specs.List.{filter_map}
 use Rattle.refusals.specs.declared.RefusalNumber.{RefusalNumber}
 use Rattle.refusals.specs.declared.RefusalNumber.TheVariants as refusal
 use Rattle.verifier.specs.Programs.{VerifiedProgram}
-use Rattle.book.specs.declared.configuration.ConfigParts.{ConfigParts}
 use Rattle.book.specs.declared.machine.Decision.{Decision}
 use Rattle.book.specs.declared.readings.Reading.{Reading}
 use Rattle.book.specs.declared.registry.OpenTicket.{OpenTicket}
 use Rattle.book.specs.declared.replies.Reply.{Reply}
 use Rattle.book.specs.declared.replies.Reply.TheVariants as reply
-use Rattle.book.specs.declared.windows.Note.{Note}
 use Rattle.book.specs.declared.windows.Totals.{Totals}
 use Rattle.book.specs.Events.{Happening, Line, Opening, History}
 use Rattle.book.specs.Histories.{Past, past_of, machine, raised, greatest, next_line, install_at, situation_of, refused_of}
@@ -96,9 +94,9 @@ reading_by s totals refused last = record {
 abbrev pub reading : Past → ℕ → Reading
 reading past moment =
     reading_by (situation_of past)
-        (totals_of (windowed past.opening.config past.standing.state (raised past moment) (situation_of past).notes))
-        (refused_of past)
-        (next_line past - 1)
+    (totals_of (windowed past.opening.config past.standing.state (raised past moment) (situation_of past).notes))
+    (refused_of past)
+    (next_line past - 1)
 
 -- ---- lines, from a number on
 

@@ -1,5 +1,5 @@
 -- What a book keeps: a legal history, and beside it what the history says.
-use Rattle.std.specs.Prelude.{◌≡◌, ℕ, List, []}
+use Rattle.std.specs.Prelude.{◌≡◌, ℕ, List}
 use Rattle.std.specs.Arc.{arc_value}
 use Rattle.verifier.specs.Programs.{VerifiedProgram}
 use Rattle.book.specs.declared.books.Start.{Start}

@@ -1,21 +1,17 @@
 -- What a history says: where its breaker stood at each line, its notes, its tickets and its versions, each taken afresh from all lines.
-use Rattle.std.specs.Prelude.{◌≡◌, ℕ, ◌+◌, ◌≤◌, ◌==◌, max, ◌&&◌, not, Bool, true, false, List, [], ◌∷◌, ◌++◌, map, length, if◌then◌else◌, Option, Some, None, option_to_list}
+use Rattle.std.specs.Prelude.{◌≡◌, ℕ, ◌+◌, ◌≤◌, ◌==◌, max, ◌&&◌, not, Bool, true, List, [], ◌∷◌, ◌++◌, map, length, Option, Some, None, option_to_list}
 use Rattle.std.specs.List.{filter, filter_map, fold, list_any}
-use Rattle.helpers.specs.Layout.{duration_of}
-use Rattle.refusals.specs.declared.RefusalNumber.{RefusalNumber}
-use Rattle.refusals.specs.declared.RefusalNumber.TheVariants as refusal
 use Rattle.verifier.specs.Programs.{VerifiedProgram}
 use Rattle.book.specs.declared.breaker.Standing.{Standing}
 use Rattle.book.specs.declared.configuration.ConfigParts.{ConfigParts}
 use Rattle.book.specs.declared.machine.Decision.{Decision}
 use Rattle.book.specs.declared.registry.OpenTicket.{OpenTicket}
-use Rattle.book.specs.declared.replies.Fate.{Fate}
 use Rattle.book.specs.declared.replies.Fate.TheVariants as fate
 use Rattle.book.specs.declared.replies.Reply.{Reply}
 use Rattle.book.specs.declared.replies.Reply.TheVariants as reply
 use Rattle.book.specs.declared.states.State.TheVariants as state
 use Rattle.book.specs.declared.windows.Note.{Note}
-use Rattle.book.specs.Events.{Happening, acquires, finishes, releases, installs, moves, resets, Line, Opening, History}
+use Rattle.book.specs.Events.{Happening, finishes, releases, installs, Line, Opening, History}
 use Rattle.book.specs.Following.{is_refused_call, notes_after, tickets_after, one_where_some}
 use Rattle.book.specs.Machine.{Situation, decision, note_of, is_entered}
 

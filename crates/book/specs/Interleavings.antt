@@ -1,5 +1,5 @@
 -- Any list of atomic steps of workers and operators on a service. The world is one history, and what each actor holds.
-use Rattle.std.specs.Prelude.{◌≡◌, ℕ, ◌^◌, ◌<◌, ◌==◌, Bool, true, false, if◌then◌else◌, List, [], ◌∷◌, ◌++◌, slice_get, Option, Some, None, Result, Ok, Err}
+use Rattle.std.specs.Prelude.{ℕ, ◌^◌, ◌<◌, ◌==◌, Bool, true, false, if◌then◌else◌, List, [], ◌∷◌, ◌++◌, slice_get, Option, Some, None, Result, Ok, Err}
 use Rattle.std.specs.List.{AllByRecursion}
 use Rattle.bpf_profile.specs.Outcomes.{Outcome, IsOutcome}
 use Rattle.bpf_run.specs.JudgedWork.{Work, IsTied}
@@ -14,9 +14,9 @@ use Rattle.book.specs.declared.replies.Reply.{Reply}
 use Rattle.book.specs.declared.states.State.{State}
 use Rattle.book.specs.Answers.{looked, reading, with_line, cut}
 use Rattle.book.specs.Events.{Happening, acquires, finishes, releases, installs, moves, resets, Line, Opening, History}
-use Rattle.book.specs.Histories.{Past, past_of, situation_of, raised, next_line, IsLegal}
+use Rattle.book.specs.Histories.{past_of, situation_of, raised, next_line, IsLegal}
 use Rattle.book.specs.Machine.{Situation, decision, refused, is_full, at_moment, is_issued, open_ticket, program_from, same_program, judged_as, concluded, is_entered}
-use Rattle.book.specs.Safe.{IsAccepted, AreAccepted, InstallsAccepted}
+use Rattle.book.specs.Safe.{IsAccepted, AreAccepted}
 use Rattle.book.specs.Sound.{IsSound}
 use Rattle.book.specs.Verdicts.{judgement}
 

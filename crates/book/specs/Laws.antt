@@ -1,5 +1,5 @@
 -- Premises of the laws of the book.
-use Rattle.std.specs.Prelude.{◌^◌, ◌<◌, List}
+use Rattle.std.specs.Prelude.{◌^◌, ◌<◌}
 use Rattle.std.specs.List.{AllByRecursion}
 use Rattle.book.specs.Events.{Line, History}
 use Rattle.book.specs.Histories.{IsLegal}

@@ -168,10 +168,10 @@ finished_reply fate judgement ticket next = record {
 abbrev pub concluded : Situation → ℕ → OpenTicket → Outcome → Judgement → Decision
 concluded s moment ticket outcome judgement =
     finished_reply
-        (fate_of s.standing ticket judgement.verdict)
-        judgement
-        ticket
-        (next_by (fate_of s.standing ticket judgement.verdict) s.config moment s.standing s.notes (note_of s.config moment judgement.verdict outcome))
+    (fate_of s.standing ticket judgement.verdict)
+    judgement
+    ticket
+    (next_by (fate_of s.standing ticket judgement.verdict) s.config moment s.standing s.notes (note_of s.config moment judgement.verdict outcome))
 
 -- the judged program has to be that of the ticket's version
 abbrev pub finished_by : Situation → ℕ → OpenTicket → Work → Option VerifiedProgram → Decision

@@ -1,11 +1,9 @@
 -- What is true of every legal history, and what keeps numbers below 2 ^ 64.
-use Rattle.std.specs.Prelude.{◌≡◌, ℕ, ◌+◌, ◌*◌, ◌^◌, ◌<◌, ◌≤◌, List, length, true, None}
-use Rattle.std.specs.List.{filter, AllByRecursion}
-use Rattle.verifier.specs.Programs.{VerifiedProgram}
-use Rattle.book.specs.declared.registry.OpenTicket.{OpenTicket}
+use Rattle.std.specs.Prelude.{◌≡◌, ℕ, ◌+◌, ◌*◌, ◌^◌, ◌<◌, ◌≤◌, length, true, None}
+use Rattle.std.specs.List.{AllByRecursion}
 use Rattle.book.specs.Configuration.{bad_field}
 use Rattle.book.specs.Events.{Opening}
-use Rattle.book.specs.Histories.{Past, Stage, ended, issued, notes_of, open_of, programs_of, greatest}
+use Rattle.book.specs.Histories.{Past, ended, issued, notes_of, open_of, programs_of, greatest}
 use Rattle.book.specs.Machine.{permissions_held}
 use Rattle.book.specs.Standings.{is_half_open}
 use Rattle.book.specs.Safe.{IsAccepted, AreAccepted}
@@ -40,7 +38,7 @@ pub record IsSound (past : Past) : Type 0 where
   pub places : length (open_of past.stages) ≤ past.opening.config.max_concurrent_calls
   -- permissions held and notes in HALF_OPEN
   pub permissions : is_half_open past.standing.state ≡ true
-    → permissions_held past.standing.period (open_of past.stages) + length (notes_of past) ≤ past.opening.config.permitted_number_of_calls_in_half_open_state
+      → permissions_held past.standing.period (open_of past.stages) + length (notes_of past) ≤ past.opening.config.permitted_number_of_calls_in_half_open_state
   -- the journal has a line left for the end of each open ticket
   pub used : length past.stages + length (open_of past.stages) ≤ 65536
   pub versions : length (programs_of past) ≤ 256

@@ -11,9 +11,9 @@ use crate::breaker::{Breaker, minimum, shown_rate};
 use crate::configuration::{Config, ConfigParts};
 use crate::events::{Entry, Event};
 use crate::machine::{decide, is_entered, note_of};
+use crate::readings::Reading;
 use crate::registry::{OpenTicket, Registry};
 use crate::replies::{Fate, Reply};
-use crate::readings::Reading;
 use crate::windows::{Note, totals_in};
 use refusals::RefusalNumber;
 use std::alloc::{AllocError, Global};
@@ -91,7 +91,9 @@ fn issue_by(reply: Reply, period: u64) -> Option<OpenTicket>
 {
     match reply {
         Reply::Permitted {
-            ticket, version, ..
+            ticket,
+            version,
+            ..
         } => Some(OpenTicket {
             number: ticket,
             version,
@@ -205,7 +207,8 @@ impl Book {
         self.breaker.follow(decision.next, note, reply);
         self.registry.follow(ended, issued);
         self.moment = moment;
-        self.entries.push_reserved(Entry::new(number, seat, event, moment, reply));
+        let entry = Entry::new(number, seat, event, moment, reply);
+        self.entries.push_reserved(entry);
         reply
     }
 

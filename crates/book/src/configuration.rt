@@ -185,9 +185,7 @@ impl Config {
                 field,
                 number: RefusalNumber::BadConfig,
             }),
-            None => Ok(Config {
-                parts,
-            }),
+            None => Ok(Config { parts }),
         }
     }
 

@@ -91,12 +91,7 @@ fn fate_of(standing: Standing, ticket: OpenTicket, verdict: Verdict) -> Fate
 }
 
 /// The note of a verdict.
-pub(crate) fn note_of(
-    config: &ConfigParts,
-    moment: u64,
-    verdict: Verdict,
-    outcome: &Record,
-) -> Note
+pub(crate) fn note_of(config: &ConfigParts, moment: u64, verdict: Verdict, outcome: &Record) -> Note
     ensures { result ≡ note_of config.now moment verdict outcome.now }
 {
     let failed = match verdict {

@@ -131,8 +131,7 @@ impl Registry {
         if version < self.first_version {
             return None;
         }
-        self.programs
-            .get((version - self.first_version) as usize)
+        self.programs.get((version - self.first_version) as usize)
     }
 
     /// The open ticket of a number.

@@ -1,12 +1,14 @@
 //! The edges of histories that clauses can't show by themselves: that calls succeed with ample memory,
 //! and a journal that is full.
-use crate::{Book, Config, ConfigField, ConfigParts, Event, Fate, Reply, State};
+use crate::{Book, Config, ConfigField, ConfigParts, Event, Fate, Reply, SlidingWindowType, State};
 use bpf_run::{Verdict, judge};
 use helpers::Record;
 use refusals::RefusalNumber;
 use std::alloc::Global;
+use std::process::Abort;
+use std::sync::Arc;
 use std::test::Fail;
-use verifier::default_classifier;
+use verifier::{default_classifier, verify};
 
 /// The record of a response with a status below 65,536.
 fn response(status: u16) -> Option<Record> {
@@ -18,19 +20,228 @@ fn response(status: u16) -> Option<Record> {
 }
 
 /// A book of these parts with the default classifier.
-fn book(rt: &HostRuntime, parts: ConfigParts) -> Book {
+fn book<R: Abort>(rt: &R, alloc: Global, parts: ConfigParts) -> Book {
     let config = Config::new(parts).expect(rt, "parts in their ranges");
-    let classifier = default_classifier(rt.alloc()).expect(rt, "the default classifier");
-    Book::open(rt.alloc(), config, classifier).expect(rt, "ample memory")
+    let classifier = default_classifier(alloc).expect(rt, "the default classifier");
+    Book::open(alloc, config, classifier).expect(rt, "ample memory")
 }
 
 /// Reports a response under a ticket.
-fn report(rt: &HostRuntime, book: &mut Book, moment: u64, ticket: u64, status: u16) -> Reply {
+fn report<R: Abort>(rt: &R, book: &mut Book, moment: u64, ticket: u64, status: u16) -> Reply {
     match book.look(ticket) {
         Ok(program) => {
             let outcome = response(status).expect(rt, "an empty tag");
             book.apply(1, moment, Event::Finish(judge(program, outcome), ticket))
         }
         Err(number) => Reply::Refused(number),
+    }
+}
+
+/// Parts that differ from the defaults in the window's size and the minimum.
+fn small_window(size: u64, minimum: u64) -> ConfigParts {
+    let mut parts = ConfigParts::DEFAULT;
+    parts.sliding_window_size = size;
+    parts.minimum_number_of_calls = minimum;
+    parts
+}
+
+fn permitted(ticket: u64, state: State) -> Reply {
+    Reply::Permitted {
+        ticket,
+        version: 1,
+        state,
+    }
+}
+
+/// What the default classifier's verdict on a response leaves.
+fn finished(fate: Fate, verdict: Verdict, state: State) -> Reply {
+    Reply::Finished {
+        fate,
+        verdict,
+        steps: 6,
+        version: 1,
+        state,
+    }
+}
+
+#[test]
+fn a_call_is_reported_once(rt: HostRuntime) {
+    let mut book = book(&rt, rt.alloc(), ConfigParts::DEFAULT);
+    assert_eq!(rt;
+        book.apply(1, 1000, Event::Acquire),
+        permitted(1, State::Closed)
+    );
+    let recorded = finished(Fate::Recorded, Verdict::Failure, State::Closed);
+    assert_eq!(rt; report(&rt, &mut book, 1020, 1, 500), recorded);
+    let spent = Reply::Refused(RefusalNumber::TicketSpent);
+    assert_eq!(rt; report(&rt, &mut book, 1020, 1, 500), spent);
+    assert_eq!(rt; book.last_number(), 2);
+    assert_eq!(rt; book.read(0).total, 1);
+    assert_eq!(rt; book.read(0).failed, 1);
+    assert_eq!(rt; book.read(0).failure_rate, None);
+    let last = book.entries(2);
+    assert_eq!(rt; last.len(), 1);
+    assert_eq!(rt; last[0].number(), 2);
+    assert_eq!(rt; last[0].seat(), 1);
+    assert_eq!(rt; last[0].moment(), 1020);
+    assert_eq!(rt; last[0].reply(), recorded);
+}
+
+#[test]
+fn moments_are_raised(rt: HostRuntime) {
+    let mut book = book(&rt, rt.alloc(), ConfigParts::DEFAULT);
+    book.apply(7, 1000, Event::Acquire);
+    book.apply(8, 10, Event::Acquire);
+    let entries = book.entries(0);
+    assert_eq!(rt; entries.len(), 2);
+    assert_eq!(rt; entries[1].seat(), 8);
+    assert_eq!(rt; entries[1].moment(), 1000);
+}
+
+#[test]
+fn failures_open_the_breaker(rt: HostRuntime) {
+    for (minimum, state) in [(2, State::Open), (3, State::Closed)] {
+        let mut book = book(&rt, rt.alloc(), small_window(4, minimum));
+        book.apply(1, 0, Event::Acquire);
+        report(&rt, &mut book, 0, 1, 200);
+        book.apply(1, 0, Event::Acquire);
+        let last = finished(Fate::Recorded, Verdict::Failure, state);
+        assert_eq!(rt;
+            report(&rt, &mut book, 0, 2, 500),
+            last,
+            "minimum {minimum}"
+        );
+        assert_eq!(rt; book.read(0).state, state, "minimum {minimum}");
+    }
+}
+
+#[test]
+fn a_verdict_of_an_earlier_period_is_stale(rt: HostRuntime) {
+    let mut book = book(&rt, rt.alloc(), small_window(1, 1));
+    book.apply(1, 0, Event::Acquire);
+    book.apply(1, 0, Event::Acquire);
+    let opens = finished(Fate::Recorded, Verdict::Failure, State::Open);
+    assert_eq!(rt; report(&rt, &mut book, 1, 1, 500), opens);
+    let stale = finished(Fate::Stale, Verdict::Failure, State::Open);
+    assert_eq!(rt; report(&rt, &mut book, 2, 2, 500), stale);
+    let refused = Reply::Refused(RefusalNumber::CallNotPermitted);
+    assert_eq!(rt; book.apply(1, 3, Event::Acquire), refused);
+    let reading = book.read(4);
+    assert_eq!(rt; (reading.state, reading.period), (State::Open, 2));
+    assert_eq!(rt;
+        (reading.entries, reading.free, reading.not_permitted),
+        (5, 25, 1)
+    );
+    assert_eq!(rt; (reading.open_tickets, reading.total), (0, 0));
+}
+
+#[test]
+fn half_open_decides(rt: HostRuntime) {
+    let mut parts = small_window(1, 1);
+    parts.permitted_number_of_calls_in_half_open_state = 2;
+    parts.wait_duration_in_open_state = 100;
+    let mut book = book(&rt, rt.alloc(), parts);
+    book.apply(1, 0, Event::Acquire);
+    report(&rt, &mut book, 0, 1, 500);
+    let refused = Reply::Refused(RefusalNumber::CallNotPermitted);
+    assert_eq!(rt; book.apply(1, 99, Event::Acquire), refused);
+    assert_eq!(rt;
+        book.apply(1, 100, Event::Acquire),
+        permitted(2, State::HalfOpen)
+    );
+    assert_eq!(rt;
+        book.apply(1, 100, Event::Acquire),
+        permitted(3, State::HalfOpen)
+    );
+    assert_eq!(rt; book.apply(1, 100, Event::Acquire), refused);
+    let one = finished(Fate::Recorded, Verdict::Success, State::HalfOpen);
+    assert_eq!(rt; report(&rt, &mut book, 101, 2, 200), one);
+    let both = finished(Fate::Recorded, Verdict::Success, State::Closed);
+    assert_eq!(rt; report(&rt, &mut book, 102, 3, 200), both);
+    assert_eq!(rt; book.read(102).period, 4);
+}
+
+#[test]
+fn the_bulkhead_has_places(rt: HostRuntime) {
+    let mut parts = ConfigParts::DEFAULT;
+    parts.max_concurrent_calls = 1;
+    let mut book = book(&rt, rt.alloc(), parts);
+    assert_eq!(rt;
+        book.apply(1, 0, Event::Acquire),
+        permitted(1, State::Closed)
+    );
+    let full = Reply::Refused(RefusalNumber::BulkheadFull);
+    assert_eq!(rt; book.apply(1, 0, Event::Acquire), full);
+    assert_eq!(rt; book.read(0).free, 0);
+    report(&rt, &mut book, 0, 1, 200);
+    assert_eq!(rt;
+        book.apply(1, 0, Event::Acquire),
+        permitted(2, State::Closed)
+    );
+}
+
+#[test]
+fn another_programs_verdict_changes_nothing(rt: HostRuntime) -> Result<(), Fail> {
+    let mut book = book(&rt, rt.alloc(), ConfigParts::DEFAULT);
+    book.apply(1, 5, Event::Acquire);
+    let ignores = [0xb7, 0, 0, 0, 2, 0, 0, 0, 0x95, 0, 0, 0, 0, 0, 0, 0];
+    let program = verify(rt.alloc(), &ignores).expect(&rt, "a constant answer");
+    let outcome = response(200).expect(&rt, "an empty tag");
+    let judged = judge(Arc::new(rt.alloc(), program)?, outcome);
+    let stranger = Reply::Refused(RefusalNumber::Stranger);
+    assert_eq!(rt; book.apply(1, 9, Event::Finish(judged, 1)), stranger);
+    assert_eq!(rt; book.last_number(), 1);
+    let recorded = finished(Fate::Recorded, Verdict::Success, State::Closed);
+    assert_eq!(rt; report(&rt, &mut book, 6, 1, 200), recorded);
+    Ok(())
+}
+
+#[test]
+fn a_ticket_that_was_never_issued_is_refused(rt: HostRuntime) {
+    let mut book = book(&rt, rt.alloc(), ConfigParts::DEFAULT);
+    for ticket in [0, 1, u64::MAX] {
+        let refused = Reply::Refused(RefusalNumber::NoTicket);
+        assert_eq!(rt; report(&rt, &mut book, 0, ticket, 200), refused, "{ticket}");
+    }
+    assert_eq!(rt; book.last_number(), 0);
+}
+
+#[test]
+fn a_journal_holds_65536_entries(rt: HostRuntime) {
+    let mut book = book(&rt, rt.alloc(), ConfigParts::DEFAULT);
+    for ticket in 1..=32_768 {
+        let closed = permitted(ticket, State::Closed);
+        assert_eq!(rt; book.apply(1, ticket, Event::Acquire), closed);
+        let recorded = finished(Fate::Recorded, Verdict::Success, State::Closed);
+        assert_eq!(rt; report(&rt, &mut book, ticket, ticket, 200), recorded);
+    }
+    let full = Reply::Refused(RefusalNumber::JournalFull);
+    assert_eq!(rt; book.apply(1, 0, Event::Acquire), full);
+    assert_eq!(rt; book.last_number(), 65_536);
+    assert_eq!(rt; book.entries(65_536).len(), 1);
+    let spent = Reply::Refused(RefusalNumber::TicketSpent);
+    assert_eq!(rt; report(&rt, &mut book, 0, 1, 200), spent);
+}
+
+#[test]
+fn fields_out_of_range_are_named(rt: HostRuntime) {
+    let mut rows = [(ConfigParts::DEFAULT, None); 6];
+    rows[1].0.failure_rate_threshold = 101;
+    rows[1].1 = Some(ConfigField::FailureRateThreshold);
+    rows[2].0.wait_duration_in_open_state = (1 << 40) + 1;
+    rows[2].1 = Some(ConfigField::WaitDurationInOpenState);
+    rows[3].0.max_wait_duration = 5;
+    rows[3].1 = Some(ConfigField::MaxWaitDuration);
+    rows[4].0.sliding_window_type = SlidingWindowType::TimeBased;
+    rows[4].1 = Some(ConfigField::SlidingWindowType);
+    rows[5].0.slow_call_rate_threshold = 0;
+    rows[5].0.max_concurrent_calls = 0;
+    rows[5].1 = Some(ConfigField::SlowCallRateThreshold);
+    for (parts, field) in rows {
+        let refused = match Config::new(parts) {
+            Ok(_) => None,
+            Err(bad) => Some(bad.field),
+        };
+        assert_eq!(rt; refused, field);
     }
 }

@@ -1,4 +1,3 @@
-use Rattle.std.proofs.Common.{◌≡◌}
 use Rattle.book.proofs.machine.decided.Goals as goal
 
 pub returns-in-Acquire : goal.returns-in-Acquire

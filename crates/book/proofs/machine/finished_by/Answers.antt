@@ -1,11 +1,8 @@
-use Rattle.std.proofs.Common.{◌≡◌, true, false, ◌∙◌, ap, sym, subst, refl, List, if◌then◌else◌}
-use Rattle.bpf_profile.specs.declared.slot.Slot.{Slot}
+use Rattle.std.proofs.Common.{◌≡◌, true, ◌∙◌, ap, sym, subst, refl}
 use Rattle.bpf_profile.specs.Outcomes.{Outcome, IsOutcome}
 use Rattle.verifier.specs.Analysis.{context_size}
 use Rattle.verifier.specs.Programs.{VerifiedProgram}
-use Rattle.book.specs.Machine.{concluded, refused, same_program}
-use Rattle.book.specs.Situations.{situation}
-use Rattle.book.specs.Verdicts.{judgement}
+use Rattle.book.specs.Machine.{same_program}
 use Rattle.book.proofs.Judging.{judgement_by_slots}
 use Rattle.book.proofs.machine.finished_by.Goals as goal
 

@@ -1,4 +1,3 @@
-use Rattle.std.proofs.Common.{◌≡◌}
 use Rattle.book.proofs.machine.finished_under.Goals as goal
 
 pub returns-in-Some : goal.returns-in-Some

@@ -1,4 +1,4 @@
-use Rattle.std.proofs.Common.{◌≡◌, ℕ, ◌+◌, ◌-◌, arith, ap, sym, ◌∙◌, subst}
+use Rattle.std.proofs.Common.{ℕ, ◌+◌, ◌-◌, arith, ap, ◌∙◌}
 use Rattle.book.specs.Events.{History}
 use Rattle.book.specs.Histories.{past_of, next_line}
 use Rattle.book.proofs.Applying.{line_fits}

@@ -9,6 +9,6 @@ use Rattle.book.proofs.books.Book.look.Goals as goal
 pub returns-in-Ok-clause-looked : goal.returns-in-Ok-clause-looked
 returns-in-Ok-clause-looked c =
     let found : looked (situation c.self.inside.config c.self.inside.breaker c.self.inside.registry (length c.self.inside.entries.items)) c.args.ticket ≡ Ok (arc_value c.in-Ok.program.now) =
-        sym (c.look.ensures c.self.inside.config c.self.inside.breaker (length c.self.inside.entries.items)) ∙ ap (map_ok (λ p. arc_value p.now)) c.in-Ok.is in
+    sym (c.look.ensures c.self.inside.config c.self.inside.breaker (length c.self.inside.entries.items)) ∙ ap (map_ok (λ p. arc_value p.now)) c.in-Ok.is in
     subst (λ (h : History). IsLooked h c.args.ticket (map_ok arc_value c.owner_of.result)) c.self.view_is
-        (looked_there _ _ _ _ c.self.inside.entries.items c.args.ticket (arc_value c.in-Ok.program.now) (map_ok arc_value c.owner_of.result) c.self.invariant found c.owner_of.ensures)
+    (looked_there _ _ _ _ c.self.inside.entries.items c.args.ticket (arc_value c.in-Ok.program.now) (map_ok arc_value c.owner_of.result) c.self.invariant found c.owner_of.ensures)

@@ -1,5 +1,4 @@
 use Rattle.std.proofs.Common.{arith, length, ap}
-use Rattle.book.specs.declared.windows.Note.{Note}
 use Rattle.book.proofs.Applying.{roomy}
 use Rattle.book.proofs.books.Book.read.Goals as goal
 

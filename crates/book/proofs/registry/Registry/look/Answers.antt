@@ -1,8 +1,6 @@
-use Rattle.std.proofs.Common.{◌≡◌, ℕ, ◌≤◌, ◌<◌, true, false, Some, ap, sym, ◌∙◌, arith}
-use Rattle.book.specs.declared.registry.OpenTicket.{OpenTicket}
-use Rattle.book.specs.Machine.{is_issued, open_ticket}
+use Rattle.std.proofs.Common.{◌≡◌, ◌≤◌, ◌<◌, Some, sym, ◌∙◌, arith}
+use Rattle.book.specs.Machine.{open_ticket}
 use Rattle.book.specs.Situations.{situation}
-use Rattle.book.proofs.Keeping.{in_range}
 use Rattle.book.proofs.Openings.{looked_open}
 use Rattle.book.proofs.registry.Registry.look.Goals as goal
 
