@@ -10,3 +10,4 @@ pub mod Applying
 pub mod Openings
 pub mod Worlds
 pub mod Lawful
+pub mod Seats

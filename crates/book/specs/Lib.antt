@@ -15,3 +15,4 @@ pub mod Interleavings
 pub mod Laws
 pub mod Books
 pub mod Seen
+pub mod Seats

@@ -8,6 +8,7 @@ ghost use Rattle.book.specs.Histories.{IsLegal, note_by, end_by, issue_by, past_
 ghost use Rattle.book.specs.Seen.{seen};
 
 use crate::breaker::{Breaker, minimum, shown_rate};
+use crate::bulkhead::free_places;
 use crate::configuration::{Config, ConfigParts};
 use crate::events::{Entry, Event};
 use crate::machine::{decide, is_entered, note_of};
@@ -246,7 +247,7 @@ impl Book {
             failure_rate: shown_rate(least, totals.total, totals.failed),
             slow_rate: shown_rate(least, totals.total, totals.slow),
             open_tickets,
-            free: parts.max_concurrent_calls.saturating_sub(open_tickets),
+            free: free_places(&parts, open_tickets),
             not_permitted: self.breaker.refused,
             entries: self.last_number(),
         }

@@ -4,6 +4,7 @@
 
 mod books;
 mod breaker;
+mod bulkhead;
 mod configuration;
 mod events;
 pub mod laws;

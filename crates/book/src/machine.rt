@@ -10,6 +10,7 @@ ghost use Rattle.book.specs.Situations.{situation, IsRoomy};
 ghost use Rattle.book.specs.Standings.{is_disabled};
 
 use crate::breaker::{Breaker, Standing, after_note, permit};
+use crate::bulkhead::is_taken;
 use crate::configuration::{Config, ConfigParts};
 use crate::events::Event;
 use crate::registry::{OpenTicket, Registry};
@@ -63,7 +64,7 @@ fn acquired(config: &Config, breaker: &Breaker, registry: &Registry, moment: u64
     if !permission.given {
         return refused(permission.standing, RefusalNumber::CallNotPermitted);
     }
-    if tickets.len() as u64 >= parts.max_concurrent_calls {
+    if is_taken(&parts, tickets.len() as u64) {
         return refused(permission.standing, RefusalNumber::BulkheadFull);
     }
     Decision {
