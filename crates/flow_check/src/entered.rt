@@ -1,11 +1,10 @@
 //! To which slots an edge leads.
-ghost use Rattle.std.specs.Prelude.{◌≡◌, ℕ, ◌<◌, ◌≤◌, length, option_to_list, IfOk};
+ghost use Rattle.std.specs.Prelude.{◌≡◌, ℕ, ◌<◌, ◌≤◌, length, option_to_list, replicate, false};
 ghost use Rattle.flow_check.specs.Passes.{AreEntered, marked_all};
 ghost use Rattle.bpf_profile.specs.Flow.{successors};
 
 use crate::edges::{jump_of, next_of};
 use bpf_profile::{Slot, instruction_at};
-use std::alloc::{AllocError, Global};
 
 /// Marks a slot, if there is one; past the end of the program there are no marks.
 fn mark(entered: &mut [bool], slot: Option<usize>)
@@ -30,15 +29,15 @@ fn mark_successors(entered: &mut [bool], slots: &[Slot], place: usize)
     }
 }
 
-/// For each slot whether control may come there: to slot 0, or along an edge from any instruction.
-pub fn entered_slots(alloc: Global, slots: &[Slot]) -> Result<Vec<bool>, AllocError>
-    requires { length slots.now ≤ 4096 }
-    ensures { IfOk result (λ entered. AreEntered slots.now (length slots.now) entered.items) }
+/// Marks each slot where control may come: slot 0, and those to which an edge leads from any
+/// instruction.
+pub fn mark_entered(entered: &mut [bool], slots: &[Slot])
+    requires few { length slots.now ≤ 4096 }
+    requires unmarked { entered.old ≡ replicate (length slots.now) false }
+    ensures { AreEntered slots.now (length slots.now) entered.new }
 {
-    let mut entered = vec![in alloc; false; slots.len()]?;
-    mark(&mut entered, Some(0));
+    mark(entered, Some(0));
     for place in 0..slots.len() {
-        mark_successors(&mut entered, slots, place);
+        mark_successors(entered, slots, place);
     }
-    Ok(entered)
 }

@@ -1,5 +1,5 @@
 //! The flow of an accepted program, and its check.
-ghost use Rattle.std.specs.Prelude.{◌≡◌, ℕ, ◌+◌, ◌<◌, ◌≤◌, ◌⊎◌, length, map, slice_get, All, OnOk, IfOk, IfErr, IfSome, option_to_list};
+ghost use Rattle.std.specs.Prelude.{◌≡◌, ℕ, ◌+◌, ◌<◌, ◌≤◌, ◌⊎◌, length, map, replicate, [], slice_get, option_map, All, OnOk, IfOk, IfErr, IfSome, option_to_list};
 ghost use Rattle.std.specs.List.{range_with_len};
 ghost use Rattle.bpf_profile.specs.Spelling.{IsProgram};
 ghost use Rattle.bpf_profile.specs.Flow.{IsBudget, successors, flow_fault};
@@ -8,13 +8,16 @@ ghost use Rattle.flow_check.specs.Routes.{Routes, successor_list};
 ghost use Rattle.flow_check.specs.Refused.{out_of_memory, fault_of};
 
 use crate::edges::{Successors, successors_of};
-use crate::entered::entered_slots;
+use crate::entered::mark_entered;
 use crate::error::FlowError;
 use crate::faults::first_fault;
 use bpf_decode::Program;
 use bpf_profile::Slot;
 use std::alloc::{AllocError, Global};
 use std::marker::Model;
+
+/// How many slots a program has at most.
+const MOST_SLOTS: usize = 4096;
 
 /// The flow of an accepted program: the edges of each slot, and the budget.
 #[derive(Debug, Drop)]
@@ -66,9 +69,35 @@ fn follow(longest: &mut [u32], successors: Successors, count: u32)
     lengthen(longest, successors.target, count);
 }
 
-/// The edges of an accepted program, and its budget. A slot's number is the length of the longest walk
-/// that ends there, and 0 before one is found. Since edges lead forward, it is final when the pass
-/// comes to the slot.
+/// The edges of an accepted program are kept, and its budget is answered. A slot's number is the length
+/// of the longest walk that ends there, and 0 before one is found. Since edges lead forward, it is
+/// final when the pass comes to the slot.
+fn follow_all(
+    longest: &mut [u32],
+    slots: &[Slot],
+    edges: &mut Vec<Successors>,
+) -> Result<u32, AllocError>
+    requires program { IsProgram slots.now }
+    requires accepted { flow_fault slots.now ≡ None }
+    requires unfound { longest.old ≡ replicate (length slots.now) 0 }
+    requires empty { edges.old.items ≡ [] }
+    ensures budget { IfOk result (λ budget. IsBudget slots.now budget) }
+    ensures counted { OnOk result (length (map successor_list edges.new.items) ≡ length slots.now) }
+    ensures edges { OnOk result (map successor_list edges.new.items ≡ map (successors slots.now) (range_with_len 0 (length slots.now))) }
+{
+    longest[0] = 1;
+    let mut budget = 0;
+    for place in 0..slots.len() {
+        let successors = successors_of(slots, place);
+        let count = longest[place];
+        budget = count.max(budget);
+        follow(longest, successors, count + 1);
+        edges.push(successors)?;
+    }
+    Ok(budget)
+}
+
+/// The flow of an accepted program. It takes memory for what it answers alone.
 fn routes_of(alloc: Global, slots: &[Slot]) -> Result<Flow, AllocError>
     requires program { IsProgram slots.now }
     requires accepted { flow_fault slots.now ≡ None }
@@ -77,17 +106,20 @@ fn routes_of(alloc: Global, slots: &[Slot]) -> Result<Flow, AllocError>
     ensures edges { IfOk result (λ flow. flow.edges ≡ map (successors slots.now) (range_with_len 0 (length slots.now))) }
 {
     let mut edges = Vec::with_capacity(alloc, slots.len())?;
-    let mut longest = vec![in alloc; 0u32; slots.len()]?;
-    longest[0] = 1;
-    let mut budget = 0;
-    for place in 0..slots.len() {
-        let successors = successors_of(slots, place);
-        let count = longest[place];
-        budget = count.max(budget);
-        follow(&mut longest, successors, count + 1);
-        edges.push(successors)?;
-    }
+    let mut longest = [0u32; MOST_SLOTS];
+    let budget = follow_all(&mut longest[..slots.len()], slots, &mut edges)?;
     Ok(Flow { edges, budget })
+}
+
+/// The first fault of a program.
+fn fault(slots: &[Slot]) -> Option<FlowError>
+    requires { length slots.now ≤ 4096 }
+    ensures { option_map fault_of result ≡ flow_fault slots.now }
+{
+    let mut marks = [false; MOST_SLOTS];
+    let entered = &mut marks[..slots.len()];
+    mark_entered(entered, slots);
+    first_fault(slots, entered)
 }
 
 /// Checks the flow of a program: each instruction is entered, every jump goes forward to an
@@ -105,8 +137,7 @@ pub fn check(alloc: Global, program: &Program) -> Result<Flow, FlowError>
     ensures refused { IfErr result (λ e. (e ≡ out_of_memory) ⊎ (flow_fault program.now ≡ Some (fault_of e))) }
 {
     let slots = program.slots();
-    let entered = entered_slots(alloc, slots)?;
-    if let Some(error) = first_fault(slots, &entered) {
+    if let Some(error) = fault(slots) {
         return Err(error);
     }
     Ok(routes_of(alloc, slots)?)

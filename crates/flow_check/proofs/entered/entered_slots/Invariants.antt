@@ -1,5 +1,0 @@
-use Rattle.flow_check.specs.Passes.{AreEntered}
-use Rattle.flow_check.proofs.entered.entered_slots.Given as goal
-
-abbrev pub invariant-loop-place : goal.invariant-loop-place
-invariant-loop-place l = AreEntered l.slots l.place l.entered.items

@@ -1,0 +1,9 @@
+use Rattle.std.proofs.Common.{◌≡◌, length, refl, ◌∙◌, ap, List, Bool, arith}
+use Rattle.std.proofs.lemmas.List.{take_at}
+use Rattle.bpf_profile.specs.Flow.{successors}
+use Rattle.flow_check.specs.Passes.{marked_all}
+use Rattle.flow_check.proofs.Marks.{entered_step}
+use Rattle.flow_check.proofs.entered.mark_entered.Goals as goal
+
+pub loop-place-preserved : goal.loop-place-preserved
+loop-place-preserved c = entered_step c.args.slots.now c.loop-place.place _ c.loop-place.entered _ refl c.loop-place.invariant c.mark_successors.ensures
