@@ -54,6 +54,14 @@ impl Program {
         Ok(Program { slots })
     }
 
+    /// The program of slots that are known to be one.
+    pub fn from_slots(slots: Vec<Slot>) -> Program
+        requires { IsProgram slots.items }
+        ensures { result ≡ slots.items }
+    {
+        Self { slots }
+    }
+
     /// The bytes that spell the program, eight for each slot. Memory is asked for once, before the
     /// first byte is written, of the allocator that the program keeps.
     pub fn encode(&self) -> Result<Vec<u8>, AllocError>

@@ -1,0 +1,14 @@
+pub mod Listing
+pub mod Digits
+pub mod Scanning
+pub mod Lines
+pub mod Relation
+pub mod Programs
+pub mod Admitted
+pub mod Assembled
+pub mod Plain
+pub mod Lexing
+pub mod Pieces
+pub mod Operands
+pub mod Printed
+pub mod Called

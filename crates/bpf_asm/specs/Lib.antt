@@ -1,0 +1,6 @@
+pub mod Names
+pub mod Canonical
+pub mod Tokens
+pub mod Arguments
+pub mod Reading
+pub mod Assembly

@@ -1,0 +1,191 @@
+//! A line of text as tokens.
+ghost use Rattle.std.specs.Prelude.{◌≡◌, ◌≤◌, ◌+◌, ◌*◌, ◌++◌, ◌==◌, IfOk, option_and_then, option_to_list};
+ghost use Rattle.std.specs.List.{position};
+ghost use Rattle.bpf_asm.specs.Tokens.{bounded, numeral, number_of, register_named, token_of, run_tokens, mark_of, ends_run, tokens_after, without_return, content_of, tokens_of};
+
+use crate::words::{Word, word_named};
+use bpf_profile::Register;
+use std::alloc::{AllocError, Global};
+
+/// A word, a register, a number or a mark.
+#[derive(Clone, Copy, Debug, PartialEq, Eq)]
+pub(crate) enum Token {
+    Word(Word),
+    Register(Register),
+    /// None stands for each number from 2^64 on.
+    Number(Option<u64>),
+    /// Characters that are none of these.
+    Unknown,
+    Comma,
+    Open,
+    Close,
+    Plus,
+    Minus,
+}
+
+/// The number that one digit or more write.
+#[tactic(auto, unfolding(crate::specs::Tokens::numeral))]
+fn numeral(radix: u32, digits: &[u8]) -> Option<Option<u64>>
+    requires low { 2 ≤ radix }
+    requires high { radix ≤ 16 }
+    ensures { result ≡ numeral radix digits.now }
+{
+    if digits.is_empty() {
+        return None;
+    }
+    let mut number = Some(0u64);
+    for digit in digits {
+        let digit = char::from(*digit).to_digit(radix)?;
+        number = with_digit(number, radix, digit);
+    }
+    Some(number)
+}
+
+/// A number with one digit more.
+fn with_digit(number: Option<u64>, radix: u32, digit: u32) -> Option<u64>
+    ensures { result ≡ option_and_then (λ n. bounded (n * radix + digit)) number }
+{
+    number?
+        .checked_mul(u64::from(radix))?
+        .checked_add(u64::from(digit))
+}
+
+/// Hexadecimal behind 0x, and else decimal.
+#[tactic(auto, unfolding(crate::specs::Tokens::number_of))]
+fn number_of(run: &[u8]) -> Option<Option<u64>>
+    ensures { result ≡ number_of run.now }
+{
+    match run.strip_prefix(b"0x") {
+        Some(digits) => numeral(16, digits),
+        None => numeral(10, run),
+    }
+}
+
+/// The register of a name (RFC 9669, section 2).
+#[tactic(auto, unfolding(crate::specs::Tokens::register_named))]
+fn register_named(name: &[u8]) -> Option<Register>
+    ensures { result ≡ register_named name.now }
+{
+    let number = match name {
+        b"r0" => 0,
+        b"r1" => 1,
+        b"r2" => 2,
+        b"r3" => 3,
+        b"r4" => 4,
+        b"r5" => 5,
+        b"r6" => 6,
+        b"r7" => 7,
+        b"r8" => 8,
+        b"r9" => 9,
+        b"r10" => 10,
+        _ => return None,
+    };
+    Some(Register::new(number))
+}
+
+/// What a run of characters is.
+#[tactic(auto, unfolding(crate::specs::Tokens::token_of))]
+fn token_of(run: &[u8]) -> Token
+    ensures { result ≡ token_of run.now }
+{
+    if let Some(number) = number_of(run) {
+        return Token::Number(number);
+    }
+    if let Some(register) = register_named(run) {
+        return Token::Register(register);
+    }
+    match word_named(run) {
+        Some(word) => Token::Word(word),
+        None => Token::Unknown,
+    }
+}
+
+/// A character that is a token of its own.
+#[tactic(auto, unfolding(crate::specs::Tokens::mark_of))]
+fn mark_of(character: u8) -> Option<Token>
+    ensures { result ≡ mark_of character }
+{
+    match character {
+        b',' => Some(Token::Comma),
+        b'[' => Some(Token::Open),
+        b']' => Some(Token::Close),
+        b'+' => Some(Token::Plus),
+        b'-' => Some(Token::Minus),
+        _ => None,
+    }
+}
+
+/// Whether a run of characters ends here: blanks, tabs and marks end one.
+#[tactic(auto, unfolding(crate::specs::Tokens::ends_run))]
+fn ends_run(character: u8) -> bool
+    ensures { result ≡ ends_run character }
+{
+    character == b' ' || character == b'\t' || mark_of(character).is_some()
+}
+
+/// Appends the token of a run, if there is one.
+#[tactic(auto, unfolding(crate::specs::Tokens::run_tokens))]
+fn push_run(tokens: &mut Vec<Token>, run: &[u8]) -> Result<(), AllocError>
+    ensures { IfOk result (λ _. tokens.new.items ≡ tokens.old.items ++ run_tokens run.now) }
+{
+    if !run.is_empty() {
+        tokens.push(token_of(run))?;
+    }
+    Ok(())
+}
+
+/// Appends the token of a run that has ended, and the mark that ended it.
+fn push_ended(tokens: &mut Vec<Token>, run: &[u8], end: u8) -> Result<(), AllocError>
+    ensures { IfOk result (λ _. tokens.new.items ≡ tokens.old.items ++ (run_tokens run.now ++ option_to_list (mark_of end))) }
+{
+    push_run(tokens, run)?;
+    if let Some(mark) = mark_of(end) {
+        tokens.push(mark)?;
+    }
+    Ok(())
+}
+
+/// A line without the carriage return at its end.
+fn without_return(line: &[u8]) -> &[u8]
+    ensures { result.now ≡ without_return line.now }
+{
+    match line.strip_suffix(b"\r") {
+        Some(rest) => rest,
+        None => line,
+    }
+}
+
+/// Where a comment begins.
+fn comment_start(line: &[u8]) -> Option<usize>
+    ensures { result ≡ position (λ c. c == 59) line.now }
+{
+    line.iter().position(|character| *character == b';')
+}
+
+/// A line without its end and its comment.
+fn content_of(line: &[u8]) -> &[u8]
+    ensures { result.now ≡ content_of line.now }
+{
+    let line = without_return(line);
+    match comment_start(line) {
+        Some(end) => &line[..end],
+        None => line,
+    }
+}
+
+/// The tokens of a line, whose letters are small.
+pub(crate) fn tokens_of(alloc: Global, line: &[u8]) -> Result<Vec<Token>, AllocError>
+    ensures { IfOk result (λ tokens. tokens.items ≡ tokens_of line.now) }
+{
+    let content = content_of(line);
+    let mut tokens = Vec::new(alloc);
+    let mut start = 0;
+    for (place, character) in content.iter().enumerate() {
+        if ends_run(*character) {
+            push_ended(&mut tokens, &content[start..place], *character)?;
+            start = place + 1;
+        }
+    }
+    push_run(&mut tokens, &content[start..])?;
+    Ok(tokens)
+}

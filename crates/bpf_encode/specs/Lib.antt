@@ -1,0 +1,2 @@
+pub mod OpcodeNumbers
+pub mod Encoding
