@@ -8,7 +8,7 @@ use bpf_run::{Verdict, run};
 use flow_check::check;
 use helpers::Record;
 use std::alloc::{AllocError, Global};
-use verifier::{Verified, default_classifier};
+use verifier::{Verified, default_classifier, verify};
 
 /// How many records are judged in a round.
 const RECORDS: u16 = 256;
@@ -99,6 +99,72 @@ pub extern "C" fn bench_exports_check(alloc: Global, slots: u32, rounds: u32) ->
     for _ in 0..rounds {
         if let Ok(flow) = check(alloc, &program) {
             sum = sum.wrapping_add(u64::from(flow.budget()));
+        }
+    }
+    sum
+}
+
+/// `mov r2, 7` and `mov r3, 11`.
+const OPERANDS: [u8; 16] = [0xb7, 2, 0, 0, 7, 0, 0, 0, 0xb7, 3, 0, 0, 11, 0, 0, 0];
+
+/// `add r2, r3`, `mul r3, 5`, `xor r2, r3`, `rsh32 r3, 1`, `sub r2, r3`, `or r3, r2`: in each round other
+/// words.
+const OPERATIONS: [[u8; 8]; 6] = [
+    [0x0f, 0x32, 0, 0, 0, 0, 0, 0],
+    [0x27, 3, 0, 0, 5, 0, 0, 0],
+    [0xaf, 0x32, 0, 0, 0, 0, 0, 0],
+    [0x74, 3, 0, 0, 1, 0, 0, 0],
+    [0x1f, 0x32, 0, 0, 0, 0, 0, 0],
+    [0x4f, 0x23, 0, 0, 0, 0, 0, 0],
+];
+
+/// The bytes of a program of so many slots, from 4 on: operations on registers, and at the end a move
+/// and an exit.
+fn computing(alloc: Global, slots: u32) -> Result<Vec<u8>, AllocError> {
+    let mut bytes = Vec::from_slice(alloc, &OPERANDS)?;
+    let mut next = 0usize;
+    for _ in 4..slots {
+        bytes.extend_from_slice(&OPERATIONS[next % 6])?;
+        next = next.wrapping_add(1);
+    }
+    bytes.extend_from_slice(&MOVE)?;
+    bytes.extend_from_slice(&EXIT)?;
+    Ok(bytes)
+}
+
+/// Runs a program of so many slots, from 4 to 4,096, so many times, and answers the sum of the steps:
+/// as many as there are slots in each round, all but one of them arithmetic. It is 0 where memory ran
+/// out.
+#[unsafe(no_mangle)]
+pub extern "C" fn bench_exports_steps(alloc: Global, slots: u32, rounds: u32) -> u64 {
+    let Ok(bytes) = computing(alloc, slots) else {
+        return 0;
+    };
+    let Ok(program) = verify(alloc, &bytes) else {
+        return 0;
+    };
+    let Some(outcome) = response(200) else {
+        return 0;
+    };
+    let mut sum = 0u64;
+    for _ in 0..rounds {
+        let (_, steps) = run(&program, &outcome);
+        sum = sum.wrapping_add(u64::from(steps));
+    }
+    sum
+}
+
+/// Verifies the bytes of a program of so many slots, from 4 to 4,096, so many times, and answers the
+/// sum of the budgets: as many as there are slots in each round. It is 0 where memory ran out.
+#[unsafe(no_mangle)]
+pub extern "C" fn bench_exports_verify(alloc: Global, slots: u32, rounds: u32) -> u64 {
+    let Ok(bytes) = computing(alloc, slots) else {
+        return 0;
+    };
+    let mut sum = 0u64;
+    for _ in 0..rounds {
+        if let Ok(program) = verify(alloc, &bytes) {
+            sum = sum.wrapping_add(u64::from(program.budget()));
         }
     }
     sum

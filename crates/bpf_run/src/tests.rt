@@ -105,3 +105,35 @@ fn the_longest_program_runs(rt: HostRuntime) -> Result<(), Fail> {
     assert_eq!(rt; run(&program, &outcome), (Verdict::Success, 4096));
     Ok(())
 }
+
+/// Where two paths with different numbers in R2 meet, a number is left to compute with.
+#[test]
+fn paths_meet(rt: HostRuntime) -> Result<(), Fail> {
+    let slots = [
+        // lddw r2, -4294967290 / ldxw r3, [r1+0] / jsgt32 r3, 1, +1 / mov r2, r3
+        0x1802000006000000,
+        0x00000000ffffffff,
+        0x6113000000000000,
+        0x6603010001000000,
+        0xbf32000000000000,
+        // mod32 r2, 4 / jeq r2, 2, +2 / mov r0, 0 / exit / mov r0, 1 / exit
+        0x9402000004000000,
+        0x1502020002000000,
+        0xb700000000000000,
+        0x9500000000000000,
+        0xb700000001000000,
+        0x9500000000000000,
+    ];
+    let bytes = bytes_of(rt.alloc(), &slots)?;
+    let program = verify(rt.alloc(), &bytes).expect(&rt, "numbers where paths meet");
+    assert_eq!(rt; program.budget(), 8);
+    for (kind, verdict, steps) in [
+        (0, Verdict::Success, 8),
+        (1, Verdict::Success, 8),
+        (2, Verdict::Failure, 7),
+    ] {
+        let outcome = outcome(kind, 0).expect(&rt, "an empty tag");
+        assert_eq!(rt; run(&program, &outcome), (verdict, steps), "{kind}");
+    }
+    Ok(())
+}

@@ -4,11 +4,11 @@ ghost use Rattle.bpf_profile.specs.Machine.{◌>>=◌ as and_then, read_register
 ghost use Rattle.bpf_profile.specs.Words.{negation, moved_signed, converted};
 
 use crate::machine::Machine;
-use crate::operations::{arithmetic, converted, low32, moved_signed, negation};
 use crate::registers::number_or;
 use bpf_profile::{
     ByteOrder, Operand, Operation, Region, Register, Size, TrapReason, Value, Width,
 };
+use bpf_words::{arithmetic, converted, low32, moved_signed, negation};
 
 /// A pointer plus or minus a number: it moves the offset, which wraps.
 fn moved_pointer(

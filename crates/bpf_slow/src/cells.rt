@@ -5,8 +5,8 @@ ghost use Rattle.bpf_profile.specs.declared.machine.Cell.TheVariants as cell;
 ghost use Rattle.bpf_profile.specs.Machine.{pieces_from, same_region, is_piece, are_pieces, whole_pointer, is_some_piece, cell_bytes, number_of_cells, value_of_cells, cells_of};
 ghost use Rattle.bpf_profile.specs.Words.{bytes_in};
 
-use crate::operations::extended;
 use bpf_profile::{Cell, Extension, Region, Size, TrapReason, Value};
+use bpf_words::extended;
 use byteorder::{ByteOrder, LittleEndian};
 
 /// The eight bytes of a pointer.

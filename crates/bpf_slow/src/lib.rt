@@ -10,7 +10,6 @@ mod jumps;
 pub mod laws;
 mod machine;
 mod memory;
-mod operations;
 mod progress;
 mod registers;
 mod step;

@@ -6,9 +6,9 @@ ghost use Rattle.bpf_slow.specs.Progress.{effect_of_step};
 
 use crate::cells::{value_of_cells, write_value};
 use crate::machine::{Machine, STACK};
-use crate::operations::extended;
 use crate::progress::Progress;
 use bpf_profile::{Cell, Extension, Operand, Region, Register, Size, TrapReason, Value};
+use bpf_words::extended;
 use helpers::Record;
 use std::marker::Model;
 

@@ -1,30 +1,17 @@
 -- The pass over the slots: what it ends with describes each state that a run reaches.
-use Rattle.std.proofs.Common.{◌≡◌, ◌≢◌, ℕ, zero, suc, ◌+◌, ◌<◌, ◌≤◌, ◌⊎◌, inl, inr, Bool, true, false, cond, List, [], ◌∷◌, length, get_or, Option, Some, None, Result, Ok, Err, refl, sym, ap, ◌∙◌, subst, arith}
+use Rattle.std.proofs.Common.{◌≡◌, ◌≢◌, ℕ, zero, suc, ◌+◌, ◌<◌, ◌≤◌, ◌⊎◌, inl, inr, List, [], ◌∷◌, length, get_or, Option, Some, None, Result, Ok, Err, refl, sym, ap, ◌∙◌, subst, arith}
 use Rattle.std.specs.Prelude.{slice_set, slice_index_or, Contains, replicate}
 use Rattle.std.proofs.lemmas.Bool.{cases_eq, cases_lt}
 use Rattle.std.proofs.lemmas.List.{get_or-set_same, get_or-set_other}
 use Rattle.refusals.specs.declared.RefusalNumber.{RefusalNumber}
-use Rattle.refusals.specs.declared.RefusalNumber.TheVariants as refusal
-use Rattle.bpf_profile.specs.declared.instruction.Comparison.{Comparison}
-use Rattle.bpf_profile.specs.declared.instruction.Extension.{Extension}
-use Rattle.bpf_profile.specs.declared.instruction.Extension.TheVariants as extension
 use Rattle.bpf_profile.specs.declared.instruction.Instruction.{Instruction}
 use Rattle.bpf_profile.specs.declared.instruction.Instruction.TheVariants as instruction
-use Rattle.bpf_profile.specs.declared.instruction.Operand.{Operand}
-use Rattle.bpf_profile.specs.declared.instruction.Operand.TheVariants as operand
-use Rattle.bpf_profile.specs.declared.instruction.Operation.{Operation}
-use Rattle.bpf_profile.specs.declared.instruction.Operation.TheVariants as operation
-use Rattle.bpf_profile.specs.declared.instruction.Size.{Size}
-use Rattle.bpf_profile.specs.declared.instruction.Width.{Width}
-use Rattle.bpf_profile.specs.declared.instruction.Width.TheVariants as width
-use Rattle.bpf_profile.specs.Words.{bytes_in}
 use Rattle.bpf_profile.specs.declared.slot.Slot.{Slot}
 use Rattle.bpf_profile.specs.Flow.{successors, Edge}
 use Rattle.bpf_profile.specs.Meaning.{instruction_at}
 use Rattle.bpf_profile.specs.Spelling.{Fault}
 use Rattle.verifier.specs.declared.known.Known.{Known}
-use Rattle.verifier.specs.declared.known.Known.TheVariants as known
-use Rattle.verifier.specs.Analysis.{States, transfer, arithmetic_transfer, branch_transfer, load_transfer, load_fault, number_fault, exit_fault, unless, known_of, is_known_comparison, joined_registers, join_into, send, send_all, sent, pass_with, pass, then_from, pass_from, entry_registers, entry_states, analysis}
+use Rattle.verifier.specs.Analysis.{States, transfer, instruction_fault, known_after, unless, joined_registers, join_into, send, send_all, sent, pass_with, pass, then_from, pass_from, entry_registers, entry_states, analysis}
 use Rattle.verifier.proofs.Meant.{Covers, covers_itself, covers_along, joined_covers_left, joined_covers_right}
 
 -- what is known at a slot
@@ -261,29 +248,18 @@ unless_is : {A : Type 0} (fault : Option RefusalNumber) (a b : A) → unless fau
 unless_is None a b h = same_ok a b h
 unless_is (Some number) a b h = absurd (err_not_ok number b h)
 
-length_arithmetic : (registers after : List Known) (o : Operation) (w : Width) (dst : ℕ) (b : Operand) → arithmetic_transfer registers o w dst b ≡ Ok after → length after ≡ length registers
-length_arithmetic registers after operation.Move width.Bits64 dst (operand.Immediate n) e = ap length (sym (same_ok _ _ e)) ∙ length_set registers dst (known.Exactly n)
-length_arithmetic registers after o w dst b e = absurd (err_not_ok refusal.UnknownOpcode after e)
-
-length_load : (registers after : List Known) (count : Size) (x : Extension) (dst base offset : ℕ) → load_transfer registers count x dst base offset ≡ Ok after → length after ≡ length registers
-length_load registers after count extension.Sign dst base offset e = absurd (err_not_ok refusal.UnknownOpcode after e)
-length_load registers after count extension.Zero dst base offset e = ap length (sym (unless_is (load_fault (known_of registers base) (bytes_in count) offset) _ after e)) ∙ length_set registers dst known.Number
-
-cond_is : {A : Type 0} (test : Bool) (number : RefusalNumber) (r : Result A RefusalNumber) (a : A) → cond test r (Err number) ≡ Ok a → r ≡ Ok a
-cond_is true number r a h = h
-cond_is false number r a h = absurd (err_not_ok number a h)
-
-length_branch : (registers after : List Known) (c : Comparison) (w : Width) (left : ℕ) (right : Operand) → branch_transfer registers c w left right ≡ Ok after → length after ≡ length registers
-length_branch registers after c width.Bits64 left (operand.Immediate n) e = ap length (sym (unless_is (number_fault (known_of registers left)) registers after (cond_is (is_known_comparison c) refusal.UnknownOpcode _ after e)))
-length_branch registers after c w left right e = absurd (err_not_ok refusal.UnknownOpcode after e)
+length_after : (registers : List Known) (i : Instruction) → length (known_after registers i) ≡ length registers
+unfolding known_after
+length_after registers (instruction.Arithmetic o w dst b) = length_set registers dst _
+length_after registers (instruction.Negate w dst) = length_set registers dst _
+length_after registers (instruction.MoveSigned w count dst src) = length_set registers dst _
+length_after registers (instruction.Convert order count dst) = length_set registers dst _
+length_after registers (instruction.LoadImmediate dst n) = length_set registers dst _
+length_after registers (instruction.Load count x dst base offset) = length_set registers dst _
+length_after registers i = refl
 
 length_transfer : (registers after : List Known) (i : Instruction) → transfer registers i ≡ Ok after → length after ≡ length registers
-unfolding transfer
-length_transfer registers after (instruction.Arithmetic o w dst b) e = length_arithmetic registers after o w dst b e
-length_transfer registers after (instruction.Load count x dst base offset) e = length_load registers after count x dst base offset e
-length_transfer registers after (instruction.Branch c w left right distance) e = length_branch registers after c w left right e
-length_transfer registers after instruction.Exit e = ap length (sym (unless_is (exit_fault (known_of registers 0)) registers after e))
-length_transfer registers after other e = absurd (err_not_ok refusal.UnknownOpcode after e)
+length_transfer registers after i e = ap length (sym (unless_is (instruction_fault registers i) (known_after registers i) after e)) ∙ length_after registers i
 
 -- ---- the whole pass
 

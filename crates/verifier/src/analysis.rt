@@ -1,11 +1,10 @@
 //! The analysis: what is known of the registers at each slot, and the first instruction that may do what
 //! it must not. It is the analysis of today: registers alone, with the stack counted as empty.
-ghost use Rattle.std.specs.Prelude.{◌≡◌, ◌<◌, slice_set};
-ghost use Rattle.verifier.specs.Analysis.{transfer, load_fault, context_fault, number_fault, exit_fault, is_known_comparison, arithmetic_transfer, branch_transfer, unless, known_of};
-ghost use Rattle.bpf_profile.specs.Words.{bytes_in};
+ghost use Rattle.std.specs.Prelude.{◌≡◌, ◌<◌};
+ghost use Rattle.verifier.specs.Analysis.{transfer, context_fault, stack_fault, set_fault, pointer_fault, number_fault, numbers_fault, load_fault, place_fault, store_fault, exit_fault, known_operand, arithmetic_fault, instruction_fault, known_result, known_after};
 
 use crate::known::{Known, Registers};
-use bpf_profile::{Comparison, Extension, Instruction, Operand, Operation, Register, Size, Width};
+use bpf_profile::{Instruction, Operand, Operation, Register, Width};
 use refusals::RefusalNumber;
 
 /// The size of an outcome's context in bytes.
@@ -25,6 +24,53 @@ fn fault_in_context(count: u64, offset: u64) -> Option<RefusalNumber>
     }
 }
 
+/// What is wrong with an access to the stack, which counts as empty.
+fn fault_in_stack(count: u64, offset: u64) -> Option<RefusalNumber>
+    requires { 0 < count }
+    ensures { result ≡ stack_fault count offset }
+{
+    if offset % count == 0 {
+        Some(RefusalNumber::OutOfBounds)
+    } else {
+        Some(RefusalNumber::Misaligned)
+    }
+}
+
+/// What is wrong with a value that has to be set.
+fn fault_of_set(known: Known) -> Option<RefusalNumber>
+    ensures { result ≡ set_fault known }
+{
+    match known {
+        Known::Unset => Some(RefusalNumber::UnsetRegister),
+        _ => None,
+    }
+}
+
+/// What is wrong with a value that is set, where a number is needed.
+fn fault_of_pointer(known: Known) -> Option<RefusalNumber>
+    ensures { result ≡ pointer_fault known }
+{
+    match known {
+        Known::Context | Known::Stack => Some(RefusalNumber::PointerUsed),
+        _ => None,
+    }
+}
+
+/// What is wrong with a value where a number is needed.
+fn fault_of_number(known: Known) -> Option<RefusalNumber>
+    ensures { result ≡ number_fault known }
+{
+    fault_of_set(known).or(fault_of_pointer(known))
+}
+
+/// What is wrong with two values where numbers are needed: both have to be set first.
+fn fault_of_numbers(a: Known, b: Known) -> Option<RefusalNumber>
+    ensures { result ≡ numbers_fault a b }
+{
+    let unset = fault_of_set(a).or(fault_of_set(b));
+    unset.or(fault_of_pointer(a).or(fault_of_pointer(b)))
+}
+
 /// What is wrong with a load, the first in the order in which it is tried.
 fn fault_of_load(base: Known, count: u64, offset: u64) -> Option<RefusalNumber>
     requires { 0 < count }
@@ -34,20 +80,30 @@ fn fault_of_load(base: Known, count: u64, offset: u64) -> Option<RefusalNumber>
         Known::Unset => Some(RefusalNumber::UnsetRegister),
         Known::Exactly(_) | Known::Number => Some(RefusalNumber::NotPointer),
         Known::Context => fault_in_context(count, offset),
-        Known::Stack if offset % count == 0 => Some(RefusalNumber::OutOfBounds),
-        Known::Stack => Some(RefusalNumber::Misaligned),
+        Known::Stack => fault_in_stack(count, offset),
     }
 }
 
-/// What is wrong with a value where a number is needed.
-fn fault_of_number(known: Known) -> Option<RefusalNumber>
-    ensures { result ≡ number_fault known }
+/// What is wrong with the place of a store: the context is read only.
+fn fault_of_place(base: Known, count: u64, offset: u64) -> Option<RefusalNumber>
+    requires { 0 < count }
+    ensures { result ≡ place_fault base count offset }
 {
-    match known {
+    match base {
         Known::Unset => Some(RefusalNumber::UnsetRegister),
-        Known::Exactly(_) | Known::Number => None,
-        Known::Context | Known::Stack => Some(RefusalNumber::PointerUsed),
+        Known::Exactly(_) | Known::Number => Some(RefusalNumber::NotPointer),
+        Known::Context => Some(RefusalNumber::ContextWrite),
+        Known::Stack => fault_in_stack(count, offset),
     }
+}
+
+/// What is wrong with a store of a value.
+fn fault_of_store(base: Known, value: Known, count: u64, offset: u64) -> Option<RefusalNumber>
+    requires { 0 < count }
+    ensures { result ≡ store_fault base value count offset }
+{
+    let unset = fault_of_set(base).or(fault_of_set(value));
+    unset.or(fault_of_place(base, count, offset))
 }
 
 /// What is wrong with an answer.
@@ -62,84 +118,36 @@ fn fault_of_exit(known: Known) -> Option<RefusalNumber>
     }
 }
 
-fn is_known(comparison: Comparison) -> bool
-    ensures { result ≡ is_known_comparison comparison }
+/// What is known of an operand.
+fn known_operand(registers: &Registers, operand: Operand) -> Known
+    ensures { result ≡ known_operand registers.now operand }
 {
-    matches!(
-        comparison,
-        Comparison::Equal | Comparison::NotEqual | Comparison::GreaterOrEqual
-    )
-}
-
-fn registers_unless(
-    fault: Option<RefusalNumber>,
-    registers: Registers,
-) -> Result<Registers, RefusalNumber>
-    ensures { result ≡ unless fault registers }
-{
-    match fault {
-        None => Ok(registers),
-        Some(number) => Err(number),
+    match operand {
+        Operand::Register(register) => registers.get(register),
+        Operand::Immediate(value) => Known::Exactly(value),
     }
 }
 
-/// What is known after a load.
-fn after_load(
-    registers: &Registers,
-    size: Size,
-    destination: Register,
-    base: Register,
-    offset: u64,
-) -> Result<Registers, RefusalNumber>
-    ensures { result ≡ unless (load_fault (known_of registers.now base) (bytes_in size) offset) (slice_set registers.now destination Known.Number) }
-{
-    let fault = fault_of_load(registers.get(base), size.bytes(), offset);
-    registers_unless(fault, registers.with(destination, Known::Number))
-}
-
-/// What is known after an operation on a register: a move of a constant is followed.
-fn after_arithmetic(
-    registers: &Registers,
+/// What is wrong with the operands of an operation. A move doesn't read its destination.
+fn fault_of_arithmetic(
     operation: Operation,
     width: Width,
-    destination: Register,
-    operand: Operand,
-) -> Result<Registers, RefusalNumber>
-    ensures { result ≡ arithmetic_transfer registers.now operation width destination operand }
+    a: Known,
+    b: Known,
+) -> Option<RefusalNumber>
+    ensures { result ≡ arithmetic_fault operation width a b }
 {
-    match (operation, width, operand) {
-        (Operation::Move, Width::Bits64, Operand::Immediate(value)) => {
-            Ok(registers.with(destination, Known::Exactly(value)))
-        }
-        _ => Err(RefusalNumber::UnknownOpcode),
+    match (operation, width) {
+        (Operation::Move, Width::Bits64) => fault_of_set(b),
+        (Operation::Move, Width::Bits32) => fault_of_number(b),
+        _ => fault_of_numbers(a, b),
     }
 }
 
-/// What is known after a comparison with a constant.
-fn after_branch(
-    registers: &Registers,
-    comparison: Comparison,
-    width: Width,
-    left: Register,
-    right: Operand,
-) -> Result<Registers, RefusalNumber>
-    ensures { result ≡ branch_transfer registers.now comparison width left right }
-{
-    match (width, right) {
-        (Width::Bits64, Operand::Immediate(_)) if is_known(comparison) => {
-            registers_unless(fault_of_number(registers.get(left)), *registers)
-        }
-        _ => Err(RefusalNumber::UnknownOpcode),
-    }
-}
-
-/// What is known after an instruction, or the first of its faults.
-#[tactic(auto, unfolding(crate::specs::Analysis::transfer))]
-pub(crate) fn after_instruction(
-    registers: &Registers,
-    instruction: &Instruction,
-) -> Result<Registers, RefusalNumber>
-    ensures { result ≡ transfer registers.now instruction.now }
+/// What is wrong with an instruction, the first in the order in which it is tried.
+#[tactic(auto, unfolding(crate::specs::Analysis::instruction_fault))]
+fn fault_of_instruction(registers: &Registers, instruction: &Instruction) -> Option<RefusalNumber>
+    ensures { result ≡ instruction_fault registers.now instruction.now }
 {
     match *instruction {
         Instruction::Arithmetic {
@@ -147,24 +155,95 @@ pub(crate) fn after_instruction(
             width,
             destination,
             operand,
-        } => { after_arithmetic(registers, operation, width, destination, operand) }
+        } => {
+            let known = known_operand(registers, operand);
+            fault_of_arithmetic(operation, width, registers.get(destination), known)
+        }
+        Instruction::Negate { destination, .. } | Instruction::Convert { destination, .. } => {
+            fault_of_number(registers.get(destination))
+        }
+        Instruction::MoveSigned { source, .. } => fault_of_number(registers.get(source)),
         Instruction::Load {
             size,
-            extension: Extension::Zero,
-            destination,
             base,
             offset,
-        } => { after_load(registers, size, destination, base, offset) }
-        Instruction::Branch {
-            comparison,
-            width,
-            left,
-            right,
             ..
-        } => { after_branch(registers, comparison, width, left, right) }
-        Instruction::Exit => {
-            registers_unless(fault_of_exit(registers.get(Register::new(0))), *registers)
+        } => fault_of_load(registers.get(base), size.bytes(), offset),
+        Instruction::Store {
+            size,
+            base,
+            offset,
+            operand,
+        } => {
+            let value = known_operand(registers, operand);
+            fault_of_store(registers.get(base), value, size.bytes(), offset)
         }
-        _ => Err(RefusalNumber::UnknownOpcode),
+        Instruction::Branch { left, right, .. } => {
+            fault_of_numbers(registers.get(left), known_operand(registers, right))
+        }
+        Instruction::Call { .. } => Some(RefusalNumber::HelperUnknown),
+        Instruction::Exit => fault_of_exit(registers.get(Register::new(0))),
+        Instruction::LoadImmediate { .. } | Instruction::Jump { .. } => None,
+    }
+}
+
+/// What is known of the result of an operation: a move is followed.
+fn known_result(
+    registers: &Registers,
+    operation: Operation,
+    width: Width,
+    operand: Operand,
+) -> Known
+    ensures { result ≡ known_result registers.now operation width operand }
+{
+    match (operation, width, operand) {
+        (Operation::Move, Width::Bits64, _) => known_operand(registers, operand),
+        (Operation::Move, Width::Bits32, Operand::Immediate(value)) => {
+            Known::Exactly(value % 0x1_0000_0000)
+        }
+        _ => Known::Number,
+    }
+}
+
+/// What is known after an instruction that has no fault. Nothing is learnt from a comparison.
+#[tactic(auto, unfolding(crate::specs::Analysis::known_after))]
+fn known_after(registers: &Registers, instruction: &Instruction) -> Registers
+    ensures { result ≡ known_after registers.now instruction.now }
+{
+    match *instruction {
+        Instruction::Arithmetic {
+            operation,
+            width,
+            destination,
+            operand,
+        } => {
+            let known = known_result(registers, operation, width, operand);
+            registers.with(destination, known)
+        }
+        Instruction::Negate { destination, .. }
+        | Instruction::MoveSigned { destination, .. }
+        | Instruction::Convert { destination, .. }
+        | Instruction::Load { destination, .. } => registers.with(destination, Known::Number),
+        Instruction::LoadImmediate { destination, value } => {
+            registers.with(destination, Known::Exactly(value))
+        }
+        Instruction::Store { .. }
+        | Instruction::Jump { .. }
+        | Instruction::Branch { .. }
+        | Instruction::Call { .. }
+        | Instruction::Exit => *registers,
+    }
+}
+
+/// What is known after an instruction, or the first of its faults.
+pub(crate) fn after_instruction(
+    registers: &Registers,
+    instruction: &Instruction,
+) -> Result<Registers, RefusalNumber>
+    ensures { result ≡ transfer registers.now instruction.now }
+{
+    match fault_of_instruction(registers, instruction) {
+        None => Ok(known_after(registers, instruction)),
+        Some(number) => Err(number),
     }
 }

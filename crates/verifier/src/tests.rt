@@ -48,7 +48,9 @@ fn registers_and_loads_are_refused(rt: HostRuntime) {
         (0x79a0f8ff00000000, (RefusalNumber::OutOfBounds, 0)),
         (0x79a0f9ff00000000, (RefusalNumber::Misaligned, 0)),
         (0x7120000000000000, (RefusalNumber::UnsetRegister, 0)),
-        (0x0700000001000000, (RefusalNumber::UnknownOpcode, 0)),
+        (0x0700000001000000, (RefusalNumber::UnsetRegister, 0)),
+        (0x9110800000000000, (RefusalNumber::OutOfBounds, 0)),
+        (0x89107f0000000000, (RefusalNumber::Misaligned, 0)),
         (0x8710000000000000, (RefusalNumber::BadField, 0)),
     ];
     for (slot, refusal) in rows {
@@ -63,6 +65,154 @@ fn registers_and_loads_are_refused(rt: HostRuntime) {
         refusal_of(rt.alloc(), &number),
         Some((RefusalNumber::NotPointer, 1))
     );
+}
+
+#[test]
+fn slots_are_refused(rt: HostRuntime) {
+    let rows = [
+        (0x8700000001000000, RefusalNumber::BadField),
+        (0xb70b000000000000, RefusalNumber::BadRegister),
+        (0xb70a000000000000, RefusalNumber::BadRegister),
+        (0xdb00000000000000, RefusalNumber::LeftOut),
+        (0x8510000001000000, RefusalNumber::LeftOut),
+        (0x1811000000000000, RefusalNumber::LeftOut),
+        (0x0000000000000000, RefusalNumber::UnknownOpcode),
+    ];
+    for (slot, number) in rows {
+        assert_eq!(rt;
+            refusal_of(rt.alloc(), &[slot, EXIT]),
+            Some((number, 0)),
+            "{slot:x}"
+        );
+    }
+    let no_tail = [0xb700000000000000, 0x1800000000000000];
+    assert_eq!(rt;
+        refusal_of(rt.alloc(), &no_tail),
+        Some((RefusalNumber::BadTail, 1))
+    );
+}
+
+/// Each slot stands before an exit. R1 is a pointer, and R2 and R3 are unset.
+#[test]
+fn pointers_and_unset_registers_are_refused(rt: HostRuntime) {
+    let rows = [
+        // add r1, 1 / add32 r1, 1 / add r2, r1 / add r1, r3
+        (0x0701000001000000, RefusalNumber::PointerUsed),
+        (0x0401000001000000, RefusalNumber::PointerUsed),
+        (0x0f12000000000000, RefusalNumber::UnsetRegister),
+        (0x0f31000000000000, RefusalNumber::UnsetRegister),
+        // mov r2, r3 / mov32 r2, r1 / movsb r2, r1 / movsw r2, r3
+        (0xbf32000000000000, RefusalNumber::UnsetRegister),
+        (0xbc12000000000000, RefusalNumber::PointerUsed),
+        (0xbf12080000000000, RefusalNumber::PointerUsed),
+        (0xbf32200000000000, RefusalNumber::UnsetRegister),
+        // neg r1 / neg32 r2 / le16 r1 / swap64 r2
+        (0x8701000000000000, RefusalNumber::PointerUsed),
+        (0x8402000000000000, RefusalNumber::UnsetRegister),
+        (0xd401000010000000, RefusalNumber::PointerUsed),
+        (0xd702000040000000, RefusalNumber::UnsetRegister),
+        // jgt32 r1, 0, +0 / jeq r1, r3, +0 / jset r1, r10, +0
+        (0x2601000000000000, RefusalNumber::PointerUsed),
+        (0x1d31000000000000, RefusalNumber::UnsetRegister),
+        (0x4da1000000000000, RefusalNumber::PointerUsed),
+        // call 1
+        (0x8500000001000000, RefusalNumber::HelperUnknown),
+    ];
+    for (slot, number) in rows {
+        assert_eq!(rt;
+            refusal_of(rt.alloc(), &[slot, EXIT]),
+            Some((number, 0)),
+            "{slot:x}"
+        );
+    }
+}
+
+#[test]
+fn stores_are_refused(rt: HostRuntime) {
+    let rows = [
+        // stb [r1+0], 1 / stxh [r1+1], r10 / stxb [r2+0], r1 / stxb [r1+0], r3
+        (0x7201000001000000, RefusalNumber::ContextWrite),
+        (0x6ba1010000000000, RefusalNumber::ContextWrite),
+        (0x7312000000000000, RefusalNumber::UnsetRegister),
+        (0x7331000000000000, RefusalNumber::UnsetRegister),
+        // stb [r10-8], 1 / stdw [r10-7], 1
+        (0x720af8ff01000000, RefusalNumber::OutOfBounds),
+        (0x7a0af9ff01000000, RefusalNumber::Misaligned),
+    ];
+    for (slot, number) in rows {
+        assert_eq!(rt;
+            refusal_of(rt.alloc(), &[slot, EXIT]),
+            Some((number, 0)),
+            "{slot:x}"
+        );
+    }
+    // mov r2, 0 / stb [r2+0], 1
+    let number = [0xb702000000000000, 0x7202000001000000, EXIT];
+    assert_eq!(rt;
+        refusal_of(rt.alloc(), &number),
+        Some((RefusalNumber::NotPointer, 1))
+    );
+}
+
+#[test]
+fn answers_are_refused(rt: HostRuntime) {
+    let rows: [(&[u64], u32, RefusalNumber); 4] = [
+        // mov32 r0, -1
+        (&[0xb4000000ffffffff], 1, RefusalNumber::AnswerRange),
+        // mov r0, 1 / add r0, 0
+        (
+            &[0xb700000001000000, 0x0700000000000000],
+            2,
+            RefusalNumber::AnswerRange,
+        ),
+        // mov r0, r10
+        (&[0xbfa0000000000000], 1, RefusalNumber::PointerUsed),
+        // lddw r0, 4294967296
+        (
+            &[0x1800000000000000, 0x0000000001000000],
+            2,
+            RefusalNumber::AnswerRange,
+        ),
+    ];
+    for (first, slot, number) in rows {
+        let mut program = [EXIT; 3];
+        for i in 0..first.len() {
+            program[i] = first[i];
+        }
+        assert_eq!(rt;
+            refusal_of(rt.alloc(), &program[..first.len() + 1]),
+            Some((number, slot)),
+            "{first:?}"
+        );
+    }
+}
+
+#[test]
+fn moved_values_are_followed(rt: HostRuntime) -> Result<(), Fail> {
+    let rows: [(&[u64], u32); 3] = [
+        // mov32 r0, 2
+        (&[0xb400000002000000, EXIT], 2),
+        // lddw r0, 1
+        (&[0x1800000001000000, 0, EXIT], 2),
+        // mov r6, r1 / mov r7, 2 / ldxsb r2, [r6+127] / sdiv32 r2, r7 / mov r0, r7
+        (
+            &[
+                0xbf16000000000000,
+                0xb707000002000000,
+                0x91627f0000000000,
+                0x3c72010000000000,
+                0xbf70000000000000,
+                EXIT,
+            ],
+            6,
+        ),
+    ];
+    for (slots, budget) in rows {
+        let bytes = bytes_of(rt.alloc(), slots)?;
+        let program = verify(rt.alloc(), &bytes).expect(&rt, "an answer of at most 2");
+        assert_eq!(rt; program.budget(), budget, "{slots:?}");
+    }
+    Ok(())
 }
 
 #[test]

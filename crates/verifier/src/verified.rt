@@ -111,8 +111,7 @@ fn kept(alloc: Global, program: Program, bytes: &[u8], budget: u32) -> Result<Ve
 }
 
 /// The verified program of the bytes, or the first fault: of decoding, then of flow, then of the
-/// analysis, in which the least slot comes first. Until the analysis knows all instructions, one
-/// that it doesn't know is `UnknownOpcode` at its slot. Where memory runs out the refusal is
+/// analysis, in which the least slot comes first. Where memory runs out the refusal is
 /// `ProgramOutOfMemory` at slot 0.
 pub fn verify(alloc: Global, bytes: &[u8]) -> Result<Verified, Refusal>
     // What is verified is spelled so, and safe.

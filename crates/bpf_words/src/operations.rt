@@ -99,14 +99,14 @@ fn operation32(operation: Operation, a: u32, b: u32) -> u32
 }
 
 /// The low 32 bits.
-pub(crate) fn low32(n: u64) -> u32
+pub fn low32(n: u64) -> u32
     ensures { result ≡ low 32 n }
 {
     (n % 0x1_0000_0000) as u32
 }
 
 /// An operation of a class: ALU64, or ALU on the low halves, with the upper half of the result 0.
-pub(crate) fn arithmetic(operation: Operation, width: Width, a: u64, b: u64) -> u64
+pub fn arithmetic(operation: Operation, width: Width, a: u64, b: u64) -> u64
     ensures { result ≡ arithmetic operation width a b }
 {
     match width {
@@ -116,14 +116,14 @@ pub(crate) fn arithmetic(operation: Operation, width: Width, a: u64, b: u64) -> 
 }
 
 /// 0 less the number.
-pub(crate) fn negation(width: Width, a: u64) -> u64
+pub fn negation(width: Width, a: u64) -> u64
     ensures { result ≡ negation width a }
 {
     arithmetic(Operation::Subtract, width, 0, a)
 }
 
 /// The low bytes as a signed number, which is widened to 64 bits.
-pub(crate) fn sign_extended(size: Size, n: u64) -> u64
+pub fn sign_extended(size: Size, n: u64) -> u64
     ensures { result ≡ sign_extended (bits_in size) n }
 {
     let wide = match size {
@@ -136,7 +136,7 @@ pub(crate) fn sign_extended(size: Size, n: u64) -> u64
 }
 
 /// The low bytes, filled up with zeros or with copies of their highest bit.
-pub(crate) fn extended(extension: Extension, size: Size, n: u64) -> u64
+pub fn extended(extension: Extension, size: Size, n: u64) -> u64
     ensures { result ≡ extended extension (bits_in size) n }
 {
     match extension {
@@ -146,7 +146,7 @@ pub(crate) fn extended(extension: Extension, size: Size, n: u64) -> u64
 }
 
 /// The low bytes, sign-extended to the width.
-pub(crate) fn moved_signed(width: Width, size: Size, n: u64) -> u64
+pub fn moved_signed(width: Width, size: Size, n: u64) -> u64
     ensures { result ≡ moved_signed width size n }
 {
     let wide = sign_extended(size, n);
@@ -181,7 +181,7 @@ fn swapped(size: Size, n: u64) -> u64
 }
 
 /// What a byte order conversion makes of the low bytes. The machine is little endian.
-pub(crate) fn converted(order: ByteOrder, size: Size, n: u64) -> u64
+pub fn converted(order: ByteOrder, size: Size, n: u64) -> u64
     ensures { result ≡ converted order size n }
 {
     match order {

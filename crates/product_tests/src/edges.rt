@@ -1,0 +1,120 @@
+//! Operations at their edges. The results were computed by another program, with whole numbers of any
+//! size.
+use crate::programs::{both_give, patterned, slot, wide};
+use std::alloc::Global;
+use std::process::Abort;
+use std::test::Fail;
+
+/// The opcode and the offset of an operation on R1 and R2, the two words, and the word that R1 then is.
+type Row = (u8, u8, u64, u64, u64);
+
+const ADDITIVE: [Row; 18] = [
+    (0x0f, 0, 0xffffffffffffffff, 0x1, 0x0), // add
+    (0x0f, 0, 0x8000000000000000, 0x80000000, 0x8000000080000000), // add
+    (0x0f, 0, 0xffffffff, 0x100000001, 0x200000000), // add
+    (0x0c, 0, 0xffffffffffffffff, 0x1, 0x0), // add32
+    (0x0c, 0, 0x8000000000000000, 0x80000000, 0x80000000), // add32
+    (0x0c, 0, 0xffffffff, 0x100000001, 0x0), // add32
+    (0x1f, 0, 0xffffffffffffffff, 0x1, 0xfffffffffffffffe), // sub
+    (0x1f, 0, 0x8000000000000000, 0x80000000, 0x7fffffff80000000), // sub
+    (0x1f, 0, 0xffffffff, 0x100000001, 0xfffffffffffffffe), // sub
+    (0x1c, 0, 0xffffffffffffffff, 0x1, 0xfffffffe), // sub32
+    (0x1c, 0, 0x8000000000000000, 0x80000000, 0x80000000), // sub32
+    (0x1c, 0, 0xffffffff, 0x100000001, 0xfffffffe), // sub32
+    (0x2f, 0, 0xffffffffffffffff, 0x1, 0xffffffffffffffff), // mul
+    (0x2f, 0, 0x8000000000000000, 0x80000000, 0x0), // mul
+    (0x2f, 0, 0xffffffff, 0x100000001, 0xffffffffffffffff), // mul
+    (0x2c, 0, 0xffffffffffffffff, 0x1, 0xffffffff), // mul32
+    (0x2c, 0, 0x8000000000000000, 0x80000000, 0x0), // mul32
+    (0x2c, 0, 0xffffffff, 0x100000001, 0xffffffff), // mul32
+];
+
+const DIVISIONS: [Row; 20] = [
+    (0x3f, 0, 0x8000000000000000, 0x0, 0x0), // div
+    (0x3f, 0, 0xffffffffffffffff, 0x100000001, 0xffffffff), // div
+    (0x3c, 0, 0x8000000000000000, 0x0, 0x0), // div32
+    (0x3c, 0, 0xffffffffffffffff, 0x100000001, 0xffffffff), // div32
+    (
+        0x3f,
+        1,
+        0x8000000000000000,
+        0xffffffffffffffff,
+        0x8000000000000000,
+    ), // sdiv
+    (0x3f, 1, 0x8000000000000000, 0xffffffff, 0xffffffff80000000), // sdiv
+    (0x3f, 1, 0xfffffffffffffff3, 0x3, 0xfffffffffffffffc), // sdiv
+    (0x3c, 1, 0x8000000000000000, 0xffffffffffffffff, 0x0), // sdiv32
+    (0x3c, 1, 0x8000000000000000, 0xffffffff, 0x0), // sdiv32
+    (0x3c, 1, 0xfffffffffffffff3, 0x3, 0xfffffffc), // sdiv32
+    (0x9f, 0, 0x8000000000000005, 0x0, 0x8000000000000005), // mod
+    (0x9f, 0, 0xffffffffffffffff, 0xffffffff, 0x0), // mod
+    (0x9c, 0, 0x8000000000000005, 0x0, 0x5), // mod32
+    (0x9c, 0, 0xffffffffffffffff, 0xffffffff, 0x0), // mod32
+    (0x9f, 1, 0x8000000000000000, 0xffffffffffffffff, 0x0), // smod
+    (0x9f, 1, 0x80000000, 0xffffffffffffffff, 0x0), // smod
+    (0x9f, 1, 0xfffffffffffffff3, 0x3, 0xffffffffffffffff), // smod
+    (0x9c, 1, 0x8000000000000000, 0xffffffffffffffff, 0x0), // smod32
+    (0x9c, 1, 0x80000000, 0xffffffffffffffff, 0x0), // smod32
+    (0x9c, 1, 0xfffffffffffffff3, 0x3, 0xffffffff), // smod32
+];
+
+const BITS: [Row; 24] = [
+    (0x4f, 0, 0xffffffffffffffff, 0x1, 0xffffffffffffffff), // or
+    (0x4f, 0, 0x8000000000000000, 0x80000000, 0x8000000080000000), // or
+    (0x4f, 0, 0xffffffff, 0x100000001, 0x1ffffffff), // or
+    (0x4c, 0, 0xffffffffffffffff, 0x1, 0xffffffff), // or32
+    (0x4c, 0, 0x8000000000000000, 0x80000000, 0x80000000), // or32
+    (0x4c, 0, 0xffffffff, 0x100000001, 0xffffffff), // or32
+    (0x5f, 0, 0xffffffffffffffff, 0x1, 0x1), // and
+    (0x5f, 0, 0x8000000000000000, 0x80000000, 0x0), // and
+    (0x5f, 0, 0xffffffff, 0x100000001, 0x1), // and
+    (0x5c, 0, 0xffffffffffffffff, 0x1, 0x1), // and32
+    (0x5c, 0, 0x8000000000000000, 0x80000000, 0x0), // and32
+    (0x5c, 0, 0xffffffff, 0x100000001, 0x1), // and32
+    (0xaf, 0, 0xffffffffffffffff, 0x1, 0xfffffffffffffffe), // xor
+    (0xaf, 0, 0x8000000000000000, 0x80000000, 0x8000000080000000), // xor
+    (0xaf, 0, 0xffffffff, 0x100000001, 0x1fffffffe), // xor
+    (0xac, 0, 0xffffffffffffffff, 0x1, 0xfffffffe), // xor32
+    (0xac, 0, 0x8000000000000000, 0x80000000, 0x80000000), // xor32
+    (0xac, 0, 0xffffffff, 0x100000001, 0xfffffffe), // xor32
+    (0xbf, 0, 0xffffffffffffffff, 0x1, 0x1), // mov
+    (0xbf, 0, 0x8000000000000000, 0x80000000, 0x80000000), // mov
+    (0xbf, 0, 0xffffffff, 0x100000001, 0x100000001), // mov
+    (0xbc, 0, 0xffffffffffffffff, 0x1, 0x1), // mov32
+    (0xbc, 0, 0x8000000000000000, 0x80000000, 0x80000000), // mov32
+    (0xbc, 0, 0xffffffff, 0x100000001, 0x1), // mov32
+];
+
+const SHIFTS: [Row; 12] = [
+    (0x6f, 0, 0x80000001, 0x40, 0x80000001), // lsh
+    (0x6f, 0, 0x8000000000000001, 0x21, 0x200000000), // lsh
+    (0x6c, 0, 0x80000001, 0x40, 0x80000001), // lsh32
+    (0x6c, 0, 0x8000000000000001, 0x21, 0x2), // lsh32
+    (0x7f, 0, 0x8000000000000001, 0x40, 0x8000000000000001), // rsh
+    (0x7f, 0, 0x8000000080000000, 0x21, 0x40000000), // rsh
+    (0x7c, 0, 0x8000000000000001, 0x40, 0x1), // rsh32
+    (0x7c, 0, 0x8000000080000000, 0x21, 0x40000000), // rsh32
+    (0xcf, 0, 0x8000000080000000, 0x40, 0x8000000080000000), // arsh
+    (0xcf, 0, 0x80000000, 0x1f, 0x1), // arsh
+    (0xcc, 0, 0x8000000080000000, 0x40, 0x80000000), // arsh32
+    (0xcc, 0, 0x80000000, 0x1f, 0xffffffff), // arsh32
+];
+
+fn both_give_rows(rt: &impl Abort, alloc: Global, rows: &[Row]) -> Result<(), Fail> {
+    let outcome = patterned().expect(rt, "an empty tag");
+    for &(opcode, offset, a, b, result) in rows {
+        let mut first = Vec::from_slice(alloc, &wide(1, a))?;
+        first.extend_from_slice(&wide(2, b))?;
+        first.extend_from_slice(&slot(opcode, 0x21, offset, 0))?;
+        both_give(rt, alloc, &first, 3, &outcome, result)?;
+    }
+    Ok(())
+}
+
+#[test]
+fn operations_at_their_edges(rt: HostRuntime) -> Result<(), Fail> {
+    both_give_rows(&rt, rt.alloc(), &ADDITIVE)?;
+    both_give_rows(&rt, rt.alloc(), &DIVISIONS)?;
+    both_give_rows(&rt, rt.alloc(), &BITS)?;
+    both_give_rows(&rt, rt.alloc(), &SHIFTS)
+}

@@ -1,0 +1,15 @@
+//! Tests that cross crates: the fast run beside the plain machine. The library itself is empty.
+#![tactic(auto)]
+
+#[cfg(test)]
+mod arithmetic;
+#[cfg(test)]
+mod comparisons;
+#[cfg(test)]
+mod conversions;
+#[cfg(test)]
+mod edges;
+#[cfg(test)]
+mod loads;
+#[cfg(test)]
+mod programs;

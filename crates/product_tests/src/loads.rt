@@ -1,0 +1,37 @@
+//! Loads from the context, of every size and with both extensions.
+use crate::programs::{both_give, patterned, slot};
+use bpf_profile::{Extension, Size};
+use bpf_words::extended;
+use std::test::Fail;
+
+/// A load with its opcode.
+const LOADS: [(u8, Size, Extension); 7] = [
+    (0x71, Size::Byte, Extension::Zero),
+    (0x69, Size::HalfWord, Extension::Zero),
+    (0x61, Size::Word, Extension::Zero),
+    (0x79, Size::DoubleWord, Extension::Zero),
+    (0x91, Size::Byte, Extension::Sign),
+    (0x89, Size::HalfWord, Extension::Sign),
+    (0x81, Size::Word, Extension::Sign),
+];
+
+#[test]
+fn loads_at_every_place(rt: HostRuntime) -> Result<(), Fail> {
+    let outcome = patterned().expect(&rt, "an empty tag");
+    for (opcode, size, extension) in LOADS {
+        for offset in 0..128u8 {
+            let place = u64::from(offset);
+            if place % size.bytes() == 0 {
+                let mut number = 0u64;
+                for k in 0..size.bytes() {
+                    let byte = place.wrapping_add(k).wrapping_mul(37) % 256;
+                    number |= byte << (k * 8);
+                }
+                let result = extended(extension, size, number);
+                let load = slot(opcode, 0x11, offset, 0);
+                both_give(&rt, rt.alloc(), &load, 1, &outcome, result)?;
+            }
+        }
+    }
+    Ok(())
+}
