@@ -54,8 +54,8 @@ pub fn holds(comparison: Comparison, width: Width, a: u64, b: u64) -> bool
     }
 }
 
-/// The slot so many slots after the next. A target before slot 0 wraps to one past each program's
-/// end.
+/// The slot so many slots after the next one, where a distance is a word that is read as signed. A
+/// target before slot 0 wraps to one past each program's end.
 pub fn target_of(slot: usize, distance: u64) -> usize
     requires { slot < 4096 }
     ensures { result ≡ target_of slot distance }

@@ -1,4 +1,5 @@
-//! What the operations make of words (RFC 9669, section 4.1 and 4.2).
+//! What the operations make of words (RFC 9669, sections 4.1 and 4.2). None of them fails: sums and
+//! products wrap, shifts take their count below the width, and each division has a result.
 ghost use Rattle.std.specs.Prelude.{◌≡◌, ◌<◌, ◌^◌};
 ghost use Rattle.bpf_profile.specs.Words.{operation_at, arithmetic, negation, quotient, remainder, signed_quotient, signed_remainder, sign_extended, moved_signed, swapped, converted, bits_in, bytes_in, extended, low};
 
@@ -105,7 +106,8 @@ pub fn low32(n: u64) -> u32
     (n % 0x1_0000_0000) as u32
 }
 
-/// An operation of a class: ALU64, or ALU on the low halves, with the upper half of the result 0.
+/// An operation of a class: ALU64, or ALU on the low halves, with the upper half of the result 0
+/// (RFC 9669, section 4.1). Division by 0 gives 0, and the remainder by 0 is the dividend.
 pub fn arithmetic(operation: Operation, width: Width, a: u64, b: u64) -> u64
     ensures { result ≡ arithmetic operation width a b }
 {
@@ -115,14 +117,14 @@ pub fn arithmetic(operation: Operation, width: Width, a: u64, b: u64) -> u64
     }
 }
 
-/// 0 less the number.
+/// 0 less the number, in class ALU of the low half (RFC 9669, section 4.1).
 pub fn negation(width: Width, a: u64) -> u64
     ensures { result ≡ negation width a }
 {
     arithmetic(Operation::Subtract, width, 0, a)
 }
 
-/// The low bytes as a signed number, which is widened to 64 bits.
+/// The low bytes as a signed number, which is widened to 64 bits (RFC 9669, section 2.3).
 pub fn sign_extended(size: Size, n: u64) -> u64
     ensures { result ≡ sign_extended (bits_in size) n }
 {
@@ -135,7 +137,8 @@ pub fn sign_extended(size: Size, n: u64) -> u64
     wide.cast_unsigned()
 }
 
-/// The low bytes, filled up with zeros or with copies of their highest bit.
+/// The low bytes, filled up with zeros or with copies of their highest bit, as loads do it (RFC 9669,
+/// sections 5.1 and 5.2).
 pub fn extended(extension: Extension, size: Size, n: u64) -> u64
     ensures { result ≡ extended extension (bits_in size) n }
 {
@@ -145,7 +148,8 @@ pub fn extended(extension: Extension, size: Size, n: u64) -> u64
     }
 }
 
-/// The low bytes, sign-extended to the width.
+/// The low bytes, sign-extended to the width (RFC 9669, section 4.1); in class ALU the upper half of the
+/// result is 0.
 pub fn moved_signed(width: Width, size: Size, n: u64) -> u64
     ensures { result ≡ moved_signed width size n }
 {
@@ -180,7 +184,8 @@ fn swapped(size: Size, n: u64) -> u64
     }
 }
 
-/// What a byte order conversion makes of the low bytes. The machine is little endian.
+/// What a byte order conversion makes of the low bytes (RFC 9669, section 4.2). The machine is little
+/// endian: a conversion to little endian keeps them. The other bytes of the result are 0.
 pub fn converted(order: ByteOrder, size: Size, n: u64) -> u64
     ensures { result ≡ converted order size n }
 {

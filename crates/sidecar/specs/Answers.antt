@@ -1,16 +1,14 @@
 -- What the commands answer.
-use Rattle.std.specs.Prelude.{◌≡◌, ◌⊎◌, ℕ, List, length, Option, Some, None, if◌then◌else◌}
-use Rattle.std.specs.Str.{is_utf8}
+use Rattle.std.specs.Prelude.{◌≡◌, ◌⊎◌, ℕ, List, length, Option, Some, None}
 use Rattle.serde_json.specs.Data.{Data}
-use Rattle.serde_json.specs.Read.{read}
 use Rattle.refusals.specs.declared.RefusalNumber.TheVariants.{ProgramOutOfMemory, BadHex, BadJson, BadValue}
-use Rattle.bpf_profile.specs.declared.machine.Verdict.{Verdict}
 use Rattle.bpf_profile.specs.declared.slot.Slot.{Slot}
 use Rattle.bpf_profile.specs.Meaning.{Judges}
 use Rattle.bpf_profile.specs.Outcomes.{Outcome}
 use Rattle.bpf_profile.specs.Safety.{IsSafe}
 use Rattle.bpf_profile.specs.Spelling.{Spells}
 use Rattle.helpers.specs.Json.{outcome_of}
+use Rattle.requests.specs.Text.{json_of}
 use Rattle.verifier.specs.Analysis.{context_size}
 use Rattle.verifier.specs.Programs.{VerifiedProgram}
 use Rattle.verifier.specs.Verifying.{IsRefused}
@@ -39,10 +37,6 @@ IsVerifyAnswer text (answer.Accepted budget count) = (slots : List Slot) × IsAd
 IsVerifyAnswer text (answer.Refused fault) = IsTextRefused text fault
 
 -- ---- outcomes
-
--- the value that bytes are as JSON text (RFC 8259); None where they are no UTF-8 or no JSON
-unfoldable pub json_of : List ℕ → Option Data
-json_of bytes = if is_utf8 bytes then read bytes else None
 
 -- the text is the JSON of this outcome
 abbrev pub IsOutcomeRead : List ℕ → Outcome → Type 0

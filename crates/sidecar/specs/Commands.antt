@@ -2,6 +2,10 @@
 use Rattle.std.specs.Prelude.{◌≡◌, ◌⊎◌, ℕ, List, [], ◌∷◌, ◌++◌, length, slice_index_or, codes, Option}
 use Rattle.std.specs.Borrow.{Bor}
 use Rattle.std.specs.Io.KnownBytes.{Appends}
+use Rattle.refusals.specs.declared.RefusalNumber.TheVariants.{BadConfig}
+use Rattle.replay.specs.declared.Ended.{Ended}
+use Rattle.replay.specs.declared.Ended.TheVariants as ended
+use Rattle.replay.specs.Replaying.{IsReplayed}
 use Rattle.sidecar.specs.declared.answer.Answer.{Answer}
 use Rattle.sidecar.specs.declared.answer.Answer.TheVariants as answer
 use Rattle.sidecar.specs.declared.commands.Request.{Request}
@@ -23,24 +27,18 @@ word words i = (slice_index_or words i (record { ref_ptr = (0, 0); now = [] })).
 abbrev pub Names : Words → List ℕ → Type 0
 Names words name = (length words ≡ 2) × (word words 0 ≡ name)
 
+-- there is one word, the name
+abbrev pub NamesAlone : Words → List ℕ → Type 0
+NamesAlone words name = (length words ≡ 1) × (word words 0 ≡ name)
+
 abbrev pub NamesNone : Words → Type 0
-NamesNone words = (¬ (Names words (codes "judge"))) × (¬ (Names words (codes "verify")))
+NamesNone words = (¬ (Names words (codes "judge"))) × (¬ (Names words (codes "verify"))) × (¬ (NamesAlone words (codes "replay")))
 
 -- the words ask for this
 abbrev pub IsRequest : Words → Request → Type 0
 IsRequest words (request.Judge program) = Names words (codes "judge") × (program.now ≡ word words 1)
 IsRequest words (request.Verify program) = Names words (codes "verify") × (program.now ≡ word words 1)
-
--- what is answered to a request, where the reader has these bytes
-abbrev pub IsReply : Request → Option (List ℕ) → Answer → Type 0
-IsReply (request.Judge program) known answered = IsJudgeAnswer program.now known answered
-IsReply (request.Verify program) known answered = IsVerifyAnswer program.now answered
-
--- what is answered to the words, where the reader has these bytes
-abbrev pub IsAnswer : Words → Option (List ℕ) → Answer → Type 0
-IsAnswer words known answered =
-    (Names words (codes "judge") × IsJudgeAnswer (word words 1) known answered)
-    ⊎ (Names words (codes "verify") × IsVerifyAnswer (word words 1) answered)
+IsRequest words request.Replay = NamesAlone words (codes "replay")
 
 -- the line that wrong words are answered with
 abbrev pub usage : List ℕ
@@ -56,8 +54,34 @@ code_of status.Done = 0
 code_of status.Refused = 1
 code_of status.WrongArguments = 2
 
--- an answer to the words, with this status, is what was printed
+-- an answer was printed as a line, and the command ends with its status
+abbrev pub IsPrinted : Answer → Status → Option (List ℕ) → Option (List ℕ) → Type 0
+IsPrinted answered ended before after = (ended ≡ status_of answered) × Appends before after (answer_text answered ++ 10 ∷ [])
+
+abbrev pub HasJudged : List ℕ → Option (List ℕ) → Status → Option (List ℕ) → Option (List ℕ) → Type 0
+HasJudged program known ended before after = (answered : Answer) × IsJudgeAnswer program known answered × IsPrinted answered ended before after
+
+abbrev pub HasVerified : List ℕ → Status → Option (List ℕ) → Option (List ℕ) → Type 0
+HasVerified program ended before after = (answered : Answer) × IsVerifyAnswer program answered × IsPrinted answered ended before after
+
+-- how a command ends after a replay
+abbrev pub IsEnded : Ended → Status → Option (List ℕ) → Option (List ℕ) → Type 0
+IsEnded ended.Done reached before after = (reached ≡ status.Done) × (after ≡ before)
+IsEnded ended.BadConfig reached before after = IsPrinted (answer.Refused (record { number = BadConfig; slot = 0 })) reached before after
+
+-- the events of the bytes that the reader has were answered; a configuration that can't be used is refused
+abbrev pub HasReplayed : Option (List ℕ) → Status → Option (List ℕ) → Option (List ℕ) → Type 0
+HasReplayed known reached before after = (end : Ended) × (replayed : Option (List ℕ)) × IsReplayed known end before replayed × IsEnded end reached replayed after
+
+-- what was asked for was done, where the reader has these bytes
+abbrev pub IsDone : Request → Option (List ℕ) → Status → Option (List ℕ) → Option (List ℕ) → Type 0
+IsDone (request.Judge program) known ended before after = HasJudged program.now known ended before after
+IsDone (request.Verify program) known ended before after = HasVerified program.now ended before after
+IsDone request.Replay known ended before after = HasReplayed known ended before after
+
+-- what the words ask for was done, where the reader has these bytes
 abbrev pub HasAnswered : Words → Option (List ℕ) → Status → Option (List ℕ) → Option (List ℕ) → Type 0
 HasAnswered words known ended before after =
-    (answered : Answer) × IsAnswer words known answered × (ended ≡ status_of answered)
-    × Appends before after (answer_text answered ++ 10 ∷ [])
+    (Names words (codes "judge") × HasJudged (word words 1) known ended before after)
+    ⊎ (Names words (codes "verify") × HasVerified (word words 1) ended before after)
+    ⊎ (NamesAlone words (codes "replay") × HasReplayed known ended before after)

@@ -1,10 +1,12 @@
 //! The commands that the program's words name.
-ghost use Rattle.std.specs.Prelude.{◌≡◌, ◌⊎◌, IsNone, IfOk, IfSome};
+ghost use Rattle.std.specs.Prelude.{◌≡◌, ◌≢◌, ◌⊎◌, IsNone, IfOk, IfSome};
 ghost use Rattle.std.specs.Io.KnownBytes.{Appends};
-ghost use Rattle.sidecar.specs.Commands.{Names, NamesNone, IsRequest, IsReply, usage, code_of, HasAnswered};
+ghost use Rattle.sidecar.specs.Commands.{Names, NamesNone, IsRequest, IsDone, IsPrinted, HasReplayed, usage, code_of, HasAnswered};
 
-use crate::answer::Answer;
+use crate::answer::{Answer, Fault};
 use crate::judging::{judge, verify};
+use refusals::RefusalNumber;
+use replay::{Ended, replay};
 use std::alloc::Global;
 use std::io;
 use std::io::{Read, Write};
@@ -16,6 +18,8 @@ enum Request<'a> {
     Judge(&'a str),
     /// `verify PROGRAM`: nothing is read.
     Verify(&'a str),
+    /// `replay`: a configuration and events are read.
+    Replay,
 }
 
 impl<'a> Request<'a> {
@@ -27,17 +31,25 @@ impl<'a> Request<'a> {
         match *words {
             ["judge", program] => Some(Request::Judge(program)),
             ["verify", program] => Some(Request::Verify(program)),
+            ["replay"] => Some(Request::Replay),
             _ => None,
         }
     }
 
-    /// What is answered.
-    fn answer<R: Read>(&self, alloc: Global, reader: &mut R) -> io::Result<Answer>
-        ensures { IfOk result (λ answer. IsReply self.now (R.remaining reader.old) answer) }
+    /// Does what is asked for.
+    fn fulfil<R: Read, O: Write>(
+        &self,
+        alloc: Global,
+        reader: &mut R,
+        out: &mut O,
+    ) -> io::Result<Status>
+        ensures done { IfOk result (λ status. IsDone self.now (R.remaining reader.old) status (O.contents out.old) (O.contents out.new)) }
+        ensures right { IfOk result (λ status. status ≢ Status.WrongArguments) }
     {
         match self {
-            Request::Judge(program) => judge(alloc, program, reader),
-            Request::Verify(program) => Ok(verify(alloc, program)),
+            Request::Judge(program) => print(judge(alloc, program, reader)?, out),
+            Request::Verify(program) => print(verify(alloc, program), out),
+            Request::Replay => replay_events(alloc, reader, out),
         }
     }
 }
@@ -77,6 +89,36 @@ impl From<Answer> for Status {
     }
 }
 
+/// Prints an answer as a line.
+fn print<O: Write>(answer: Answer, out: &mut O) -> io::Result<Status>
+    ensures printed { IfOk result (λ status. IsPrinted answer status (O.contents out.old) (O.contents out.new)) }
+    ensures right { IfOk result (λ status. status ≢ Status.WrongArguments) }
+{
+    writeln!(out, "{answer}")?;
+    Ok(Status::from(answer))
+}
+
+/// Why a replay is refused.
+const NO_CONFIG: Fault = Fault {
+    number: RefusalNumber::BadConfig,
+    slot: 0,
+};
+
+/// Answers the events that are read.
+fn replay_events<R: Read, O: Write>(
+    alloc: Global,
+    reader: &mut R,
+    out: &mut O,
+) -> io::Result<Status>
+    ensures replayed { IfOk result (λ status. HasReplayed (R.remaining reader.old) status (O.contents out.old) (O.contents out.new)) }
+    ensures right { IfOk result (λ status. status ≢ Status.WrongArguments) }
+{
+    match replay(alloc, reader, out)? {
+        Ended::Done => Ok(Status::Done),
+        Ended::BadConfig => print(Answer::Refused(NO_CONFIG), out),
+    }
+}
+
 /// Does what the words ask for.
 fn run<R: Read, O: Write, E: Write>(
     alloc: Global,
@@ -95,9 +137,7 @@ fn run<R: Read, O: Write, E: Write>(
         writeln!(err, "usage: sidecar judge|asm|dis|verify|replay|serve")?;
         return Ok(Status::WrongArguments);
     };
-    let answer = request.answer(alloc, reader)?;
-    writeln!(out, "{answer}")?;
-    Ok(Status::from(answer))
+    request.fulfil(alloc, reader, out)
 }
 
 /// Does what the words ask for, and returns the status with which the program ends: 0 where it is

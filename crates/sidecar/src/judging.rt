@@ -1,15 +1,16 @@
 //! The answers of the commands.
-ghost use Rattle.std.specs.Prelude.{◌≡◌, Some, None, option_map, IfOk, IfErr};
+ghost use Rattle.std.specs.Prelude.{◌≡◌, Some, None, IfOk, IfErr};
 ghost use Rattle.helpers.specs.Json.{outcome_of};
 ghost use Rattle.serde_json.specs.View.{view};
-ghost use Rattle.sidecar.specs.Answers.{json_of, IsAdmitted, IsTextRefused, IsOutcomeRead, IsOutcomeRefused, IsVerifyAnswer, IsJudgement, IsJudgeAnswer};
+ghost use Rattle.sidecar.specs.Answers.{IsAdmitted, IsTextRefused, IsOutcomeRead, IsOutcomeRefused, IsVerifyAnswer, IsJudgement, IsJudgeAnswer};
 
 use crate::answer::{Answer, Fault};
 use crate::hexadecimal::hex_bytes;
 use bpf_run::run;
 use helpers::Record;
 use refusals::RefusalNumber;
-use serde_json::{Category, Value};
+use requests::json;
+use serde_json::Value;
 use std::alloc::{AllocError, Global};
 use std::io;
 use std::io::Read;
@@ -51,17 +52,6 @@ pub fn verify(alloc: Global, text: &str) -> Answer
             slots: program.program().len(),
         },
         Err(fault) => Answer::Refused(fault),
-    }
-}
-
-/// The value that text is as JSON; None where it is none.
-fn json(alloc: Global, text: &[u8]) -> Result<Option<Value>, AllocError>
-    ensures { IfOk result (λ value. option_map view value ≡ json_of text.now) }
-{
-    match Value::from_slice(alloc, text) {
-        Ok(value) => Ok(Some(value)),
-        Err(error) if error.classify() == Category::Memory => Err(AllocError),
-        Err(_) => Ok(None),
     }
 }
 

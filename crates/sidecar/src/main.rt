@@ -1,10 +1,13 @@
-//! The program `sidecar`: verifies classifier programs, and judges outcomes by them.
+//! The program `sidecar`: verifies classifier programs, judges outcomes by them, and replays events of a
+//! service.
 #![tactic(auto)]
 
 mod answer;
 mod commands;
 mod hexadecimal;
 mod judging;
+#[cfg(test)]
+mod replay_tests;
 #[cfg(test)]
 mod tests;
 

@@ -1,7 +1,7 @@
 use Rattle.std.proofs.Common.{rules, sym}
 use Rattle.serde_json.specs.View.{view}
-use Rattle.sidecar.proofs.JsonTexts.{json_of-some, json_of-none}
-use Rattle.sidecar.proofs.judging.json.Goals as goal
+use Rattle.requests.proofs.JsonTexts.{json_of-some, json_of-none}
+use Rattle.requests.proofs.text.json.Goals as goal
 
 pub returns-in-Ok : goal.returns-in-Ok
 returns-in-Ok c = sym (json_of-some c.args.text.now (view c.in-Ok.value) c.in-Ok.ensures.ok.0 c.in-Ok.ensures.ok.1)

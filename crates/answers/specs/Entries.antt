@@ -1,0 +1,34 @@
+-- The entries of a service's journal as JSON.
+use Rattle.std.specs.Prelude.{ℕ, List, [], ◌∷◌, codes}
+use Rattle.serde_json.specs.Data.{Data, string}
+use Rattle.serde_json.specs.Written.{compact_text}
+use Rattle.book.specs.Events.{Happening, acquires, finishes, releases, installs, moves, resets, Line}
+use Rattle.answers.specs.Texts.{Field, count, object_of, reply_data, state_name}
+
+abbrev pub event_name : Happening → List ℕ
+event_name acquires = codes "acquire"
+event_name (finishes work ticket) = codes "report"
+event_name (releases ticket) = codes "release"
+event_name (installs program) = codes "install"
+event_name (moves state) = codes "transition"
+event_name resets = codes "reset"
+
+-- what an event names
+abbrev pub named : Happening → List Field
+named (finishes work ticket) = (codes "ticket", count ticket) ∷ []
+named (releases ticket) = (codes "ticket", count ticket) ∷ []
+named (moves state) = (codes "to", string (state_name state)) ∷ []
+named other = []
+
+abbrev pub entry_data : Line → Data
+entry_data line = object_of (
+    (codes "event", string (event_name line.event))
+    ∷ (codes "moment", count line.moment)
+    ∷ (codes "number", count line.number)
+    ∷ (codes "reply", reply_data line.reply)
+    ∷ (codes "seat", count line.seat)
+    ∷ named line.event
+    )
+
+abbrev pub entry_text : Line → List ℕ
+entry_text line = compact_text (entry_data line)

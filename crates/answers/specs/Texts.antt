@@ -1,0 +1,121 @@
+-- What services are answered with: the HTTP status (RFC 9110, section 15) and the body, as compact JSON (RFC 8259) with its keys in ascending byte order.
+use Rattle.std.specs.Prelude.{ℕ, List, [], ◌∷◌, Option, Some, None, unwrap_or, negsuc, codes}
+use Rattle.serde_json.specs.Data.{Data, number, unsigned, negative, string, object, Members, no_members, member}
+use Rattle.serde_json.specs.Written.{compact_text}
+use Rattle.bpf_profile.specs.declared.machine.Verdict.{Verdict}
+use Rattle.bpf_profile.specs.declared.machine.Verdict.TheVariants as verdict
+use Rattle.refusals.specs.declared.RefusalNumber.{RefusalNumber}
+use Rattle.refusals.specs.Table.{number_of, name_of, status_of}
+use Rattle.book.specs.declared.readings.Reading.{Reading}
+use Rattle.book.specs.declared.replies.Fate.{Fate}
+use Rattle.book.specs.declared.replies.Fate.TheVariants as fate
+use Rattle.book.specs.declared.replies.Reply.{Reply}
+use Rattle.book.specs.declared.replies.Reply.TheVariants as reply
+use Rattle.book.specs.declared.states.State.{State}
+use Rattle.book.specs.declared.states.State.TheVariants as state
+use Rattle.answers.specs.declared.answer.Answer.{Answer}
+use Rattle.answers.specs.declared.answer.Answer.TheVariants as answer
+
+-- ---- names
+
+abbrev pub state_name : State → List ℕ
+state_name state.Closed = codes "CLOSED"
+state_name state.Open = codes "OPEN"
+state_name state.HalfOpen = codes "HALF_OPEN"
+state_name state.Disabled = codes "DISABLED"
+state_name state.MetricsOnly = codes "METRICS_ONLY"
+state_name state.ForcedOpen = codes "FORCED_OPEN"
+
+abbrev pub fate_name : Fate → List ℕ
+fate_name fate.Recorded = codes "recorded"
+fate_name fate.Ignored = codes "ignored"
+fate_name fate.Off = codes "off"
+fate_name fate.Stale = codes "stale"
+
+abbrev pub verdict_name : Verdict → List ℕ
+verdict_name verdict.Success = codes "success"
+verdict_name verdict.Failure = codes "failure"
+verdict_name verdict.Ignored = codes "ignored"
+
+-- ---- values
+
+abbrev pub count : ℕ → Data
+count n = number (unsigned n)
+
+-- whole percent, or -1 where there is no rate
+abbrev pub rate : Option ℕ → Data
+rate None = number (negative (negsuc 0))
+rate (Some percent) = count percent
+
+-- a key with its value
+abbrev pub Field : Type 0
+Field = List ℕ × Data
+
+abbrev pub members_of : List Field → Members
+members_of [] = no_members
+members_of (f ∷ fs) = member f.0 f.1 (members_of fs)
+
+-- the object with these keys, in this order
+abbrev pub object_of : List Field → Data
+object_of fields = object (members_of fields)
+
+-- ---- bodies
+
+abbrev pub refusal_data : RefusalNumber → Data
+refusal_data refused = object_of ((codes "error", count (number_of refused)) ∷ (codes "name", string (name_of refused)) ∷ [])
+
+abbrev pub reply_data : Reply → Data
+reply_data (reply.Refused refused) = refusal_data refused
+reply_data (reply.Permitted ticket version state) =
+    object_of ((codes "state", string (state_name state)) ∷ (codes "ticket", count ticket) ∷ (codes "version", count version) ∷ [])
+reply_data (reply.Finished fate verdict steps version state) = object_of (
+    (codes "fate", string (fate_name fate))
+    ∷ (codes "state", string (state_name state))
+    ∷ (codes "steps", count steps)
+    ∷ (codes "verdict", string (verdict_name verdict))
+    ∷ (codes "version", count version)
+    ∷ []
+    )
+reply_data (reply.Released state) = object_of ((codes "fate", string (codes "released")) ∷ (codes "state", string (state_name state)) ∷ [])
+reply_data (reply.Installed version budget) = object_of ((codes "budget", count budget) ∷ (codes "version", count version) ∷ [])
+reply_data (reply.Moved state period) = object_of ((codes "period", count period) ∷ (codes "state", string (state_name state)) ∷ [])
+
+abbrev pub reading_data : Reading → Data
+reading_data reading = object_of (
+    (codes "budget", count reading.budget)
+    ∷ (codes "entries", count reading.entries)
+    ∷ (codes "failed", count reading.failed)
+    ∷ (codes "failureRate", rate reading.failure_rate)
+    ∷ (codes "free", count reading.free)
+    ∷ (codes "notPermitted", count reading.not_permitted)
+    ∷ (codes "open", count reading.open_tickets)
+    ∷ (codes "period", count reading.period)
+    ∷ (codes "slow", count reading.slow)
+    ∷ (codes "slowRate", rate reading.slow_rate)
+    ∷ (codes "state", string (state_name reading.state))
+    ∷ (codes "total", count reading.total)
+    ∷ (codes "version", count reading.version)
+    ∷ []
+    )
+
+abbrev pub answer_data : Answer → Data
+answer_data (answer.Reply reply) = reply_data reply
+answer_data (answer.Reading reading) = reading_data reading
+
+-- the body of an answer
+abbrev pub body : Answer → List ℕ
+body answer = compact_text (answer_data answer)
+
+-- ---- statuses
+
+-- a refusal that HTTP never answers would be a fault of the server
+abbrev pub refusal_status : RefusalNumber → ℕ
+refusal_status refused = unwrap_or (status_of refused) 500
+
+abbrev pub reply_status : Reply → ℕ
+reply_status (reply.Refused refused) = refusal_status refused
+reply_status other = 200
+
+abbrev pub status : Answer → ℕ
+status (answer.Reply reply) = reply_status reply
+status (answer.Reading reading) = 200

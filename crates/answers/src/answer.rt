@@ -1,0 +1,64 @@
+//! What a service is answered with.
+ghost use Rattle.std.specs.Prelude.{◌≡◌, IfOk, string_bytes};
+ghost use Rattle.serde_json.specs.View.{view};
+ghost use Rattle.answers.specs.Texts.{answer_data, body, refusal_status, reply_status, status};
+
+use crate::values;
+use book::{Reading, Reply};
+use refusals::RefusalNumber;
+use serde_json::Value;
+use std::alloc::{AllocError, Global};
+
+/// What a service is answered with.
+#[derive(Clone, Copy, Debug, PartialEq, Eq)]
+pub enum Answer {
+    /// The reply to an event, or a refusal of it.
+    Reply(Reply),
+    /// How the service stands.
+    Reading(Reading),
+}
+
+/// The status of a refusal; 500 where HTTP never answers it.
+fn refusal_status(number: RefusalNumber) -> u16
+    ensures { result ≡ refusal_status number }
+{
+    number.status().unwrap_or(500)
+}
+
+fn reply_status(reply: Reply) -> u16
+    ensures { result ≡ reply_status reply }
+{
+    match reply {
+        Reply::Refused(number) => refusal_status(number),
+        _ => 200,
+    }
+}
+
+impl Answer {
+    /// The HTTP status (RFC 9110, section 15): 200 for a success, else that of the refusal.
+    pub fn status(self) -> u16
+        ensures { result ≡ status self }
+    {
+        match self {
+            Answer::Reply(reply) => reply_status(reply),
+            Answer::Reading(_) => 200,
+        }
+    }
+
+    fn value(&self, alloc: Global) -> Result<Value, AllocError>
+        ensures { IfOk result (λ value. view value ≡ answer_data self.now) }
+    {
+        match self {
+            Answer::Reply(reply) => values::reply(alloc, *reply),
+            Answer::Reading(reading) => values::reading(alloc, reading),
+        }
+    }
+
+    /// The body: compact JSON (RFC 8259) with its keys in ascending byte order. The only error is want
+    /// of memory.
+    pub fn body(&self, alloc: Global) -> Result<String, AllocError>
+        ensures { IfOk result (λ text. string_bytes text ≡ body self.now) }
+    {
+        self.value(alloc)?.to_string(alloc)
+    }
+}

@@ -1,0 +1,43 @@
+//! The words that answers have for states, fates and verdicts.
+ghost use Rattle.std.specs.Prelude.{◌≡◌};
+ghost use Rattle.answers.specs.Texts.{state_name, fate_name, verdict_name};
+
+use book::{Fate, State};
+use bpf_profile::Verdict;
+
+/// The name of a state, as the CircuitBreaker of the Resilience4j documentation has it.
+pub(crate) fn state_name(state: State) -> &'static str
+    ensures { result.now ≡ state_name state }
+{
+    match state {
+        State::Closed => "CLOSED",
+        State::Open => "OPEN",
+        State::HalfOpen => "HALF_OPEN",
+        State::Disabled => "DISABLED",
+        State::MetricsOnly => "METRICS_ONLY",
+        State::ForcedOpen => "FORCED_OPEN",
+    }
+}
+
+/// The word for what became of a verdict.
+pub(crate) fn fate_name(fate: Fate) -> &'static str
+    ensures { result.now ≡ fate_name fate }
+{
+    match fate {
+        Fate::Recorded => "recorded",
+        Fate::Ignored => "ignored",
+        Fate::Off => "off",
+        Fate::Stale => "stale",
+    }
+}
+
+/// The word for a verdict.
+pub(crate) fn verdict_name(verdict: Verdict) -> &'static str
+    ensures { result.now ≡ verdict_name verdict }
+{
+    match verdict {
+        Verdict::Success => "success",
+        Verdict::Failure => "failure",
+        Verdict::Ignored => "ignored",
+    }
+}

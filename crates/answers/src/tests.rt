@@ -1,0 +1,156 @@
+//! That answers are written with ample memory, and their text and statuses, row by row.
+use crate::{Answer, entry_text};
+use book::{Book, Config, ConfigParts, Event, Fate, Reading, Reply, State};
+use bpf_profile::Verdict;
+use bpf_run::judge;
+use helpers::Record;
+use refusals::RefusalNumber;
+use std::test::Fail;
+use verifier::default_classifier;
+
+#[test]
+fn replies_are_written(rt: HostRuntime) -> Result<(), Fail> {
+    for (reply, status, body) in [
+        (
+            Reply::Refused(RefusalNumber::CallNotPermitted),
+            503,
+            "{\"error\":31,\"name\":\"CallNotPermitted\"}",
+        ),
+        (
+            Reply::Refused(RefusalNumber::BulkheadFull),
+            429,
+            "{\"error\":32,\"name\":\"BulkheadFull\"}",
+        ),
+        (
+            Reply::Refused(RefusalNumber::TicketSpent),
+            409,
+            "{\"error\":34,\"name\":\"TicketSpent\"}",
+        ),
+        (
+            Reply::Refused(RefusalNumber::BadJson),
+            400,
+            "{\"error\":58,\"name\":\"BadJson\"}",
+        ),
+        (
+            Reply::Refused(RefusalNumber::BadValue),
+            422,
+            "{\"error\":59,\"name\":\"BadField\"}",
+        ),
+        (
+            Reply::Permitted {
+                ticket: 7,
+                version: 2,
+                state: State::HalfOpen,
+            },
+            200,
+            "{\"state\":\"HALF_OPEN\",\"ticket\":7,\"version\":2}",
+        ),
+        (
+            Reply::Finished {
+                fate: Fate::Stale,
+                verdict: Verdict::Failure,
+                steps: 6,
+                version: 1,
+                state: State::ForcedOpen,
+            },
+            200,
+            "{\"fate\":\"stale\",\"state\":\"FORCED_OPEN\",\"steps\":6,\"verdict\":\"failure\",\"version\":1}",
+        ),
+        (
+            Reply::Finished {
+                fate: Fate::Off,
+                verdict: Verdict::Ignored,
+                steps: 4096,
+                version: 256,
+                state: State::Disabled,
+            },
+            200,
+            "{\"fate\":\"off\",\"state\":\"DISABLED\",\"steps\":4096,\"verdict\":\"ignored\",\"version\":256}",
+        ),
+        (
+            Reply::Finished {
+                fate: Fate::Ignored,
+                verdict: Verdict::Success,
+                steps: 2,
+                version: 3,
+                state: State::MetricsOnly,
+            },
+            200,
+            "{\"fate\":\"ignored\",\"state\":\"METRICS_ONLY\",\"steps\":2,\"verdict\":\"success\",\"version\":3}",
+        ),
+        (
+            Reply::Released { state: State::Open },
+            200,
+            "{\"fate\":\"released\",\"state\":\"OPEN\"}",
+        ),
+        (
+            Reply::Installed {
+                version: 2,
+                budget: 2,
+            },
+            200,
+            "{\"budget\":2,\"version\":2}",
+        ),
+        (
+            Reply::Moved {
+                state: State::HalfOpen,
+                period: 2,
+            },
+            200,
+            "{\"period\":2,\"state\":\"HALF_OPEN\"}",
+        ),
+    ] {
+        let answer = Answer::Reply(reply);
+        assert_eq!(rt; answer.status(), status);
+        assert_eq!(rt; answer.body(rt.alloc())?.as_str(), body);
+    }
+    Ok(())
+}
+
+#[test]
+fn readings_are_written(rt: HostRuntime) -> Result<(), Fail> {
+    let reading = Reading {
+        state: State::Closed,
+        period: 1,
+        version: 1,
+        budget: 6,
+        total: 3,
+        failed: 1,
+        slow: 0,
+        failure_rate: Some(33),
+        slow_rate: None,
+        open_tickets: 2,
+        free: 23,
+        not_permitted: 4,
+        entries: u64::MAX,
+    };
+    let answer = Answer::Reading(reading);
+    assert_eq!(rt; answer.status(), 200);
+    assert_eq!(rt;
+        answer.body(rt.alloc())?.as_str(),
+        "{\"budget\":6,\"entries\":18446744073709551615,\"failed\":1,\"failureRate\":33,\"free\":23,\"notPermitted\":4,\"open\":2,\"period\":1,\"slow\":0,\"slowRate\":-1,\"state\":\"CLOSED\",\"total\":3,\"version\":1}"
+    );
+    Ok(())
+}
+
+#[test]
+fn entries_are_written(rt: HostRuntime) -> Result<(), Fail> {
+    let alloc = rt.alloc();
+    let config = Config::new(ConfigParts::DEFAULT).expect(&rt, "the defaults");
+    let classifier = default_classifier(alloc).expect(&rt, "the default classifier");
+    let mut book = Book::open(alloc, config, classifier)?;
+    book.apply(1, 1000, Event::Acquire);
+    let program = book.look(1).expect(&rt, "an open ticket");
+    let outcome = Record::from_parts([0; 128], [0; 16], &[]).expect(&rt, "an empty tag");
+    book.apply(2, 900, Event::Finish(judge(program, outcome), 1));
+    let rows = [
+        "{\"event\":\"acquire\",\"moment\":1000,\"number\":1,\"reply\":{\"state\":\"CLOSED\",\"ticket\":1,\"version\":1},\"seat\":1}",
+        "{\"event\":\"report\",\"moment\":1000,\"number\":2,\"reply\":{\"fate\":\"recorded\",\"state\":\"CLOSED\",\"steps\":6,\"verdict\":\"success\",\"version\":1},\"seat\":2,\"ticket\":1}",
+    ];
+    let entries = book.entries(1);
+    assert_eq!(rt; entries.len(), rows.len());
+    for (entry, row) in entries.iter().zip(rows) {
+        assert_eq!(rt; entry_text(alloc, entry)?.as_str(), row);
+    }
+    Ok(())
+}

@@ -1,0 +1,89 @@
+//! Answers as JSON values. Every error is want of memory.
+ghost use Rattle.std.specs.Prelude.{◌≡◌, IfOk};
+ghost use Rattle.serde_json.specs.View.{view};
+ghost use Rattle.answers.specs.Texts.{rate, refusal_data, reply_data, reading_data};
+
+use crate::names::{fate_name, state_name, verdict_name};
+use book::{Reading, Reply};
+use refusals::RefusalNumber;
+use serde_json::{Value, json};
+use std::alloc::{AllocError, Global};
+
+fn rate(percent: Option<u64>) -> Value
+    ensures { view result ≡ rate percent }
+{
+    match percent {
+        Some(percent) => Value::from(percent),
+        None => Value::from(-1i64),
+    }
+}
+
+fn refusal(alloc: Global, number: RefusalNumber) -> Result<Value, AllocError>
+    ensures { IfOk result (λ value. view value ≡ refusal_data number) }
+{
+    let name = number.name();
+    let number = number.number();
+    json!(in alloc; {"error": number, "name": name})
+}
+
+pub(crate) fn reply(alloc: Global, reply: Reply) -> Result<Value, AllocError>
+    ensures { IfOk result (λ value. view value ≡ reply_data reply) }
+{
+    match reply {
+        Reply::Refused(number) => refusal(alloc, number),
+        Reply::Permitted {
+            ticket,
+            version,
+            state,
+        } => {
+            let state = state_name(state);
+            json!(in alloc; {"state": state, "ticket": ticket, "version": version})
+        }
+        Reply::Finished {
+            fate,
+            verdict,
+            steps,
+            version,
+            state,
+        } => {
+            let fate = fate_name(fate);
+            let verdict = verdict_name(verdict);
+            let state = state_name(state);
+            json!(in alloc; {"fate": fate, "state": state, "steps": steps, "verdict": verdict, "version": version})
+        }
+        Reply::Released { state } => {
+            let state = state_name(state);
+            json!(in alloc; {"fate": "released", "state": state})
+        }
+        Reply::Installed { version, budget } => {
+            json!(in alloc; {"budget": budget, "version": version})
+        }
+        Reply::Moved { state, period } => {
+            let state = state_name(state);
+            json!(in alloc; {"period": period, "state": state})
+        }
+    }
+}
+
+pub(crate) fn reading(alloc: Global, reading: &Reading) -> Result<Value, AllocError>
+    ensures { IfOk result (λ value. view value ≡ reading_data reading.now) }
+{
+    let state = state_name(reading.state);
+    let failure_rate = rate(reading.failure_rate);
+    let slow_rate = rate(reading.slow_rate);
+    json!(in alloc; {
+        "budget": reading.budget,
+        "entries": reading.entries,
+        "failed": reading.failed,
+        "failureRate": failure_rate,
+        "free": reading.free,
+        "notPermitted": reading.not_permitted,
+        "open": reading.open_tickets,
+        "period": reading.period,
+        "slow": reading.slow,
+        "slowRate": slow_rate,
+        "state": state,
+        "total": reading.total,
+        "version": reading.version
+    })
+}

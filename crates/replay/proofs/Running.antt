@@ -1,0 +1,83 @@
+-- Replays, line after line.
+use Rattle.std.proofs.Common.{◌≡◌, ℕ, true, false, List, [], ◌∷◌, ◌++◌, Option, Some, None, refl, ap, sym, subst, ◌∙◌, append_assoc}
+use Rattle.std.proofs.lemmas.List.{append-nil}
+use Rattle.std.specs.Io.KnownBytes.{Appends}
+use Rattle.book.specs.declared.configuration.ConfigParts.{ConfigParts}
+use Rattle.book.specs.Events.{History}
+use Rattle.requests.specs.Configurations.{config_in}
+use Rattle.replay.specs.declared.replaying.Ended.TheVariants as ended
+use Rattle.replay.specs.Answering.{AreAnswered, answer_line}
+use Rattle.replay.specs.Lines.{told, AreTold, TakesTold}
+use Rattle.replay.specs.Replaying.{IsOpened, IsReplayOf, IsReplay, IsReplayed, Begins, IsBegun, IsLineAnswered, AreEventsAnswered}
+
+pub appends_none : (v : Option (List ℕ)) → Appends v v []
+appends_none None = tt
+appends_none (Some p) = sym (append-nil p)
+
+pub appends_more : (a b c : Option (List ℕ)) (x y : List ℕ) → Appends a b x → Appends b c y → Appends a c (x ++ y)
+appends_more None b c x y h k = tt
+appends_more (Some p) None c x y h k = absurd h
+appends_more (Some p) (Some q) None x y h k = absurd k
+appends_more (Some p) (Some q) (Some r) x y h k = k ∙ ap (λ t. t ++ y) h ∙ append_assoc p x y
+
+-- ---- lines
+
+pub told_after : (input left : Option (List ℕ)) (line : List ℕ) (events : List (List ℕ)) → TakesTold input left true line → AreTold left events → AreTold input (line ∷ events)
+told_after None left line events takes rest = tt
+told_after (Some text) None line events (after, is, split) rest = absurd (let e : None ≡ Some after = is in cc)
+told_after (Some text) (Some left) line events (after, is, split) rest =
+    let same : left ≡ after = (let e : Some left ≡ Some after = is in cc) in
+    ap (λ (ls : List (List ℕ)). line ∷ ls) (rest ∙ ap told same) ∙ sym split
+
+told_all : (input left : Option (List ℕ)) (line : List ℕ) → TakesTold input left false line → AreTold input []
+told_all None left line takes = tt
+told_all (Some text) left line (after, is, split) = sym split
+
+pub some_told : (input : Option (List ℕ)) → (events : List (List ℕ)) × AreTold input events
+some_told None = ([], tt)
+some_told (Some text) = (told text, refl)
+
+-- ---- events
+
+pub events_on : (input left before mid written : Option (List ℕ)) (line : List ℕ) (history next after : History)
+    → TakesTold input left true line → IsLineAnswered history line next before mid → AreEventsAnswered left next after mid written
+    → AreEventsAnswered input history after before written
+events_on input left before mid written line history next after takes (answered, is, sent) (events, text, rest, run, more) =
+    (line ∷ events, answer_line answered ++ text, told_after input left line events takes rest, (answered, next, text, is, refl, run), appends_more before mid written (answer_line answered) text sent more)
+
+pub events_end : (input left written : Option (List ℕ)) (line : List ℕ) (history : History)
+    → TakesTold input left false line → AreEventsAnswered input history history written written
+events_end input left written line history takes = ([], [], told_all input left line takes, (refl, refl), appends_none written)
+
+-- ---- the first line
+
+pub begun_by : (input left : Option (List ℕ)) (line : List ℕ) (config : Option ConfigParts) → TakesTold input left true line → config ≡ config_in line → IsBegun input left config
+begun_by input left line config takes is = λ events rest. (line ∷ events, told_after input left line events takes rest, (is, refl))
+
+pub begun_none : (input left : Option (List ℕ)) (line : List ℕ) → TakesTold input left false line → IsBegun input left None
+begun_none input left line takes = λ events rest. ([], told_all input left line takes, refl)
+
+-- ---- the whole
+
+bad_config : (lines events : List (List ℕ)) → Begins lines None events → IsReplay lines ended.BadConfig []
+bad_config [] events begins = (refl, refl)
+bad_config (first ∷ later) events begins = subst (λ (c : Option ConfigParts). IsReplayOf c later ended.BadConfig []) begins.0 (refl, refl)
+
+pub replayed_bad : (input left written : Option (List ℕ)) → IsBegun input left None → IsReplayed input ended.BadConfig written written
+replayed_bad input left written begun =
+    let rest = some_told left in
+    let all = begun rest.0 rest.1 in
+    (all.0, [], all.1, bad_config all.0 rest.0 all.2, appends_none written)
+
+good_config : (lines events : List (List ℕ)) (parts : ConfigParts) (opened after : History) (text : List ℕ)
+    → Begins lines (Some parts) events → IsOpened parts opened → AreAnswered opened events text after → IsReplay lines ended.Done text
+good_config [] events parts opened after text begins is run = absurd (let e : Some parts ≡ None = begins in cc)
+good_config (first ∷ later) events parts opened after text begins is run =
+    subst (λ (c : Option ConfigParts). IsReplayOf c later ended.Done text) begins.0
+    (refl, opened, after, is, subst (λ (ls : List (List ℕ)). AreAnswered opened ls text after) (sym begins.1) run)
+
+pub replayed_done : (input left before after : Option (List ℕ)) (parts : ConfigParts) (opened last : History)
+    → IsBegun input left (Some parts) → IsOpened parts opened → AreEventsAnswered left opened last before after → IsReplayed input ended.Done before after
+replayed_done input left before after parts opened last begun is (events, text, rest, run, sent) =
+    let all = begun events rest in
+    (all.0, text, all.1, good_config all.0 events parts opened last text all.2 is run, sent)

@@ -1,0 +1,72 @@
+-- What is written for the input of a replay.
+use Rattle.std.specs.Prelude.{◌≡◌, ℕ, List, [], ◌∷◌, Option, Some, None}
+use Rattle.std.specs.Io.KnownBytes.{Appends}
+use Rattle.bpf_profile.specs.Safety.{IsSafe}
+use Rattle.bpf_profile.specs.Spelling.{Spells}
+use Rattle.verifier.specs.Analysis.{context_size}
+use Rattle.verifier.specs.Programs.{VerifiedProgram}
+use Rattle.book.specs.declared.configuration.ConfigParts.{ConfigParts}
+use Rattle.book.specs.Books.{first_opening, history_of}
+use Rattle.book.specs.Events.{History}
+use Rattle.requests.specs.Configurations.{config_in}
+use Rattle.answers.specs.declared.answer.Answer.{Answer}
+use Rattle.replay.specs.declared.replaying.Ended.{Ended}
+use Rattle.replay.specs.declared.replaying.Ended.TheVariants as ended
+use Rattle.replay.specs.Answering.{AreAnswered, IsAnswered, answer_line}
+use Rattle.replay.specs.Asking.{asked}
+use Rattle.replay.specs.Lines.{AreTold}
+
+-- the program that services begin with: a kind other than response is a failure, and so is a status from 500 on
+abbrev pub classifier : List ℕ
+classifier =
+    0x61 ∷ 0x12 ∷ 0x00 ∷ 0x00 ∷ 0x00 ∷ 0x00 ∷ 0x00 ∷ 0x00
+    ∷ 0x55 ∷ 0x02 ∷ 0x04 ∷ 0x00 ∷ 0x00 ∷ 0x00 ∷ 0x00 ∷ 0x00
+    ∷ 0x61 ∷ 0x12 ∷ 0x04 ∷ 0x00 ∷ 0x00 ∷ 0x00 ∷ 0x00 ∷ 0x00
+    ∷ 0x35 ∷ 0x02 ∷ 0x02 ∷ 0x00 ∷ 0xf4 ∷ 0x01 ∷ 0x00 ∷ 0x00
+    ∷ 0xb7 ∷ 0x00 ∷ 0x00 ∷ 0x00 ∷ 0x00 ∷ 0x00 ∷ 0x00 ∷ 0x00
+    ∷ 0x95 ∷ 0x00 ∷ 0x00 ∷ 0x00 ∷ 0x00 ∷ 0x00 ∷ 0x00 ∷ 0x00
+    ∷ 0xb7 ∷ 0x00 ∷ 0x00 ∷ 0x00 ∷ 0x01 ∷ 0x00 ∷ 0x00 ∷ 0x00
+    ∷ 0x95 ∷ 0x00 ∷ 0x00 ∷ 0x00 ∷ 0x00 ∷ 0x00 ∷ 0x00 ∷ 0x00
+    ∷ []
+
+-- a service that opens with a configuration and the default classifier
+abbrev pub IsOpened : ConfigParts → History → Type 0
+IsOpened parts history =
+    (program : VerifiedProgram) × Spells classifier program.slots × IsSafe context_size program.slots program.budget
+    × (history ≡ history_of (first_opening parts program) [])
+
+-- the lines after a configuration
+abbrev pub IsReplayOf : Option ConfigParts → List (List ℕ) → Ended → List ℕ → Type 0
+IsReplayOf None events end text = (end ≡ ended.BadConfig) × (text ≡ [])
+IsReplayOf (Some parts) events end text =
+    (end ≡ ended.Done) × (opened : History) × (after : History) × IsOpened parts opened × AreAnswered opened events text after
+
+-- a configuration on the first line, then events
+abbrev pub IsReplay : List (List ℕ) → Ended → List ℕ → Type 0
+IsReplay [] end text = (end ≡ ended.BadConfig) × (text ≡ [])
+IsReplay (first ∷ events) end text = IsReplayOf (config_in first) events end text
+
+-- what was written for an input: the replay of its lines that say something
+abbrev pub IsReplayed : Option (List ℕ) → Ended → Option (List ℕ) → Option (List ℕ) → Type 0
+IsReplayed input end before after = (told : List (List ℕ)) × (text : List ℕ) × AreTold input told × IsReplay told end text × Appends before after text
+
+-- ---- a part of a replay
+
+-- the configuration that the first line gives, and the lines after it
+abbrev pub Begins : List (List ℕ) → Option ConfigParts → List (List ℕ) → Type 0
+Begins [] config events = config ≡ None
+Begins (first ∷ later) config events = (config ≡ config_in first) × (later ≡ events)
+
+-- whatever says the rest of the input, the whole of it begins so
+abbrev pub IsBegun : Option (List ℕ) → Option (List ℕ) → Option ConfigParts → Type 0
+IsBegun input left config = (events : List (List ℕ)) → AreTold left events → (told : List (List ℕ)) × AreTold input told × Begins told config events
+
+-- a line was answered
+abbrev pub IsLineAnswered : History → List ℕ → History → Option (List ℕ) → Option (List ℕ) → Type 0
+IsLineAnswered history line next before after =
+    (answered : Answer) × IsAnswered history (asked line) answered next × Appends before after (answer_line answered)
+
+-- the rest of an input was answered
+abbrev pub AreEventsAnswered : Option (List ℕ) → History → History → Option (List ℕ) → Option (List ℕ) → Type 0
+AreEventsAnswered input history next before after =
+    (events : List (List ℕ)) × (text : List ℕ) × AreTold input events × AreAnswered history events text next × Appends before after text

@@ -1,0 +1,9 @@
+-- JSON text.
+use Rattle.std.specs.Prelude.{ℕ, List, Option, None, if◌then◌else◌}
+use Rattle.std.specs.Str.{is_utf8}
+use Rattle.serde_json.specs.Data.{Data}
+use Rattle.serde_json.specs.Read.{read}
+
+-- the value that bytes are as JSON text (RFC 8259); None where they are no UTF-8 or no JSON
+unfoldable pub json_of : List ℕ → Option Data
+json_of bytes = if is_utf8 bytes then read bytes else None

@@ -1,0 +1,127 @@
+//! That requests are read with ample memory, and what numbers in JSON are.
+use crate::{Report, config, json, number_at, text_at};
+use book::{ConfigParts, SlidingWindowType};
+use serde_json::Value;
+use std::alloc::Global;
+use std::process::Abort;
+use std::test::Fail;
+
+/// The value of a text that is JSON.
+fn value(rt: &impl Abort, alloc: Global, text: &str) -> Value {
+    json(alloc, text.as_bytes())
+        .expect(rt, "ample memory")
+        .expect(rt, "JSON")
+}
+
+#[test]
+fn text_is_json_or_not(rt: HostRuntime) -> Result<(), Fail> {
+    for text in [
+        b"".as_slice(),
+        b" ",
+        b"{",
+        b"{}{}",
+        b"{'a':1}",
+        b"01",
+        b"\"\xff\"",
+    ] {
+        assert!(rt; json(rt.alloc(), text)?.is_none());
+    }
+    for text in [b"{}".as_slice(), b" [1, 2]\r\n", b"null"] {
+        assert!(rt; json(rt.alloc(), text)?.is_some());
+    }
+    Ok(())
+}
+
+#[test]
+fn whole_numbers_are_written_as_such(rt: HostRuntime) {
+    for (text, number) in [
+        ("{\"n\":0}", Some(0)),
+        ("{\"n\":18446744073709551615}", Some(u64::MAX)),
+        ("{\"n\":18446744073709551616}", None),
+        ("{\"n\":1.0}", None),
+        ("{\"n\":1e2}", None),
+        ("{\"n\":-0}", None),
+        ("{\"n\":-1}", None),
+        ("{\"n\":\"1\"}", None),
+        ("{\"n\":null}", None),
+        ("{\"n\":1,\"n\":2}", Some(2)),
+        ("{}", None),
+        ("[1]", None),
+    ] {
+        let value = value(&rt, rt.alloc(), text);
+        assert_eq!(rt; number_at(&value, "n"), number, "{text}");
+    }
+    let value = value(&rt, rt.alloc(), "{\"do\":\"read\",\"at\":1}");
+    assert_eq!(rt; text_at(&value, "do"), Some("read"));
+    assert_eq!(rt; text_at(&value, "at"), None);
+    assert_eq!(rt; text_at(&value, "to"), None);
+}
+
+#[test]
+fn missing_values_are_the_defaults(rt: HostRuntime) {
+    let empty = value(&rt, rt.alloc(), "{}");
+    let defaults = config(&empty).expect(&rt, "the defaults");
+    assert_eq!(rt; defaults.parts(), ConfigParts::DEFAULT);
+    let whole = value(
+        &rt,
+        rt.alloc(),
+        "{\"failureRateThreshold\":1,\"slowCallRateThreshold\":2,\"slowCallDurationThreshold\":3,\"permittedNumberOfCallsInHalfOpenState\":4,\"maxWaitDurationInHalfOpenState\":0,\"slidingWindowType\":\"COUNT_BASED\",\"slidingWindowSize\":5,\"minimumNumberOfCalls\":6,\"waitDurationInOpenState\":7,\"maxConcurrentCalls\":8,\"maxWaitDuration\":0}",
+    );
+    let parts = ConfigParts {
+        failure_rate_threshold: 1,
+        slow_call_rate_threshold: 2,
+        slow_call_duration_threshold: 3,
+        permitted_number_of_calls_in_half_open_state: 4,
+        max_wait_duration_in_half_open_state: 0,
+        sliding_window_type: SlidingWindowType::CountBased,
+        sliding_window_size: 5,
+        minimum_number_of_calls: 6,
+        wait_duration_in_open_state: 7,
+        max_concurrent_calls: 8,
+        max_wait_duration: 0,
+    };
+    assert_eq!(rt;
+        config(&whole).expect(&rt, "a configuration").parts(),
+        parts
+    );
+}
+
+#[test]
+fn other_configurations_are_refused(rt: HostRuntime) {
+    for text in [
+        "[]",
+        "null",
+        "{\"maxWaitDuration\":5}",
+        "{\"minimumNumberOfCalls\":null}",
+        "{\"slidingWindowType\":\"OTHER\"}",
+        "{\"slidingWindowtype\":\"COUNT_BASED\"}",
+        "{\"ringBufferSize\":10}",
+    ] {
+        let value = value(&rt, rt.alloc(), text);
+        assert!(rt; config(&value).is_none(), "{text}");
+    }
+}
+
+#[test]
+fn reports_are_read(rt: HostRuntime) {
+    let good = value(
+        &rt,
+        rt.alloc(),
+        "{\"outcome\":{\"duration_ms\":7},\"ticket\":3,\"other\":null}",
+    );
+    let report = Report::from_json(&good).expect(&rt, "a report");
+    assert_eq!(rt; report.ticket, 3);
+    assert_eq!(rt; report.outcome.duration(), 7);
+    for text in [
+        "{}",
+        "{\"ticket\":3}",
+        "{\"outcome\":{}}",
+        "{\"ticket\":\"3\",\"outcome\":{}}",
+        "{\"ticket\":3,\"outcome\":[]}",
+        "{\"ticket\":3,\"outcome\":{\"kind\":\"other\"}}",
+        "[3, {}]",
+    ] {
+        let value = value(&rt, rt.alloc(), text);
+        assert!(rt; Report::from_json(&value).is_none(), "{text}");
+    }
+}
