@@ -28,7 +28,7 @@ abbrev pub IsTextRefused : List ℕ → Fault → Type 0
 IsTextRefused text fault =
     (fault.number ≡ ProgramOutOfMemory)
     ⊎ ((fault.number ≡ BadHex) × (hex_of text ≡ None))
-    ⊎ ((bytes : List ℕ) × (hex_of text ≡ Some bytes) × IsRefused bytes (record { slot = fault.slot; number = fault.number }))
+    ⊎ ((bytes : List ℕ) × (hex_of text ≡ Some bytes) × IsRefused bytes (record { slot = fault.place; number = fault.number }))
 
 -- what `verify` answers
 abbrev pub IsVerifyAnswer : List ℕ → Answer → Type 0

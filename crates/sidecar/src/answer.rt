@@ -11,8 +11,9 @@ use std::fmt;
 pub struct Fault {
     /// The refusal.
     pub number: RefusalNumber,
-    /// The slot of a program's fault, from 0 to 4,095; 0 where the refusal has none.
-    pub slot: u32,
+    /// The slot of a program's fault, from 0 to 4,095, or the line of a text's, from 1 on; 0 where the
+    /// refusal has none.
+    pub place: usize,
 }
 
 /// What a command answers, and prints as a line.
@@ -57,12 +58,12 @@ impl fmt::Display for Fault {
     fn fmt<W: fmt::Write>(&self, f: &mut fmt::Formatter<W>) -> fmt::Result {
         let number = self.number.number();
         let name = self.number.name();
-        let slot = self.slot;
-        // The refusals of programs for their bytes are those that have a slot.
-        if number <= 22 {
-            write!(f, "refused {number} {name} slot {slot}")
-        } else {
-            write!(f, "refused {number} {name}")
+        let place = self.place;
+        // The refusals of programs for their bytes have a slot, and those of texts a line.
+        match number {
+            0..=22 => write!(f, "refused {number} {name} slot {place}"),
+            41..=44 => write!(f, "refused {number} {name} line {place}"),
+            _ => write!(f, "refused {number} {name}"),
         }
     }
 }

@@ -1,9 +1,11 @@
 //! The commands that the program's words name.
-ghost use Rattle.std.specs.Prelude.{◌≡◌, ◌≢◌, ◌⊎◌, IsNone, IfOk, IfSome};
+ghost use Rattle.std.specs.Prelude.{◌≡◌, ◌≢◌, ◌⊎◌, [], ◌∷◌, ◌++◌, IsNone, IfOk, IfSome};
 ghost use Rattle.std.specs.Io.KnownBytes.{Appends};
-ghost use Rattle.sidecar.specs.Commands.{Names, NamesNone, IsRequest, IsDone, IsPrinted, HasReplayed, usage, code_of, HasAnswered};
+ghost use Rattle.sidecar.specs.Answers.{IsAllOf};
+ghost use Rattle.sidecar.specs.Commands.{Names, NamesNone, IsRequest, IsDone, IsPrinted, HasReplayed, HasAssembled, HasDisassembled, usage, code_of, HasAnswered};
 
 use crate::answer::{Answer, Fault};
+use crate::assembling::{assembled, disassembled};
 use crate::judging::{judge, verify};
 use refusals::RefusalNumber;
 use replay::{Ended, replay};
@@ -20,6 +22,10 @@ enum Request<'a> {
     Verify(&'a str),
     /// `replay`: a configuration and events are read.
     Replay,
+    /// `asm`: assembler text is read.
+    Assemble,
+    /// `dis PROGRAM`: nothing is read.
+    Disassemble(&'a str),
 }
 
 impl<'a> Request<'a> {
@@ -32,6 +38,8 @@ impl<'a> Request<'a> {
             ["judge", program] => Some(Request::Judge(program)),
             ["verify", program] => Some(Request::Verify(program)),
             ["replay"] => Some(Request::Replay),
+            ["asm"] => Some(Request::Assemble),
+            ["dis", program] => Some(Request::Disassemble(program)),
             _ => None,
         }
     }
@@ -50,6 +58,8 @@ impl<'a> Request<'a> {
             Request::Judge(program) => print(judge(alloc, program, reader)?, out),
             Request::Verify(program) => print(verify(alloc, program), out),
             Request::Replay => replay_events(alloc, reader, out),
+            Request::Assemble => assemble_text(alloc, reader, out),
+            Request::Disassemble(program) => disassemble_program(alloc, program, out),
         }
     }
 }
@@ -77,6 +87,7 @@ impl Status {
 
 impl From<Answer> for Status {
     ghost use Rattle.std.specs.Prelude.{◌≡◌};
+    ghost use Rattle.sidecar.specs.Answers.{IsAllOf};
     ghost use Rattle.sidecar.specs.Commands.{status_of};
 
     ghost from_gives = { λ answer status. status ≡ status_of answer };
@@ -101,7 +112,7 @@ fn print<O: Write>(answer: Answer, out: &mut O) -> io::Result<Status>
 /// Why a replay is refused.
 const NO_CONFIG: Fault = Fault {
     number: RefusalNumber::BadConfig,
-    slot: 0,
+    place: 0,
 };
 
 /// Answers the events that are read.
@@ -116,6 +127,60 @@ fn replay_events<R: Read, O: Write>(
     match replay(alloc, reader, out)? {
         Ended::Done => Ok(Status::Done),
         Ended::BadConfig => print(Answer::Refused(NO_CONFIG), out),
+    }
+}
+
+/// Assembles the text that is read.
+fn assemble_text<R: Read, O: Write>(
+    alloc: Global,
+    reader: &mut R,
+    out: &mut O,
+) -> io::Result<Status>
+    ensures assembled { IfOk result (λ status. HasAssembled (R.remaining reader.old) status (O.contents out.old) (O.contents out.new)) }
+    ensures right { IfOk result (λ status. status ≢ Status.WrongArguments) }
+{
+    let text = read_all(alloc, reader)?;
+    match assembled(alloc, &text) {
+        Ok(hex) => print_line(&hex, out),
+        Err(fault) => print(Answer::Refused(fault), out),
+    }
+}
+
+/// All that a reader has.
+fn read_all<R: Read>(alloc: Global, reader: &mut R) -> io::Result<Vec<u8>>
+    ensures { IfOk result (λ text. IsAllOf (R.remaining reader.old) text.items) }
+{
+    let mut text = Vec::new(alloc);
+    reader.read_to_end(&mut text)?;
+    Ok(text)
+}
+
+/// Prints a text as a line.
+fn print_line<O: Write>(text: &str, out: &mut O) -> io::Result<Status>
+    ensures printed { IfOk result (λ status. (status ≡ Status.Done) × Appends (O.contents out.old) (O.contents out.new) (text.now ++ 10 ∷ [])) }
+    ensures right { IfOk result (λ status. status ≢ Status.WrongArguments) }
+{
+    writeln!(out, "{text}")?;
+    Ok(Status::Done)
+}
+
+/// Prints lines that end by themselves.
+fn print_lines<O: Write>(text: &str, out: &mut O) -> io::Result<Status>
+    ensures printed { IfOk result (λ status. (status ≡ Status.Done) × Appends (O.contents out.old) (O.contents out.new) text.now) }
+    ensures right { IfOk result (λ status. status ≢ Status.WrongArguments) }
+{
+    write!(out, "{text}")?;
+    Ok(Status::Done)
+}
+
+/// Disassembles a program.
+fn disassemble_program<O: Write>(alloc: Global, program: &str, out: &mut O) -> io::Result<Status>
+    ensures disassembled { IfOk result (λ status. HasDisassembled program.now status (O.contents out.old) (O.contents out.new)) }
+    ensures right { IfOk result (λ status. status ≢ Status.WrongArguments) }
+{
+    match disassembled(alloc, program) {
+        Ok(lines) => print_lines(&lines, out),
+        Err(fault) => print(Answer::Refused(fault), out),
     }
 }
 

@@ -16,12 +16,12 @@ use std::io;
 use std::io::Read;
 use verifier::Verified;
 
-/// A refusal that has no slot.
-fn unplaced(number: RefusalNumber) -> Fault
+/// A refusal that has no place.
+pub(crate) fn unplaced(number: RefusalNumber) -> Fault
     ensures number { result.number ≡ number }
-    ensures slot { result.slot ≡ 0 }
+    ensures place { result.place ≡ 0 }
 {
-    Fault { number, slot: 0 }
+    Fault { number, place: 0 }
 }
 
 /// The verified program of hexadecimal text.
@@ -37,7 +37,7 @@ fn admitted(alloc: Global, text: &str) -> Result<Verified, Fault>
         Ok(program) => Ok(program),
         Err(refusal) => Err(Fault {
             number: refusal.number,
-            slot: refusal.slot,
+            place: refusal.slot as usize,
         }),
     }
 }

@@ -3,6 +3,7 @@
 #![tactic(auto)]
 
 mod answer;
+mod assembling;
 mod commands;
 mod hexadecimal;
 mod judging;
@@ -10,6 +11,8 @@ mod judging;
 mod replay_tests;
 #[cfg(test)]
 mod tests;
+#[cfg(test)]
+mod text_tests;
 
 use commands::command;
 use std::process::ExitCode;

@@ -14,7 +14,7 @@ const BY_STATUS: &str =
 const USAGE: &str = "usage: sidecar judge|asm|dis|verify|replay|serve\n";
 
 /// That the words end so on this input.
-fn ends(
+pub(crate) fn ends(
     rt: &impl Abort,
     alloc: Global,
     words: &[&str],
