@@ -2,6 +2,7 @@
 #![tactic(auto)]
 
 mod calls;
+mod texts;
 
 use bpf_decode::Program;
 use bpf_run::{Verdict, run};

@@ -1,20 +1,7 @@
-//! The program `sidecar`: verifies classifier programs, judges outcomes by them, and replays events of a
-//! service.
+//! The program `sidecar`: passes its arguments, its input and its output on to the commands.
 #![tactic(auto)]
 
-mod answer;
-mod assembling;
-mod commands;
-mod hexadecimal;
-mod judging;
-#[cfg(test)]
-mod replay_tests;
-#[cfg(test)]
-mod tests;
-#[cfg(test)]
-mod text_tests;
-
-use commands::command;
+use sidecar_commands::command;
 use std::process::ExitCode;
 use std::{env, io};
 

@@ -1,0 +1,111 @@
+//! The answers of the commands.
+ghost use Rattle.std.specs.Prelude.{◌≡◌, Some, None, IfOk, IfErr};
+ghost use Rattle.helpers.specs.Json.{outcome_of};
+ghost use Rattle.serde_json.specs.View.{view};
+ghost use Rattle.sidecar_commands.specs.Answers.{IsAdmitted, IsTextRefused, IsOutcomeRead, IsOutcomeRefused, IsVerifyAnswer, IsJudgement, IsJudgeAnswer};
+
+use crate::answer::{Answer, Fault};
+use crate::hexadecimal::hex_bytes;
+use bpf_run::run;
+use helpers::Record;
+use refusals::RefusalNumber;
+use requests::json;
+use serde_json::Value;
+use std::alloc::{AllocError, Global};
+use std::io;
+use std::io::Read;
+use verifier::Verified;
+
+/// A refusal that has no place.
+pub(crate) fn unplaced(number: RefusalNumber) -> Fault
+    ensures number { result.number ≡ number }
+    ensures place { result.place ≡ 0 }
+{
+    Fault { number, place: 0 }
+}
+
+/// The verified program of hexadecimal text.
+fn admitted(alloc: Global, text: &str) -> Result<Verified, Fault>
+    ensures ok { IfOk result (λ program. IsAdmitted text.now program.slots program.budget) }
+    ensures err { IfErr result (λ fault. IsTextRefused text.now fault) }
+{
+    let bytes = match hex_bytes(alloc, text) {
+        Ok(bytes) => bytes,
+        Err(number) => return Err(unplaced(number)),
+    };
+    match verifier::verify(alloc, &bytes) {
+        Ok(program) => Ok(program),
+        Err(refusal) => Err(Fault {
+            number: refusal.number,
+            place: refusal.slot as usize,
+        }),
+    }
+}
+
+/// The budget and the number of slots of a program in hexadecimal, or why it is refused.
+pub fn verify(alloc: Global, text: &str) -> Answer
+    ensures { IsVerifyAnswer text.now result }
+{
+    match admitted(alloc, text) {
+        Ok(program) => Answer::Accepted {
+            budget: program.budget(),
+            slots: program.program().len(),
+        },
+        Err(fault) => Answer::Refused(fault),
+    }
+}
+
+/// The record of the outcome that a JSON value describes.
+fn outcome_in(value: &Value) -> Result<Record, Fault>
+    ensures ok { IfOk result (λ outcome. outcome_of (view value.now) ≡ Some outcome) }
+    ensures err { IfErr result (λ fault. (fault.number ≡ RefusalNumber.BadValue) × (outcome_of (view value.now) ≡ None)) }
+{
+    match Record::from_json(value) {
+        Ok(outcome) => Ok(outcome),
+        Err(error) => Err(unplaced(error.number)),
+    }
+}
+
+/// The record of an outcome's JSON, or why it is refused. The outer error is want of memory.
+fn outcome(alloc: Global, text: &[u8]) -> Result<Result<Record, Fault>, AllocError>
+    ensures ok { IfOk result (λ answer. IfOk answer (λ outcome. IsOutcomeRead text.now outcome)) }
+    ensures err { IfOk result (λ answer. IfErr answer (λ fault. IsOutcomeRefused text.now fault)) }
+{
+    match json(alloc, text)? {
+        Some(value) => Ok(outcome_in(&value)),
+        None => Ok(Err(unplaced(RefusalNumber::BadJson))),
+    }
+}
+
+/// The program's verdict on an outcome's JSON, or why that is refused.
+fn judge_outcome(alloc: Global, program: &Verified, text: &[u8]) -> Result<Answer, AllocError>
+    ensures { IfOk result (λ answer. IsJudgement program.now text.now answer) }
+{
+    match outcome(alloc, text)? {
+        Ok(outcome) => {
+            let (verdict, steps) = run(program, &outcome);
+            let budget = program.budget();
+            Ok(Answer::Judged {
+                verdict,
+                steps,
+                budget,
+            })
+        }
+        Err(fault) => Ok(Answer::Refused(fault)),
+    }
+}
+
+/// The verdict of a program in hexadecimal on the outcome whose JSON is read, or why one of them is
+/// refused. The program comes first: nothing is read where it is refused. An error comes where
+/// reading fails, or memory runs out behind the program.
+pub fn judge<R: Read>(alloc: Global, text: &str, reader: &mut R) -> io::Result<Answer>
+    ensures { IfOk result (λ answer. IsJudgeAnswer text.now (R.remaining reader.old) answer) }
+{
+    let program = match admitted(alloc, text) {
+        Ok(program) => program,
+        Err(fault) => return Ok(Answer::Refused(fault)),
+    };
+    let mut outcome = Vec::new(alloc);
+    reader.read_to_end(&mut outcome)?;
+    Ok(judge_outcome(alloc, &program, &outcome)?)
+}
