@@ -8,6 +8,8 @@ mod comparisons;
 #[cfg(test)]
 mod conversions;
 #[cfg(test)]
+mod domains;
+#[cfg(test)]
 mod edges;
 #[cfg(test)]
 mod loads;

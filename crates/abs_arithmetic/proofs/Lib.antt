@@ -1,0 +1,6 @@
+mod Branched
+mod Compared
+mod Contained
+mod Halves
+mod Shifts
+mod Signed

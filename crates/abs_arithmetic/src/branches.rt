@@ -1,0 +1,91 @@
+//! What a conditional jump tells of the values that it compares (RFC 9669, section 4.3).
+ghost use Rattle.std.specs.Prelude.{◌≡◌};
+ghost use Rattle.abs_arithmetic.specs.Branches.{lesson_of, greatest, is_usable, branch_first, branch_second};
+
+use abs_domain::{Domain, Relation};
+use bpf_profile::{Comparison, Width};
+
+/// How the two words of a comparison are related once it is known whether it holds.
+#[derive(Clone, Copy, Debug, PartialEq, Eq)]
+pub struct Lesson {
+    /// The relation, which for a comparison with a sign holds where no word has its sign bit set.
+    pub relation: Relation,
+    /// Whether the second word stands in it first.
+    pub exchanged: bool,
+    /// Whether the comparison reads signs.
+    pub signed: bool,
+}
+
+/// What is learnt where a comparison holds, or where it doesn't.
+fn learnt(comparison: Comparison, holds: bool) -> Lesson
+    ensures { result ≡ lesson_of comparison holds }
+{
+    let (relation, exchanged) = match (comparison, holds) {
+        (Comparison::Equal, true) | (Comparison::NotEqual, false) => (Relation::Equal, false),
+        (Comparison::Equal, false) | (Comparison::NotEqual, true) => (Relation::NotEqual, false),
+        (Comparison::Greater | Comparison::SignedGreater, true) => (Relation::Greater, false),
+        (Comparison::Greater | Comparison::SignedGreater, false) => {
+            (Relation::GreaterOrEqual, true)
+        }
+        (Comparison::GreaterOrEqual | Comparison::SignedGreaterOrEqual, true) => {
+            (Relation::GreaterOrEqual, false)
+        }
+        (Comparison::GreaterOrEqual | Comparison::SignedGreaterOrEqual, false) => {
+            (Relation::Greater, true)
+        }
+        (Comparison::Less | Comparison::SignedLess, true) => (Relation::Greater, true),
+        (Comparison::Less | Comparison::SignedLess, false) => (Relation::GreaterOrEqual, false),
+        (Comparison::LessOrEqual | Comparison::SignedLessOrEqual, true) => {
+            (Relation::GreaterOrEqual, true)
+        }
+        (Comparison::LessOrEqual | Comparison::SignedLessOrEqual, false) => {
+            (Relation::Greater, false)
+        }
+        (Comparison::BitsSet, true) => (Relation::Overlapping, false),
+        (Comparison::BitsSet, false) => (Relation::Disjoint, false),
+    };
+    let signed = match comparison {
+        Comparison::SignedGreater
+        | Comparison::SignedGreaterOrEqual
+        | Comparison::SignedLess
+        | Comparison::SignedLessOrEqual => true,
+        _ => false,
+    };
+    Lesson {
+        relation,
+        exchanged,
+        signed,
+    }
+}
+
+/// The greatest number that a width reads as it stands, with or without a sign.
+fn greatest(width: Width, signed: bool) -> u64
+    ensures { result ≡ greatest width signed }
+{
+    match (width, signed) {
+        (Width::Bits64, false) => 0xffff_ffff_ffff_ffff,
+        (Width::Bits64, true) => 0x7fff_ffff_ffff_ffff,
+        (Width::Bits32, false) => 0xffff_ffff,
+        (Width::Bits32, true) => 0x7fff_ffff,
+    }
+}
+
+/// What is left of two values where a comparison of a width holds, or where it doesn't. Both stay where
+/// a word of either may be read otherwise than as it stands: with its sign bit set where the comparison
+/// reads signs, or with more bits than the width.
+pub fn refined<D: Domain>(comparison: Comparison, width: Width, holds: bool, a: D, b: D) -> (D, D)
+    ensures first { result.0 ≡ branch_first ⟦<D as Domain>⟧ comparison width holds a b }
+    ensures second { result.1 ≡ branch_second ⟦<D as Domain>⟧ comparison width holds a b }
+{
+    let lesson = learnt(comparison, holds);
+    let greatest = greatest(width, lesson.signed);
+    if a.bounds().high > greatest || b.bounds().high > greatest {
+        return (a, b);
+    }
+    if lesson.exchanged {
+        let (second, first) = b.refine(lesson.relation, a);
+        (first, second)
+    } else {
+        a.refine(lesson.relation, b)
+    }
+}

@@ -1,0 +1,6 @@
+pub mod Agreement
+pub mod AgreementLaws
+pub mod FlatLaws
+pub mod FlatTable
+pub mod OperationLaws
+pub mod Operations

@@ -1,0 +1,5 @@
+use Rattle.known_bits.specs.BitLaws.{without_is}
+use Rattle.known_bits.proofs.bitwise.without.Goals as goal
+
+pub returns : goal.returns
+returns c = without_is c.args.a c.args.b c.ranges.a.fits c.ranges.b.fits

@@ -1,0 +1,10 @@
+pub mod ArithmeticLaws
+pub mod BitLaws
+pub mod BitwiseLaws
+pub mod BoundLaws
+pub mod JoinLaws
+pub mod KnownBitsTable
+pub mod MoveLaws
+pub mod OperationLaws
+pub mod PlaceLaws
+pub mod RefinementLaws

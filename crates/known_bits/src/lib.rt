@@ -1,0 +1,14 @@
+//! Known bits: of each bit of a word, an analysis knows that it is 0, or that it is 1, or neither.
+//!
+//! `KnownBits` is a domain over the words of RFC 9669, section 4.1, which are below 2^64. Sums,
+//! differences and products keep the lowest bits that both operands know; quotients and remainders
+//! are known of known words alone; and, or, exclusive or, shifts and conversions go bit by bit.
+#![tactic(auto)]
+
+mod bitwise;
+mod domain;
+mod known;
+#[cfg(test)]
+mod tests;
+
+pub use known::KnownBits;

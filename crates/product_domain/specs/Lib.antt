@@ -1,0 +1,2 @@
+pub mod Reduction
+pub mod ReductionLaws

@@ -1,0 +1,52 @@
+//! What bounds and known bits of the same words tell of one another.
+ghost use Rattle.std.specs.Prelude.{◌≡◌};
+ghost use Rattle.product_domain.specs.Reduction.{narrowed, differing, leading, agree, is_consistent};
+
+use abs_domain::{Bits, Bounds};
+
+/// The bounds, narrowed to the least and the greatest word that has these bits.
+pub(crate) fn narrow(bounds: Bounds, bits: Bits) -> Bounds
+    ensures { result ≡ narrowed bounds bits }
+{
+    Bounds {
+        low: bounds.low.max(bits.value),
+        high: bounds.high.min(bits.value | bits.unknown),
+    }
+}
+
+/// Ones up to the highest bit in which two words differ.
+fn differing(a: u64, b: u64) -> u64
+    ensures { result ≡ differing a b }
+{
+    let difference = a ^ b;
+    if difference == 0 {
+        return 0;
+    }
+    let highest = 1u64 << (63 - difference.leading_zeros());
+    highest - 1 + highest
+}
+
+/// The leading bits that all words in the bounds have.
+pub(crate) fn leading(bounds: Bounds) -> Bits
+    ensures { result ≡ leading bounds }
+{
+    Bits {
+        value: bounds.low,
+        unknown: differing(bounds.low, bounds.high),
+    }
+}
+
+/// Whether the bits that both know are the same.
+fn agree(a: Bits, b: Bits) -> bool
+    ensures { result ≡ agree a b }
+{
+    (a.value ^ b.value) & !(a.unknown | b.unknown) == 0
+}
+
+/// Whether some word may be in the bounds and have the bits.
+pub(crate) fn is_consistent(bounds: Bounds, bits: Bits) -> bool
+    ensures { result ≡ is_consistent bounds bits }
+{
+    let narrowed = narrow(bounds, bits);
+    narrowed.low <= narrowed.high && agree(bits, leading(narrowed))
+}
