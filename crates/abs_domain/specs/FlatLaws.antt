@@ -45,7 +45,7 @@ join_symmetric flat.Any (flat.One b) = refl
 join_symmetric flat.Any flat.Any = refl
 
 joined_second : (a b n : ℕ) (test : Bool) → (a == b) ≡ test → FlatContains (flat.One b) n → FlatContains (cond test (flat.One a) flat.Any) n
-joined_second a b n true e h = (h.0 , h.1 ∙ sym (eqb-true a b e))
+joined_second a b n true e h = (h.0, h.1 ∙ sym (eqb-true a b e))
 joined_second a b n false e h = h.0
 
 pub join_second : (a b : Flat) (n : ℕ) → FlatContains b n → FlatContains (flat_join a b) n
