@@ -1,6 +1,6 @@
-mod Branched
+pub mod Branched
 mod Compared
-mod Contained
+pub mod Contained
 mod Halves
 mod Shifts
 mod Signed

@@ -1,3 +1,4 @@
 pub mod Edges
+pub mod Immediates
 pub mod Results
 pub mod Runs

@@ -1,2 +1,12 @@
+pub mod Addresses
+pub mod ArithmeticWords
+pub mod HelperWords
+pub mod LoadedWords
+pub mod MemoryBytes
+pub mod RegisterWords
 pub mod Running
 pub mod Simulation
+pub mod StackBytes
+pub mod StoredBytes
+pub mod Untrapped
+pub mod Writes

@@ -1,7 +1,11 @@
 //! Runs verified programs on outcomes' records, and ties what was judged to its program and record.
 #![tactic(auto)]
 
+mod calls;
 mod execution;
+#[cfg(test)]
+mod instruction_tests;
+mod memory;
 mod step;
 #[cfg(test)]
 mod tests;

@@ -4,6 +4,8 @@
 #[cfg(test)]
 mod arithmetic;
 #[cfg(test)]
+mod branches;
+#[cfg(test)]
 mod comparisons;
 #[cfg(test)]
 mod conversions;
@@ -13,5 +15,7 @@ mod domains;
 mod edges;
 #[cfg(test)]
 mod loads;
+#[cfg(test)]
+mod memory;
 #[cfg(test)]
 mod programs;

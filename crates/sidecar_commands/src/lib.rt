@@ -2,6 +2,8 @@
 //! disassemble them, and replay events of a service.
 #![tactic(auto)]
 
+#[cfg(test)]
+mod analysis_tests;
 mod answer;
 mod assembling;
 mod commands;

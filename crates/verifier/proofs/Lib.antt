@@ -1,6 +1,4 @@
-pub mod Joins
-pub mod Meant
-pub mod Pass
-pub mod Progress
+pub mod Delivered
+pub mod Edges
+pub mod Known
 pub mod Sound
-pub mod Steps

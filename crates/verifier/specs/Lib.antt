@@ -1,4 +1,5 @@
 pub mod Analysis
-pub mod Plain
+pub mod Memory
+pub mod Passes
 pub mod Programs
 pub mod Verifying

@@ -6,7 +6,6 @@ use Rattle.bpf_profile.specs.Meaning.{instruction_at}
 use Rattle.bpf_profile.specs.Safety.{IsSafe}
 use Rattle.bpf_profile.specs.Spelling.{Spells}
 use Rattle.verifier.specs.Analysis.{context_size}
-use Rattle.verifier.specs.Plain.{RunsPlainly}
 
 -- what contracts see of a verified program: its slots, and how many steps it takes at most
 pub record VerifiedProgram : Type 0 where
@@ -22,5 +21,4 @@ pub record IsDecoded (slots : List Slot) (code : List Instruction) : Type 0 wher
 pub record IsVerified (slots : List Slot) (bytes : List ℕ) (code : List Instruction) (budget : ℕ) : Type 0 where
   pub spelled : Spells bytes slots
   pub safe : IsSafe context_size slots budget
-  pub plain : RunsPlainly slots
   pub decoded : IsDecoded slots code

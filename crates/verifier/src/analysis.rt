@@ -1,249 +1,83 @@
-//! The analysis: what is known of the registers at each slot, and the first instruction that may do what
-//! it must not. It is the analysis of today: registers alone, with the stack counted as empty.
-ghost use Rattle.std.specs.Prelude.{◌≡◌, ◌<◌};
-ghost use Rattle.verifier.specs.Analysis.{transfer, context_fault, stack_fault, set_fault, pointer_fault, number_fault, numbers_fault, load_fault, place_fault, store_fault, exit_fault, known_operand, arithmetic_fault, instruction_fault, known_result, known_after};
+//! The analysis of a program, over any domain.
+ghost use Rattle.std.specs.Prelude.{◌≡◌, ◌⊎◌, ◌<◌, ℕ, length, map, option_map, slice_index_or, Some, None, IfOk, IfErr, OnOk};
+ghost use Rattle.std.specs.List.{range_with_len};
+ghost use Rattle.bpf_profile.specs.Flow.{flow_fault, successors, IsBudget};
+ghost use Rattle.bpf_profile.specs.Safety.{IsSafe};
+ghost use Rattle.verifier.specs.Analysis.{context_size, analysis_fault, AreKnown};
+ghost use Rattle.verifier.specs.Memory.{StateFits};
+ghost use Rattle.verifier.specs.Passes.{entry_states};
+ghost use Rattle.verifier.specs.Verifying.{out_of_memory, fault_of};
 
-use crate::known::{Known, Registers};
-use bpf_profile::{Instruction, Operand, Operation, Register, Width};
-use refusals::RefusalNumber;
+use crate::passes::pass_all;
+use crate::refusal::Refusal;
+use abs_domain::Domain;
+use abs_states::AbsState;
+use bpf_decode::Program;
+use bpf_profile::Slot;
+use flow_check::Flow;
+use std::alloc::{AllocError, Global};
+use std::marker::Model;
 
-/// The size of an outcome's context in bytes.
-const CONTEXT_SIZE: u64 = 128;
-
-/// What is wrong with an access to the context at an offset.
-fn fault_in_context(count: u64, offset: u64) -> Option<RefusalNumber>
-    requires { 0 < count }
-    ensures { result ≡ context_fault count offset }
-{
-    if offset % count != 0 {
-        Some(RefusalNumber::Misaligned)
-    } else if count > CONTEXT_SIZE || offset > CONTEXT_SIZE - count {
-        Some(RefusalNumber::OutOfBounds)
-    } else {
-        None
-    }
+/// What is known before each slot of a program. Contracts see the list, with none at a tail.
+#[derive(Drop)]
+pub struct States<D> {
+    states: Vec<Option<AbsState<D>>>,
 }
 
-/// What is wrong with an access to the stack, which counts as empty.
-fn fault_in_stack(count: u64, offset: u64) -> Option<RefusalNumber>
-    requires { 0 < count }
-    ensures { result ≡ stack_fault count offset }
-{
-    if offset % count == 0 {
-        Some(RefusalNumber::OutOfBounds)
-    } else {
-        Some(RefusalNumber::Misaligned)
-    }
+impl<D> Model for States<D> {
+    ghost use Rattle.std.specs.Prelude.{List, Option};
+    ghost use Rattle.abs_states.specs.declared.state.AbsState.{AbsState};
+
+    ghost Value = { List (Option (AbsState D)) };
+
+    ghost view = { λ s. s.states.items };
 }
 
-/// What is wrong with a value that has to be set.
-fn fault_of_set(known: Known) -> Option<RefusalNumber>
-    ensures { result ≡ set_fault known }
-{
-    match known {
-        Known::Unset => Some(RefusalNumber::UnsetRegister),
-        _ => None,
-    }
-}
-
-/// What is wrong with a value that is set, where a number is needed.
-fn fault_of_pointer(known: Known) -> Option<RefusalNumber>
-    ensures { result ≡ pointer_fault known }
-{
-    match known {
-        Known::Context | Known::Stack => Some(RefusalNumber::PointerUsed),
-        _ => None,
-    }
-}
-
-/// What is wrong with a value where a number is needed.
-fn fault_of_number(known: Known) -> Option<RefusalNumber>
-    ensures { result ≡ number_fault known }
-{
-    fault_of_set(known).or(fault_of_pointer(known))
-}
-
-/// What is wrong with two values where numbers are needed: both have to be set first.
-fn fault_of_numbers(a: Known, b: Known) -> Option<RefusalNumber>
-    ensures { result ≡ numbers_fault a b }
-{
-    let unset = fault_of_set(a).or(fault_of_set(b));
-    unset.or(fault_of_pointer(a).or(fault_of_pointer(b)))
-}
-
-/// What is wrong with a load, the first in the order in which it is tried.
-fn fault_of_load(base: Known, count: u64, offset: u64) -> Option<RefusalNumber>
-    requires { 0 < count }
-    ensures { result ≡ load_fault base count offset }
-{
-    match base {
-        Known::Unset => Some(RefusalNumber::UnsetRegister),
-        Known::Exactly(_) | Known::Number => Some(RefusalNumber::NotPointer),
-        Known::Context => fault_in_context(count, offset),
-        Known::Stack => fault_in_stack(count, offset),
-    }
-}
-
-/// What is wrong with the place of a store: the context is read only.
-fn fault_of_place(base: Known, count: u64, offset: u64) -> Option<RefusalNumber>
-    requires { 0 < count }
-    ensures { result ≡ place_fault base count offset }
-{
-    match base {
-        Known::Unset => Some(RefusalNumber::UnsetRegister),
-        Known::Exactly(_) | Known::Number => Some(RefusalNumber::NotPointer),
-        Known::Context => Some(RefusalNumber::ContextWrite),
-        Known::Stack => fault_in_stack(count, offset),
-    }
-}
-
-/// What is wrong with a store of a value.
-fn fault_of_store(base: Known, value: Known, count: u64, offset: u64) -> Option<RefusalNumber>
-    requires { 0 < count }
-    ensures { result ≡ store_fault base value count offset }
-{
-    let unset = fault_of_set(base).or(fault_of_set(value));
-    unset.or(fault_of_place(base, count, offset))
-}
-
-/// What is wrong with an answer.
-fn fault_of_exit(known: Known) -> Option<RefusalNumber>
-    ensures { result ≡ exit_fault known }
-{
-    match known {
-        Known::Unset => Some(RefusalNumber::UnsetRegister),
-        Known::Exactly(answer) if answer <= 2 => None,
-        Known::Exactly(_) | Known::Number => Some(RefusalNumber::AnswerRange),
-        Known::Context | Known::Stack => Some(RefusalNumber::PointerUsed),
-    }
-}
-
-/// What is known of an operand.
-fn known_operand(registers: &Registers, operand: Operand) -> Known
-    ensures { result ≡ known_operand registers.now operand }
-{
-    match operand {
-        Operand::Register(register) => registers.get(register),
-        Operand::Immediate(value) => Known::Exactly(value),
-    }
-}
-
-/// What is wrong with the operands of an operation. A move doesn't read its destination.
-fn fault_of_arithmetic(
-    operation: Operation,
-    width: Width,
-    a: Known,
-    b: Known,
-) -> Option<RefusalNumber>
-    ensures { result ≡ arithmetic_fault operation width a b }
-{
-    match (operation, width) {
-        (Operation::Move, Width::Bits64) => fault_of_set(b),
-        (Operation::Move, Width::Bits32) => fault_of_number(b),
-        _ => fault_of_numbers(a, b),
-    }
-}
-
-/// What is wrong with an instruction, the first in the order in which it is tried.
-#[tactic(auto, unfolding(crate::specs::Analysis::instruction_fault))]
-fn fault_of_instruction(registers: &Registers, instruction: &Instruction) -> Option<RefusalNumber>
-    ensures { result ≡ instruction_fault registers.now instruction.now }
-{
-    match *instruction {
-        Instruction::Arithmetic {
-            operation,
-            width,
-            destination,
-            operand,
-        } => {
-            let known = known_operand(registers, operand);
-            fault_of_arithmetic(operation, width, registers.get(destination), known)
+impl<D: Domain> States<D> {
+    /// What is known before the instruction at a slot; none at a tail and past the program's end.
+    pub fn at(&self, slot: usize) -> Option<&AbsState<D>>
+        ensures { option_map (λ state. state.now) result ≡ slice_index_or self.now slot None }
+    {
+        match self.states.get(slot) {
+            Some(state) => state.as_ref(),
+            None => None,
         }
-        Instruction::Negate { destination, .. } | Instruction::Convert { destination, .. } => {
-            fault_of_number(registers.get(destination))
-        }
-        Instruction::MoveSigned { source, .. } => fault_of_number(registers.get(source)),
-        Instruction::Load {
-            size,
-            base,
-            offset,
-            ..
-        } => fault_of_load(registers.get(base), size.bytes(), offset),
-        Instruction::Store {
-            size,
-            base,
-            offset,
-            operand,
-        } => {
-            let value = known_operand(registers, operand);
-            fault_of_store(registers.get(base), value, size.bytes(), offset)
-        }
-        Instruction::Branch { left, right, .. } => {
-            fault_of_numbers(registers.get(left), known_operand(registers, right))
-        }
-        Instruction::Call { .. } => Some(RefusalNumber::HelperUnknown),
-        Instruction::Exit => fault_of_exit(registers.get(Register::new(0))),
-        Instruction::LoadImmediate { .. } | Instruction::Jump { .. } => None,
     }
 }
 
-/// What is known of the result of an operation: a move is followed.
-fn known_result(
-    registers: &Registers,
-    operation: Operation,
-    width: Width,
-    operand: Operand,
-) -> Known
-    ensures { result ≡ known_result registers.now operation width operand }
+/// Before each slot nothing is known, but that a program begins at slot 0.
+fn entry_states<D: Domain>(
+    alloc: Global,
+    slots: &[Slot],
+) -> Result<Vec<Option<AbsState<D>>>, AllocError>
+    requires { 0 < length slots.now }
+    ensures { IfOk result (λ states. states.items ≡ entry_states ⟦<D as Domain>⟧ (length slots.now)) }
 {
-    match (operation, width, operand) {
-        (Operation::Move, Width::Bits64, _) => known_operand(registers, operand),
-        (Operation::Move, Width::Bits32, Operand::Immediate(value)) => {
-            Known::Exactly(value % 0x1_0000_0000)
-        }
-        _ => Known::Number,
-    }
+    let mut states = vec![in alloc; None; slots.len()]?;
+    states[0] = Some(AbsState::entry());
+    Ok(states)
 }
 
-/// What is known after an instruction that has no fault. Nothing is learnt from a comparison.
-#[tactic(auto, unfolding(crate::specs::Analysis::known_after))]
-fn known_after(registers: &Registers, instruction: &Instruction) -> Registers
-    ensures { result ≡ known_after registers.now instruction.now }
+/// What is known before each slot of a program, whose flow this is; or the least slot at which the program
+/// may do what it must not, with the first of its faults (numbers 12 to 22). The only other error is
+/// `ProgramOutOfMemory`, at slot 0. A program that passes over any domain is safe.
+pub fn analyse<D: Domain>(
+    alloc: Global,
+    program: &Program,
+    flow: &Flow,
+) -> Result<States<D>, Refusal>
+    // A state over the domain is no larger than memory, which only a domain of 2^62 bytes would break.
+    requires fits { StateFits D.row }
+    // The flow is this program's.
+    requires accepted { flow_fault program.now ≡ None }
+    requires flow { flow.now.edges ≡ map (successors program.now) (range_with_len 0 (length program.now)) }
+    ensures known { IfOk result (λ states. AreKnown ⟦<D as Domain>⟧ context_size program.now states) }
+    ensures accepted { OnOk result (analysis_fault ⟦<D as Domain>⟧ context_size program.now ≡ None) }
+    ensures safe { OnOk result ((budget : ℕ) → IsBudget program.now budget → IsSafe context_size program.now budget) }
+    ensures refused { IfErr result (λ e. (e ≡ out_of_memory) ⊎ (analysis_fault ⟦<D as Domain>⟧ context_size program.now ≡ Some (fault_of e))) }
 {
-    match *instruction {
-        Instruction::Arithmetic {
-            operation,
-            width,
-            destination,
-            operand,
-        } => {
-            let known = known_result(registers, operation, width, operand);
-            registers.with(destination, known)
-        }
-        Instruction::Negate { destination, .. }
-        | Instruction::MoveSigned { destination, .. }
-        | Instruction::Convert { destination, .. }
-        | Instruction::Load { destination, .. } => registers.with(destination, Known::Number),
-        Instruction::LoadImmediate { destination, value } => {
-            registers.with(destination, Known::Exactly(value))
-        }
-        Instruction::Store { .. }
-        | Instruction::Jump { .. }
-        | Instruction::Branch { .. }
-        | Instruction::Call { .. }
-        | Instruction::Exit => *registers,
-    }
-}
-
-/// What is known after an instruction, or the first of its faults.
-pub(crate) fn after_instruction(
-    registers: &Registers,
-    instruction: &Instruction,
-) -> Result<Registers, RefusalNumber>
-    ensures { result ≡ transfer registers.now instruction.now }
-{
-    match fault_of_instruction(registers, instruction) {
-        None => Ok(known_after(registers, instruction)),
-        Some(number) => Err(number),
-    }
+    let slots = program.slots();
+    let mut states = entry_states(alloc, slots)?;
+    pass_all(&mut states, slots, flow)?;
+    Ok(States { states })
 }

@@ -5,13 +5,13 @@
 mod analysis;
 mod classifier;
 mod decoded;
-mod known;
 mod passes;
 mod refusal;
 #[cfg(test)]
 mod tests;
 mod verified;
 
+pub use analysis::{States, analyse};
 pub use classifier::default_classifier;
 pub use refusal::Refusal;
 pub use verified::{Verified, verify};

@@ -1,48 +1,45 @@
-//! The pass over the slots. All edges lead forward, so what is known at a slot is whole when the pass comes to it.
-ghost use Rattle.std.specs.Prelude.{◌≡◌, ◌≢◌, ◌⊎◌, ◌<◌, ◌+◌, length, All, IfSome, IfErr, OnOk, IsOk, None, Ok, Err, Some, slice_get, option_to_list};
+//! The pass over the slots. All edges lead forward, so one pass in order meets each slot after whatever
+//! leads to it.
+ghost use Rattle.std.specs.Prelude.{◌≡◌, ◌<◌, length, true, false, Some, None, Ok, Err, IfSome, IfErr, OnOk};
 ghost use Rattle.bpf_profile.specs.Flow.{successors, flow_fault};
+ghost use Rattle.bpf_profile.specs.Meaning.{instruction_at};
 ghost use Rattle.bpf_profile.specs.Spelling.{IsProgram};
 ghost use Rattle.flow_check.specs.Routes.{successor_list};
-ghost use Rattle.verifier.specs.Analysis.{States, send, send_all, pass, pass_from, entry_states, analysis, transfer};
-ghost use Rattle.verifier.specs.Verifying.{out_of_memory, fault_of, IsFlowOf};
+ghost use Rattle.verifier.specs.Analysis.{context_size, message_to, sent_with, fault_with, analysis_fault, AreKnown};
+ghost use Rattle.verifier.specs.Passes.{state_of, entry_states, delivered, delivered_all};
+ghost use Rattle.abs_states.specs.Transfers.{transfer_in};
+ghost use Rattle.verifier.specs.Verifying.{IsFlowOf, fault_of};
 
-use crate::analysis::after_instruction;
-use crate::known::Registers;
 use crate::refusal::Refusal;
-use bpf_profile::{Slot, instruction_at};
+use abs_domain::Domain;
+use abs_states::AbsState;
+use bpf_profile::{Instruction, Slot, instruction_at};
 use flow_check::{Flow, Successors};
 use refusals::RefusalNumber;
-use std::alloc::{AllocError, Global};
 
-/// Joins what is known after an instruction into what is known at a slot.
-fn send(states: &mut [Option<Registers>], registers: &Registers, to: usize)
+/// The size of an outcome's context in bytes.
+const CONTEXT_SIZE: u64 = 128;
+
+/// Joins what is sent to a slot into what is known there.
+fn join_at<D: Domain>(states: &mut [Option<AbsState<D>>], to: usize, state: AbsState<D>)
     requires { to < length states.old }
-    ensures { states.new ≡ send states.old registers.now to }
+    ensures { states.new ≡ delivered ⟦<D as Domain>⟧ states.old (record { to = to; state = state }) }
 {
     let joined = match states[to] {
-        Some(before) => before.joined(registers),
-        None => *registers,
+        Some(before) => before.join(state),
+        None => state,
     };
     states[to] = Some(joined);
 }
 
-fn send_if(states: &mut [Option<Registers>], registers: &Registers, to: Option<u32>)
+/// The same along an edge, where there is one.
+fn deliver<D: Domain>(states: &mut [Option<AbsState<D>>], to: Option<u32>, state: AbsState<D>)
     requires { IfSome to (λ slot. slot < length states.old) }
-    ensures { states.new ≡ send_all states.old registers.now (option_to_list to) }
+    ensures { states.new ≡ delivered_all ⟦<D as Domain>⟧ states.old (message_to to (Ok state)) }
 {
     if let Some(to) = to {
-        send(states, registers, to as usize);
+        join_at(states, to as usize, state);
     }
-}
-
-/// Along both edges.
-fn send_along(states: &mut [Option<Registers>], registers: &Registers, edges: Successors)
-    requires next { IfSome edges.next (λ slot. slot < length states.old) }
-    requires target { IfSome edges.target (λ slot. slot < length states.old) }
-    ensures { states.new ≡ send_all states.old registers.now (successor_list edges) }
-{
-    send_if(states, registers, edges.next);
-    send_if(states, registers, edges.target);
 }
 
 /// The edges of a slot of an accepted program.
@@ -58,10 +55,27 @@ fn edges_at(flow: &Flow, slots: &[Slot], place: usize) -> Successors
     flow.successors(place)
 }
 
-/// What an instruction at a slot sends along its edges; nothing from a tail.
-#[tactic(auto, unfolding(crate::specs::Analysis::pass))]
-fn pass(
-    states: &mut [Option<Registers>],
+/// What an instruction sends to the target of its jump.
+fn deliver_target<D: Domain>(
+    states: &mut [Option<AbsState<D>>],
+    to: Option<u32>,
+    state: &AbsState<D>,
+    instruction: &Instruction,
+) -> Result<(), RefusalNumber>
+    requires { IfSome to (λ slot. slot < length states.old) }
+    ensures sent { OnOk result (states.new ≡ delivered_all ⟦<D as Domain>⟧ states.old (message_to to (transfer_in ⟦<D as Domain>⟧ context_size state.now true instruction.now))) }
+    ensures fault { IfErr result (λ number. transfer_in ⟦<D as Domain>⟧ context_size state.now true instruction.now ≡ Err number) }
+{
+    if to.is_some() {
+        let target = state.transfer(CONTEXT_SIZE, true, instruction)?;
+        deliver(states, to, target);
+    }
+    Ok(())
+}
+
+/// What an instruction at a slot sends along its edges is delivered; nothing from a tail.
+fn pass<D: Domain>(
+    states: &mut [Option<AbsState<D>>],
     slots: &[Slot],
     flow: &Flow,
     place: usize,
@@ -71,29 +85,35 @@ fn pass(
     requires program { IsProgram slots.now }
     requires accepted { flow_fault slots.now ≡ None }
     requires flow { IsFlowOf slots.now flow.now.edges }
-    ensures ok { OnOk result (pass slots.now states.old place ≡ Ok states.new) }
-    ensures err { IfErr result (λ number. pass slots.now states.old place ≡ Err number) }
+    ensures passed { OnOk result (fault_with ⟦<D as Domain>⟧ context_size (instruction_at slots.now place) (state_of states.old place) ≡ None) }
+    ensures sent { OnOk result (states.new ≡ delivered_all ⟦<D as Domain>⟧ states.old (sent_with ⟦<D as Domain>⟧ context_size place (instruction_at slots.now place) (state_of states.old place))) }
+    ensures fault { IfErr result (λ number. fault_with ⟦<D as Domain>⟧ context_size (instruction_at slots.now place) (state_of states.old place) ≡ Some number) }
 {
     let Some(instruction) = instruction_at(slots, place) else {
         return Ok(());
     };
-    let Some(registers) = states[place] else {
+    let Some(state) = states[place] else {
         return Ok(());
     };
-    let after = after_instruction(&registers, &instruction)?;
+    let next = state.transfer(CONTEXT_SIZE, false, &instruction)?;
     let edges = edges_at(flow, slots, place);
-    send_along(states, &after, edges);
-    Ok(())
+    deliver(states, edges.next, next);
+    deliver_target(states, edges.target, &state, &instruction)
 }
 
 /// Passes over all slots in order, up to the first fault.
-fn pass_all(states: &mut [Option<Registers>], slots: &[Slot], flow: &Flow) -> Result<(), Refusal>
-    requires states { length states.old ≡ length slots.now }
+pub(crate) fn pass_all<D: Domain>(
+    states: &mut [Option<AbsState<D>>],
+    slots: &[Slot],
+    flow: &Flow,
+) -> Result<(), Refusal>
+    requires entered { states.old ≡ entry_states ⟦<D as Domain>⟧ (length slots.now) }
     requires program { IsProgram slots.now }
     requires accepted { flow_fault slots.now ≡ None }
     requires flow { IsFlowOf slots.now flow.now.edges }
-    ensures ok { OnOk result (IsOk (pass_from slots.now 0 (length slots.now) states.old)) }
-    ensures err { IfErr result (λ e. pass_from slots.now 0 (length slots.now) states.old ≡ Err (fault_of e)) }
+    ensures passed { OnOk result (analysis_fault ⟦<D as Domain>⟧ context_size slots.now ≡ None) }
+    ensures known { OnOk result (AreKnown ⟦<D as Domain>⟧ context_size slots.now states.new) }
+    ensures fault { IfErr result (λ e. analysis_fault ⟦<D as Domain>⟧ context_size slots.now ≡ Some (fault_of e)) }
 {
     for place in 0..slots.len() {
         if let Err(number) = pass(states, slots, flow, place) {
@@ -102,18 +122,4 @@ fn pass_all(states: &mut [Option<Registers>], slots: &[Slot], flow: &Flow) -> Re
         }
     }
     Ok(())
-}
-
-/// The first instruction of a program that may do what it must not.
-#[tactic(auto, unfolding(crate::specs::Analysis::analysis))]
-pub(crate) fn analyse(alloc: Global, slots: &[Slot], flow: &Flow) -> Result<(), Refusal>
-    requires program { IsProgram slots.now }
-    requires accepted { flow_fault slots.now ≡ None }
-    requires flow { IsFlowOf slots.now flow.now.edges }
-    ensures ok { OnOk result (IsOk (analysis slots.now)) }
-    ensures err { IfErr result (λ e. (e ≡ out_of_memory) ⊎ (analysis slots.now ≡ Err (fault_of e))) }
-{
-    let mut states = vec![in alloc; None; slots.len()]?;
-    states[0] = Some(Registers::entry());
-    pass_all(&mut states, slots, flow)
 }

@@ -1,5 +1,10 @@
 //! Programs that are accepted, with their budgets, and programs that are refused.
-use crate::{Refusal, default_classifier, verify};
+use crate::{Refusal, analyse, default_classifier, verify};
+use abs_domain::Flat;
+use abs_regs::AbsVal;
+use bpf_decode::Program;
+use bpf_profile::Register;
+use flow_check::check;
 use refusals::RefusalNumber;
 use std::alloc::{AllocError, Global};
 use std::test::Fail;
@@ -45,8 +50,10 @@ fn registers_and_loads_are_refused(rt: HostRuntime) {
         (0x5501000000000000, (RefusalNumber::PointerUsed, 0)),
         (0x7110800000000000, (RefusalNumber::OutOfBounds, 0)),
         (0x79107c0000000000, (RefusalNumber::Misaligned, 0)),
-        (0x79a0f8ff00000000, (RefusalNumber::OutOfBounds, 0)),
+        (0x79a0f8ff00000000, (RefusalNumber::UnsetStack, 0)),
         (0x79a0f9ff00000000, (RefusalNumber::Misaligned, 0)),
+        (0x79a0000000000000, (RefusalNumber::OutOfBounds, 0)),
+        (0x79a0f8fd00000000, (RefusalNumber::OutOfBounds, 0)),
         (0x7120000000000000, (RefusalNumber::UnsetRegister, 0)),
         (0x0700000001000000, (RefusalNumber::UnsetRegister, 0)),
         (0x9110800000000000, (RefusalNumber::OutOfBounds, 0)),
@@ -96,9 +103,10 @@ fn slots_are_refused(rt: HostRuntime) {
 #[test]
 fn pointers_and_unset_registers_are_refused(rt: HostRuntime) {
     let rows = [
-        // add r1, 1 / add32 r1, 1 / add r2, r1 / add r1, r3
-        (0x0701000001000000, RefusalNumber::PointerUsed),
+        // mul r1, 2 / add32 r1, 1 / add r1, r10 / add r2, r1 / add r1, r3
+        (0x2701000002000000, RefusalNumber::PointerUsed),
         (0x0401000001000000, RefusalNumber::PointerUsed),
+        (0x0fa1000000000000, RefusalNumber::PointerUsed),
         (0x0f12000000000000, RefusalNumber::UnsetRegister),
         (0x0f31000000000000, RefusalNumber::UnsetRegister),
         // mov r2, r3 / mov32 r2, r1 / movsb r2, r1 / movsw r2, r3
@@ -115,8 +123,9 @@ fn pointers_and_unset_registers_are_refused(rt: HostRuntime) {
         (0x2601000000000000, RefusalNumber::PointerUsed),
         (0x1d31000000000000, RefusalNumber::UnsetRegister),
         (0x4da1000000000000, RefusalNumber::PointerUsed),
-        // call 1
-        (0x8500000001000000, RefusalNumber::HelperUnknown),
+        // call 1 / call 5
+        (0x8500000001000000, RefusalNumber::HelperArgument),
+        (0x8500000005000000, RefusalNumber::HelperUnknown),
     ];
     for (slot, number) in rows {
         assert_eq!(rt;
@@ -135,9 +144,10 @@ fn stores_are_refused(rt: HostRuntime) {
         (0x6ba1010000000000, RefusalNumber::ContextWrite),
         (0x7312000000000000, RefusalNumber::UnsetRegister),
         (0x7331000000000000, RefusalNumber::UnsetRegister),
-        // stb [r10-8], 1 / stdw [r10-7], 1
-        (0x720af8ff01000000, RefusalNumber::OutOfBounds),
+        // stb [r10+0], 1 / stdw [r10-7], 1 / stxw [r10-8], r1
+        (0x720a000001000000, RefusalNumber::OutOfBounds),
         (0x7a0af9ff01000000, RefusalNumber::Misaligned),
+        (0x631af8ff00000000, RefusalNumber::PointerUsed),
     ];
     for (slot, number) in rows {
         assert_eq!(rt;
@@ -159,9 +169,9 @@ fn answers_are_refused(rt: HostRuntime) {
     let rows: [(&[u64], u32, RefusalNumber); 4] = [
         // mov32 r0, -1
         (&[0xb4000000ffffffff], 1, RefusalNumber::AnswerRange),
-        // mov r0, 1 / add r0, 0
+        // mov r0, 1 / add r0, 2
         (
-            &[0xb700000001000000, 0x0700000000000000],
+            &[0xb700000001000000, 0x0700000002000000],
             2,
             RefusalNumber::AnswerRange,
         ),
@@ -212,6 +222,73 @@ fn moved_values_are_followed(rt: HostRuntime) -> Result<(), Fail> {
         let program = verify(rt.alloc(), &bytes).expect(&rt, "an answer of at most 2");
         assert_eq!(rt; program.budget(), budget, "{slots:?}");
     }
+    Ok(())
+}
+
+/// What is known at the slots of a program over one domain: a constant that is added to, and nothing at a
+/// tail.
+#[test]
+fn states_are_known(rt: HostRuntime) -> Result<(), Fail> {
+    // mov r0, 1 / add r0, 1 / lddw r2, 5 / exit
+    let slots = [
+        0xb700000001000000,
+        0x0700000001000000,
+        0x1802000005000000,
+        0,
+        EXIT,
+    ];
+    let bytes = bytes_of(rt.alloc(), &slots)?;
+    let program = Program::decode(rt.alloc(), &bytes).expect(&rt, "slots of the profile");
+    let flow = check(rt.alloc(), &program).expect(&rt, "a straight program");
+    let states = analyse::<Flat>(rt.alloc(), &program, &flow).expect(&rt, "an answer of 2");
+    let rows = [
+        (0, 0, AbsVal::Unset),
+        (1, 0, AbsVal::Number(Flat::One(1))),
+        (2, 0, AbsVal::Number(Flat::One(2))),
+        (4, 2, AbsVal::Number(Flat::One(5))),
+        (4, 10, AbsVal::Stack(0)),
+    ];
+    for (slot, register, value) in rows {
+        let state = states.at(slot).expect(&rt, "an instruction");
+        assert_eq!(rt;
+            state.registers.get(Register::new(register)),
+            value,
+            "r{register} at {slot}"
+        );
+    }
+    assert!(rt; states.at(3).is_none());
+    Ok(())
+}
+
+/// Where two constants meet, ranges keep their bounds; a domain that keeps one word or nothing doesn't.
+#[test]
+fn flat_words_are_too_little(rt: HostRuntime) -> Result<(), Fail> {
+    let classifier = default_classifier(rt.alloc()).expect(&rt, "the default classifier");
+    let program = classifier.program();
+    let flow = check(rt.alloc(), program).expect(&rt, "an accepted program");
+    assert!(rt; analyse::<Flat>(rt.alloc(), program, &flow).is_ok());
+    let slots = [
+        // lddw r1, 0x8000000000000000 / sdiv r1, -1 / lddw r2, 0x8000000000000000
+        0x1801000000000000,
+        0x0000000000000080,
+        0x37010100ffffffff,
+        0x1802000000000000,
+        0x0000000000000080,
+        // mov r0, 1 / jne r1, r2, +1 / mov r0, 0 / exit
+        0xb700000001000000,
+        0x5d21010000000000,
+        0xb700000000000000,
+        EXIT,
+    ];
+    let bytes = bytes_of(rt.alloc(), &slots)?;
+    assert!(rt; verify(rt.alloc(), &bytes).is_ok());
+    let program = Program::decode(rt.alloc(), &bytes).expect(&rt, "slots of the profile");
+    let flow = check(rt.alloc(), &program).expect(&rt, "forward jumps");
+    let refused = match analyse::<Flat>(rt.alloc(), &program, &flow) {
+        Ok(_) => None,
+        Err(Refusal { slot, number }) => Some((number, slot)),
+    };
+    assert_eq!(rt; refused, Some((RefusalNumber::AnswerRange, 8)));
     Ok(())
 }
 

@@ -4,18 +4,20 @@ ghost use Rattle.bpf_profile.specs.declared.slot.Slot.{Slot};
 ghost use Rattle.bpf_profile.specs.Meaning.{instruction_at};
 ghost use Rattle.bpf_profile.specs.Safety.{IsSafe};
 ghost use Rattle.bpf_profile.specs.Spelling.{Spells};
-ghost use Rattle.verifier.specs.Analysis.{context_size};
-ghost use Rattle.verifier.specs.Plain.{RunsPlainly};
 ghost use Rattle.bpf_profile.specs.Flow.{flow_fault, IsBudget};
-ghost use Rattle.verifier.specs.Analysis.{analysis};
-ghost use Rattle.verifier.specs.Verifying.{out_of_memory, fault_of, IsProgramRefused, IsRefused};
+ghost use Rattle.verifier.specs.Analysis.{context_size, analysis_fault};
+ghost use Rattle.verifier.specs.Verifying.{out_of_memory, fault_of, IsAccepted, IsProgramRefused, IsRefused};
 
+use crate::analysis::analyse;
 use crate::decoded::decoded;
-use crate::passes::analyse;
 use crate::refusal::Refusal;
+use abs_domain::Domain;
 use bpf_decode::Program;
 use bpf_profile::Instruction;
 use flow_check::check;
+use known_bits::KnownBits;
+use product_domain::Both;
+use ranges::Range;
 use std::alloc::{AllocError, Global};
 use std::marker::Model;
 
@@ -44,10 +46,8 @@ impl Verified {
     pub fn budget(&self) -> u32
         ensures budget { result ≡ self.now.budget }
         ensures safe { IsSafe context_size self.now.slots self.now.budget }
-        ensures plain { RunsPlainly self.now.slots }
         ensures few { length self.now.slots ≤ 4096 }
     {
-        let _code = &self.code;
         self.budget
     }
 
@@ -77,16 +77,16 @@ impl Verified {
 /// The budget of a program that passes flow and analysis, or the first fault.
 fn checked(alloc: Global, program: &Program) -> Result<u32, Refusal>
     ensures budget { IfOk result (λ budget. IsBudget program.now budget) }
-    ensures flow { OnOk result (flow_fault program.now ≡ None) }
-    ensures analysed { OnOk result (IsOk (analysis program.now)) }
-    ensures refused { IfErr result (λ e. (e ≡ out_of_memory) ⊎ IsProgramRefused program.now (fault_of e)) }
+    ensures safe { IfOk result (λ budget. IsSafe context_size program.now budget) }
+    ensures accepted { OnOk result (IsAccepted ⟦<Both<Range, KnownBits> as Domain>⟧ program.now) }
+    ensures refused { IfErr result (λ e. (e ≡ out_of_memory) ⊎ IsProgramRefused ⟦<Both<Range, KnownBits> as Domain>⟧ program.now (fault_of e)) }
 {
     let flow = match check(alloc, program) {
         Ok(flow) => flow,
         Err(error) => return Err(Refusal::from(error)),
     };
-    match analyse(alloc, program.slots(), &flow) {
-        Ok(()) => Ok(flow.budget()),
+    match analyse::<Both<Range, KnownBits>>(alloc, program, &flow) {
+        Ok(_) => Ok(flow.budget()),
         Err(refusal) => Err(refusal),
     }
 }
@@ -94,11 +94,9 @@ fn checked(alloc: Global, program: &Program) -> Result<u32, Refusal>
 /// What is kept of a program that was checked.
 fn kept(alloc: Global, program: Program, bytes: &[u8], budget: u32) -> Result<Verified, AllocError>
     requires spelled { Spells bytes.now program }
-    requires budget { IsBudget program budget }
-    requires flow { flow_fault program ≡ None }
-    requires analysed { IsOk (analysis program) }
+    requires safe { IsSafe context_size program budget }
     ensures program { IfOk result (λ v. v.slots ≡ program) }
-    ensures safe { IfOk result (λ v. IsSafe context_size v.slots v.budget) }
+    ensures budget { IfOk result (λ v. v.budget ≡ budget) }
 {
     let code = decoded(alloc, program.slots())?;
     let bytes = bytes.to_vec(alloc)?;
@@ -114,11 +112,12 @@ fn kept(alloc: Global, program: Program, bytes: &[u8], budget: u32) -> Result<Ve
 /// analysis, in which the least slot comes first. Where memory runs out the refusal is
 /// `ProgramOutOfMemory` at slot 0.
 pub fn verify(alloc: Global, bytes: &[u8]) -> Result<Verified, Refusal>
-    // What is verified is spelled so, and safe.
+    // What is verified is spelled so, accepted by flow and analysis, and safe.
     ensures spelled { IfOk result (λ v. Spells bytes.now v.slots) }
+    ensures accepted { IfOk result (λ v. IsAccepted ⟦<Both<Range, KnownBits> as Domain>⟧ v.slots) }
     ensures safe { IfOk result (λ v. IsSafe context_size v.slots v.budget) }
     // A refusal is the first fault, unless memory ran out.
-    ensures refused { IfErr result (λ e. (e ≡ out_of_memory) ⊎ IsRefused bytes.now (fault_of e)) }
+    ensures refused { IfErr result (λ e. (e ≡ out_of_memory) ⊎ IsRefused ⟦<Both<Range, KnownBits> as Domain>⟧ bytes.now (fault_of e)) }
 {
     let program = match Program::decode(alloc, bytes) {
         Ok(program) => program,

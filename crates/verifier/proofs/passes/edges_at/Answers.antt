@@ -1,7 +1,7 @@
 use Rattle.std.proofs.Common.{◌≡◌, ◌++◌, List, ℕ, Option, Some, sym, ◌∙◌}
 use Rattle.std.specs.Prelude.{option_to_list}
 use Rattle.bpf_profile.specs.Flow.{successors}
-use Rattle.verifier.proofs.Steps.{next_inside, target_inside}
+use Rattle.verifier.proofs.Edges.{next_inside, target_inside}
 use Rattle.verifier.proofs.passes.edges_at.Goals as goal
 
 pub returns-clause-next : goal.returns-clause-next

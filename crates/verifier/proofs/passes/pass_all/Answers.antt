@@ -1,22 +1,37 @@
-use Rattle.std.proofs.Common.{◌≤◌, length, refl, sym, ◌∙◌, subst, arith}
-use Rattle.std.specs.Prelude.{IsOk, Result}
-use Rattle.bpf_profile.specs.Spelling.{Fault}
-use Rattle.verifier.specs.Analysis.{States}
-use Rattle.verifier.proofs.Steps.{pass_on, pass_ends, pass_done}
+use Rattle.std.proofs.Common.{◌≤◌, length, sym, ap, ◌∙◌, subst, arith}
+use Rattle.verifier.specs.Analysis.{context_size, fault_from}
+use Rattle.verifier.proofs.Edges.{forward}
+use Rattle.verifier.proofs.Known.{Sent, none_sent, sent_more, all_known, fault_here, fault_on, fault_ends, fault_done}
 use Rattle.verifier.proofs.passes.pass_all.Goals as goal
 
-pub returns-in-Err-clause-err : goal.returns-in-Err-clause-err
-returns-in-Err-clause-err c =
-    sym c.loop-place.invariant.rest
-    ∙ pass_ends c.args.slots.now c.loop-place.states c.loop-place.place c.in-Err.number (omega arith) c.in-Err.ensures.err
-
-pub loop-place-preserved : goal.loop-place-preserved
-loop-place-preserved c = record {
-  same = c.pass.auto.states ∙ c.loop-place.invariant.same;
-  rest = sym (pass_on c.args.slots.now c.loop-place.states c.pass.new.states c.loop-place.place (omega arith) c.in_default.ensures.ok) ∙ c.loop-place.invariant.rest;
+pub loop-place-init : goal.loop-place-init
+loop-place-init g c = record {
+  sent = none_sent g.D.Domain context_size c.args.slots.now c.args.states.now c.requires.program.some c.requires.entered;
+  rest = ap (fault_from g.D.Domain context_size c.args.slots.now 0) (omega arith);
 }
 
-pub returns-clause-ok : goal.returns-clause-ok
-returns-clause-ok c =
+pub returns-in-Err-clause-fault : goal.returns-in-Err-clause-fault
+returns-in-Err-clause-fault g c =
+    sym c.loop-place.invariant.rest
+    ∙ fault_ends g.D.Domain context_size c.args.slots.now c.loop-place.place c.in-Err.number (omega arith)
+    (fault_here g.D.Domain context_size c.args.slots.now c.loop-place.states c.loop-place.place (omega arith) c.loop-place.invariant.sent ∙ c.in-Err.ensures.fault)
+
+pub loop-place-preserved : goal.loop-place-preserved
+loop-place-preserved g c =
+    let sent = c.loop-place.invariant.sent in
+    record {
+      sent = subst (Sent g.D.Domain context_size c.args.slots.now c.pass.new.states) (omega arith)
+          (sent_more g.D.Domain context_size c.args.slots.now c.loop-place.states c.pass.new.states c.loop-place.place (forward c.args.slots.now c.requires.program c.requires.accepted) (omega arith) sent c.in_default.ensures.sent);
+      rest = sym (fault_on g.D.Domain context_size c.args.slots.now c.loop-place.place (omega arith) (fault_here g.D.Domain context_size c.args.slots.now c.loop-place.states c.loop-place.place (omega arith) sent ∙ c.in_default.ensures.passed))
+          ∙ c.loop-place.invariant.rest;
+    }
+
+pub returns-clause-passed : goal.returns-clause-passed
+returns-clause-passed g c =
     let all : length c.args.slots.now ≤ c.loop-place.place = omega arith in
-    subst (λ (r : Result States Fault). IsOk r) (sym (pass_done c.args.slots.now c.loop-place.states c.loop-place.place all) ∙ c.loop-place.invariant.rest) refl
+    sym c.loop-place.invariant.rest ∙ fault_done g.D.Domain context_size c.args.slots.now c.loop-place.place all
+
+pub returns-clause-known : goal.returns-clause-known
+returns-clause-known g c =
+    let all : length c.args.slots.now ≤ c.loop-place.place = omega arith in
+    all_known g.D.Domain context_size c.args.slots.now c.loop-place.states c.loop-place.place (forward c.args.slots.now c.requires.program c.requires.accepted) all c.loop-place.invariant.sent

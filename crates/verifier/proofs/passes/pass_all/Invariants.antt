@@ -1,10 +1,11 @@
 use Rattle.std.proofs.Common.{◌≡◌, ◌-◌, length}
-use Rattle.verifier.specs.Analysis.{pass_from}
+use Rattle.verifier.specs.Analysis.{context_size, fault_from}
+use Rattle.verifier.proofs.Known.{Sent}
 use Rattle.verifier.proofs.passes.pass_all.Given as goal
 
--- what is left to pass ends as the whole pass does
+-- the slots so far have sent, and the fault is the first of those that are left
 abbrev pub invariant-loop-place : goal.invariant-loop-place
-invariant-loop-place l = record {
-  same : length l.states ≡ length l.slots;
-  rest : pass_from l.slots l.place (length l.slots - l.place) l.states ≡ pass_from l.slots 0 (length l.slots) l.initial.states;
+invariant-loop-place g l = record {
+  sent : Sent g.D.Domain context_size l.slots l.states l.place;
+  rest : fault_from g.D.Domain context_size l.slots l.place (length l.slots - l.place) ≡ fault_from g.D.Domain context_size l.slots 0 (length l.slots);
 }

@@ -1,0 +1,4 @@
+pub mod Compared
+pub mod Computed
+pub mod Described
+pub mod Joins

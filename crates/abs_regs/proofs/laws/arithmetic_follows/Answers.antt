@@ -1,0 +1,5 @@
+use Rattle.abs_regs.proofs.Computed.{arithmetic_gives}
+use Rattle.abs_regs.proofs.laws.arithmetic_follows.Goals as goal
+
+pub returns : goal.returns
+returns g c = arithmetic_gives g.D.Domain (record { sound = record { words = g.met.D.Domain.contained_are_words; constants = g.met.D.Domain.words_are_contained; any = g.met.D.Domain.any_contains_all; operations = g.met.D.Domain.operations_are_contained; shifts = g.met.D.Domain.shifts_are_contained; conversions = g.met.D.Domain.conversions_are_contained; bounds = g.met.D.Domain.bounds_hold }; refines = record { bounds = g.met.D.Domain.bounds_hold; first = g.met.D.Domain.refining_keeps_the_first; second = g.met.D.Domain.refining_keeps_the_second }; first = g.met.D.Domain.joins_contain_the_first; second = g.met.D.Domain.joins_contain_the_second })

@@ -1,0 +1,4 @@
+pub mod States
+pub mod Calls
+pub mod Transfers
+pub mod Steps

@@ -1,0 +1,210 @@
+//! Calls of helper functions (RFC 9669, section 4.3.1).
+ghost use Rattle.std.specs.Prelude.{◌≡◌, ◌≤◌, ◌+◌, IfOk, IfSome};
+ghost use Rattle.abs_states.specs.Calls.{argument_in, pointer_argument, count_in, placed_in, stretch_in, up_to, fact_in, front_byte_in, copy_tag_in, tag_starts_in, answer_in, written_in, without_arguments, called_values};
+
+use crate::state::AbsState;
+use abs_domain::{Conversion, Domain, Relation};
+use abs_regs::{AbsVal, RegFile};
+use bpf_profile::{Register, Size};
+use refusals::RefusalNumber;
+use stack_track::StackState;
+
+/// The size of the stack in bytes.
+const STACK: u64 = 512;
+
+/// Where the body's front begins in the context.
+const FRONT: u64 = 64;
+
+/// How many facts there are.
+const FACTS: u64 = 16;
+
+/// So many bytes of the stack, with as many before them.
+#[derive(Clone, Copy, Debug)]
+pub struct Stretch {
+    pub place: u64,
+    pub count: u64,
+}
+
+/// What is known of a helper's answer, and the bytes of the stack that it writes.
+pub struct Answered<D> {
+    pub answer: D,
+    pub written: Option<Stretch>,
+}
+
+/// An argument that is a number.
+fn number_argument<D: Domain>(value: AbsVal<D>) -> Result<D, RefusalNumber>
+    ensures { result ≡ argument_in value }
+{
+    match value {
+        AbsVal::Unset => Err(RefusalNumber::UnsetRegister),
+        AbsVal::Number(number) => Ok(number),
+        AbsVal::Stack(_) | AbsVal::Context(_) => Err(RefusalNumber::HelperArgument),
+    }
+}
+
+/// An argument that points into the stack.
+fn stack_argument<D: Domain>(value: AbsVal<D>) -> Result<u64, RefusalNumber>
+    ensures { result ≡ pointer_argument value }
+{
+    match value {
+        AbsVal::Unset => Err(RefusalNumber::UnsetRegister),
+        AbsVal::Stack(offset) => Ok(offset),
+        AbsVal::Number(_) | AbsVal::Context(_) => Err(RefusalNumber::HelperArgument),
+    }
+}
+
+/// How many bytes, a number that is known, from 1 to 32.
+fn known_count<D: Domain>(number: D) -> Result<u64, RefusalNumber>
+    ensures count { result ≡ count_in ⟦<D as Domain>⟧ number }
+    ensures few { IfOk result (λ count. count ≤ 32) }
+{
+    let bounds = number.bounds();
+    if bounds.low == bounds.high && 0 < bounds.low && bounds.low <= 32 {
+        Ok(bounds.low)
+    } else {
+        Err(RefusalNumber::HelperArgument)
+    }
+}
+
+/// So many bytes from an offset on, which have to lie in the stack.
+fn stretch_at(offset: u64, count: u64) -> Result<Stretch, RefusalNumber>
+    requires { count ≤ 32 }
+    ensures stretch { result ≡ placed_in offset count }
+    ensures inside { IfOk result (λ bytes. bytes.place + bytes.count ≤ 512) }
+{
+    let place = offset.wrapping_add(STACK);
+    if place <= STACK - count {
+        Ok(Stretch { place, count })
+    } else {
+        Err(RefusalNumber::HelperArgument)
+    }
+}
+
+/// The bytes that R1 and R2 say.
+fn bytes_argument<D: Domain>(registers: &RegFile<D>) -> Result<Stretch, RefusalNumber>
+    ensures stretch { result ≡ stretch_in ⟦<D as Domain>⟧ registers.now }
+    ensures inside { IfOk result (λ bytes. bytes.place + bytes.count ≤ 512) }
+{
+    let offset = stack_argument(registers.get(Register::new(1)))?;
+    let number = number_argument(registers.get(Register::new(2)))?;
+    let count = known_count(number)?;
+    stretch_at(offset, count)
+}
+
+/// Any number of at most so much.
+fn up_to<D: Domain>(most: u64) -> D
+    ensures { result ≡ up_to ⟦<D as Domain>⟧ most }
+{
+    let (_, number) = D::constant(most).refine(Relation::GreaterOrEqual, D::top());
+    number
+}
+
+impl<D: Domain> AbsState<D> {
+    /// Helper 1: the fact of this number.
+    fn fact(&self) -> Result<Answered<D>, RefusalNumber>
+        ensures { result ≡ fact_in ⟦<D as Domain>⟧ self.now }
+    {
+        let number = number_argument(self.registers.get(Register::new(1)))?;
+        if number.bounds().high < FACTS {
+            Ok(Answered {
+                answer: D::top(),
+                written: None,
+            })
+        } else {
+            Err(RefusalNumber::HelperArgument)
+        }
+    }
+
+    /// Helper 2: the byte of this number of the body's front.
+    fn front_byte(&self, context_size: u64) -> Result<Answered<D>, RefusalNumber>
+        ensures { result ≡ front_byte_in ⟦<D as Domain>⟧ context_size self.now }
+    {
+        let number = number_argument(self.registers.get(Register::new(1)))?;
+        if FRONT < context_size && number.bounds().high < context_size - FRONT {
+            Ok(Answered {
+                answer: D::top().convert(Conversion::Low, Size::Byte),
+                written: None,
+            })
+        } else {
+            Err(RefusalNumber::HelperArgument)
+        }
+    }
+
+    /// Helper 3: the tag's front is written to the stack.
+    fn copy_tag(&self) -> Result<Answered<D>, RefusalNumber>
+        ensures answer { result ≡ copy_tag_in ⟦<D as Domain>⟧ self.now }
+        ensures inside { IfOk result (λ a. IfSome a.written (λ bytes. bytes.place + bytes.count ≤ 512)) }
+    {
+        let bytes = bytes_argument(&self.registers)?;
+        Ok(Answered {
+            answer: up_to(32),
+            written: Some(bytes),
+        })
+    }
+
+    /// Helper 4: the tag is compared with bytes of the stack, which have to be set.
+    fn tag_starts(&self) -> Result<Answered<D>, RefusalNumber>
+        ensures { result ≡ tag_starts_in ⟦<D as Domain>⟧ self.now }
+    {
+        let bytes = bytes_argument(&self.registers)?;
+        if self.stack.stretch_is_set(bytes.place, bytes.count) {
+            Ok(Answered {
+                answer: up_to(1),
+                written: None,
+            })
+        } else {
+            Err(RefusalNumber::HelperArgument)
+        }
+    }
+
+    /// What a helper answers, and the bytes that it writes.
+    pub(crate) fn answered(
+        &self,
+        context_size: u64,
+        helper: u32,
+    ) -> Result<Answered<D>, RefusalNumber>
+        ensures answer { result ≡ answer_in ⟦<D as Domain>⟧ context_size self.now helper }
+        ensures inside { IfOk result (λ a. IfSome a.written (λ bytes. bytes.place + bytes.count ≤ 512)) }
+    {
+        match helper {
+            1 => self.fact(),
+            2 => self.front_byte(context_size),
+            3 => self.copy_tag(),
+            4 => self.tag_starts(),
+            _ => Err(RefusalNumber::HelperUnknown),
+        }
+    }
+}
+
+/// The stack after a call.
+pub(crate) fn stack_after<D: Domain>(
+    stack: StackState<D>,
+    written: Option<Stretch>,
+) -> StackState<D>
+    requires { IfSome written (λ bytes. bytes.place + bytes.count ≤ 512) }
+    ensures { result ≡ written_in stack written }
+{
+    match written {
+        Some(bytes) => stack.stretch_written(bytes.place, bytes.count),
+        None => stack,
+    }
+}
+
+/// The registers with nothing known of the arguments, R1 to R5.
+fn without_arguments<D: Domain>(registers: RegFile<D>) -> RegFile<D>
+    ensures { result ≡ without_arguments registers }
+{
+    registers
+        .with(Register::new(1), AbsVal::Unset)
+        .with(Register::new(2), AbsVal::Unset)
+        .with(Register::new(3), AbsVal::Unset)
+        .with(Register::new(4), AbsVal::Unset)
+        .with(Register::new(5), AbsVal::Unset)
+}
+
+/// The registers after a call: the answer in R0, the arguments unset, the others kept.
+pub(crate) fn registers_after<D: Domain>(registers: RegFile<D>, answer: D) -> RegFile<D>
+    ensures { result ≡ called_values registers answer }
+{
+    without_arguments(registers).with(Register::new(0), AbsVal::Number(answer))
+}

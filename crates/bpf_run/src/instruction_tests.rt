@@ -1,0 +1,170 @@
+//! Single instructions over bare words and memory.
+use crate::calls::call;
+use crate::memory::{BYTES, Memory, copy_context, load, store};
+use crate::step::{Words, execute};
+use bpf_profile::{Extension, Instruction, Operand, Operation, Register, Size, Width};
+use helpers::Record;
+
+/// R10 is the end of the stack, and R1 the context.
+const ENTRY: Words = [0, 0, 0, 0, 0, 0, 0, 0, 0, 0, 640];
+
+/// The record with this tag. Its context has the bytes 1 to 128, and its last fact is not 0.
+fn outcome(tag: &[u8]) -> Option<Record> {
+    let mut context = [0u8; 128];
+    for i in 0..128 {
+        context[i] = i as u8 + 1;
+    }
+    let mut facts = [0; 16];
+    facts[15] = 0xfedcba9876543210;
+    Record::from_parts(context, facts, tag)
+}
+
+/// Memory before the first instruction, with a mark on each byte of the stack.
+fn memory_of(outcome: &Record) -> Memory {
+    let mut memory = [0xee; BYTES];
+    copy_context(&mut memory, outcome);
+    memory
+}
+
+#[test]
+fn every_size_is_stored_and_loaded(rt: HostRuntime) {
+    let rows = [
+        (Size::Byte, 1, 0x88, 0xffffffffffffff88),
+        (Size::HalfWord, 2, 0x8788, 0xffffffffffff8788),
+        (Size::Word, 4, 0x85868788, 0xffffffff85868788),
+        (Size::DoubleWord, 8, 0x8182838485868788, 0x8182838485868788),
+    ];
+    for (size, bytes, zero, sign) in rows {
+        let mut memory = [0xee; BYTES];
+        store(&mut memory, size, 400, 0x8182838485868788);
+        assert_eq!(rt; load(&memory, size, Extension::Zero, 400), zero);
+        assert_eq!(rt; load(&memory, size, Extension::Sign, 400), sign);
+        assert_eq!(rt; memory[399], 0xee);
+        assert_eq!(rt; memory[400 + bytes], 0xee);
+    }
+}
+
+#[test]
+#[tactic(auto, unfolding(crate::specs::Bare::MayRun, crate::specs::Bare::registers_after))]
+fn a_pointer_is_stored_and_loaded(rt: HostRuntime) {
+    let outcome = outcome(&[]).expect(&rt, "an empty tag");
+    let mut memory = memory_of(&outcome);
+    let mut registers = ENTRY;
+    // stxdw [r10-8], r10
+    let store = Instruction::Store {
+        size: Size::DoubleWord,
+        base: Register::new(10),
+        offset: 0xfffffffffffffff8,
+        operand: Operand::Register(Register::new(10)),
+    };
+    // ldxdw r2, [r10-8]
+    let load = Instruction::Load {
+        size: Size::DoubleWord,
+        extension: Extension::Zero,
+        destination: Register::new(2),
+        base: Register::new(10),
+        offset: 0xfffffffffffffff8,
+    };
+    assert_eq!(rt;
+        execute(&store, 0, &mut registers, &mut memory, &outcome),
+        1
+    );
+    assert_eq!(rt; execute(&load, 1, &mut registers, &mut memory, &outcome), 2);
+    assert_eq!(rt; registers, [0, 0, 640, 0, 0, 0, 0, 0, 0, 0, 640]);
+    assert_eq!(rt; &memory[632..], [0x80, 2, 0, 0, 0, 0, 0, 0].as_slice());
+    assert_eq!(rt; memory[631], 0xee);
+}
+
+#[test]
+#[tactic(auto, unfolding(crate::specs::Bare::MayRun))]
+fn the_context_is_loaded(rt: HostRuntime) {
+    let outcome = outcome(&[]).expect(&rt, "an empty tag");
+    let mut memory = memory_of(&outcome);
+    let mut registers = ENTRY;
+    // ldxsw r1, [r1+124]
+    let load = Instruction::Load {
+        size: Size::Word,
+        extension: Extension::Sign,
+        destination: Register::new(1),
+        base: Register::new(1),
+        offset: 124,
+    };
+    assert_eq!(rt; execute(&load, 7, &mut registers, &mut memory, &outcome), 8);
+    assert_eq!(rt;
+        registers,
+        [0, 0xffffffff807f7e7d, 0, 0, 0, 0, 0, 0, 0, 0, 640]
+    );
+}
+
+#[test]
+#[tactic(auto, unfolding(crate::specs::Bare::MayRun))]
+fn pointers_are_computed_with(rt: HostRuntime) {
+    let outcome = outcome(&[]).expect(&rt, "an empty tag");
+    let mut memory = memory_of(&outcome);
+    let mut registers = ENTRY;
+    // sub r10, 16
+    let subtract = Instruction::Arithmetic {
+        operation: Operation::Subtract,
+        width: Width::Bits64,
+        destination: Register::new(10),
+        operand: Operand::Immediate(16),
+    };
+    // add r1, r10
+    let add = Instruction::Arithmetic {
+        operation: Operation::Add,
+        width: Width::Bits64,
+        destination: Register::new(1),
+        operand: Operand::Register(Register::new(10)),
+    };
+    assert_eq!(rt;
+        execute(&subtract, 0, &mut registers, &mut memory, &outcome),
+        1
+    );
+    assert_eq!(rt; execute(&add, 1, &mut registers, &mut memory, &outcome), 2);
+    assert_eq!(rt; registers, [0, 624, 0, 0, 0, 0, 0, 0, 0, 0, 624]);
+}
+
+#[test]
+fn facts_and_the_front_are_read(rt: HostRuntime) {
+    let outcome = outcome(&[]).expect(&rt, "an empty tag");
+    let mut memory = memory_of(&outcome);
+    let mut registers = [9, 15, 8, 7, 6, 5, 4, 3, 2, 1, 640];
+    call(1, &mut registers, &mut memory, &outcome);
+    assert_eq!(rt;
+        registers,
+        [0xfedcba9876543210, 15, 8, 7, 6, 5, 4, 3, 2, 1, 640]
+    );
+    let mut registers = [9, 63, 8, 7, 6, 5, 4, 3, 2, 1, 640];
+    call(2, &mut registers, &mut memory, &outcome);
+    assert_eq!(rt; registers, [128, 63, 8, 7, 6, 5, 4, 3, 2, 1, 640]);
+    assert_eq!(rt; memory, memory_of(&outcome));
+}
+
+#[test]
+fn the_front_of_a_tag_is_copied(rt: HostRuntime) {
+    let outcome = outcome(&[0x61, 0x62]).expect(&rt, "a short tag");
+    let mut memory = memory_of(&outcome);
+    let mut registers = [9, 632, 3, 7, 6, 5, 4, 3, 2, 1, 640];
+    call(3, &mut registers, &mut memory, &outcome);
+    assert_eq!(rt; registers, [2, 632, 3, 7, 6, 5, 4, 3, 2, 1, 640]);
+    assert_eq!(rt;
+        &memory[631..],
+        [0xee, 0x61, 0x62, 0, 0xee, 0xee, 0xee, 0xee, 0xee].as_slice()
+    );
+}
+
+#[test]
+fn the_start_of_a_tag_is_compared(rt: HostRuntime) {
+    let pay = outcome(&[0x70, 0x61, 0x79]).expect(&rt, "a short tag");
+    let pan = outcome(&[0x70, 0x61, 0x6e]).expect(&rt, "a short tag");
+    let p = outcome(&[0x70]).expect(&rt, "a short tag");
+    for (outcome, answer) in [(pay, 1), (pan, 0), (p, 0)] {
+        let mut memory = memory_of(&outcome);
+        memory[632] = 0x70;
+        memory[633] = 0x61;
+        memory[634] = 0x79;
+        let mut registers = [9, 632, 3, 7, 6, 5, 4, 3, 2, 1, 640];
+        call(4, &mut registers, &mut memory, &outcome);
+        assert_eq!(rt; registers, [answer, 632, 3, 7, 6, 5, 4, 3, 2, 1, 640]);
+    }
+}

@@ -1,0 +1,49 @@
+//! What conditional jumps tell of registers that hold ranges.
+use abs_domain::{Bounds, Domain};
+use abs_regs::{AbsVal, RegFile};
+use bpf_profile::{Comparison, Operand, Register, Width};
+use ranges::Range;
+use std::process::Abort;
+use std::test::Fail;
+
+/// The bounds of R2, between two words before, where a comparison of it holds.
+fn left(
+    rt: &impl Abort,
+    comparison: Comparison,
+    width: Width,
+    before: (u64, u64),
+    right: &Operand,
+) -> Bounds {
+    let two = Register::new(2);
+    let range = Range::constant(before.0).join(Range::constant(before.1));
+    let registers = RegFile::entry().with(two, AbsVal::Number(range));
+    let after = registers
+        .branched(comparison, width, true, two, right)
+        .expect(rt, "numbers");
+    after.get(two).number().expect(rt, "a number").bounds()
+}
+
+/// A comparison of 32 bits takes as many bits of its immediate.
+#[test]
+fn halves_of_immediates_count(rt: HostRuntime) -> Result<(), Fail> {
+    let before = (0xffff_fff0, 0xffff_ffff);
+    let immediate = Operand::Immediate(0xffff_ffff_ffff_fff8);
+    let half = left(&rt, Comparison::Equal, Width::Bits32, before, &immediate);
+    assert_eq!(rt;
+        half,
+        Bounds {
+            low: 0xffff_fff8,
+            high: 0xffff_fff8
+        }
+    );
+    Ok(())
+}
+
+/// A register with itself tells nothing.
+#[test]
+fn registers_tell_nothing_of_themselves(rt: HostRuntime) -> Result<(), Fail> {
+    let itself = Operand::Register(Register::new(2));
+    let same = left(&rt, Comparison::Greater, Width::Bits64, (3, 9), &itself);
+    assert_eq!(rt; same, Bounds { low: 3, high: 9 });
+    Ok(())
+}

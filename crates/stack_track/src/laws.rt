@@ -1,0 +1,51 @@
+//! What the analysis of the stack loses: no run of the machine.
+ghost use Rattle.std.specs.Prelude.{◌≡◌, ℕ, ◌+◌, ◌≤◌, true, List, length, map, take, drop, replicate, Some, Ok};
+ghost use Rattle.abs_regs.specs.declared.address.Address.{Address as Known};
+ghost use Rattle.abs_regs.specs.declared.value.AbsVal.{AbsVal};
+ghost use Rattle.abs_regs.specs.Steps.{Gives, IsAt};
+ghost use Rattle.abs_regs.specs.Values.{IsAs};
+ghost use Rattle.bpf_profile.specs.declared.machine.Cell.{Cell as Byte};
+ghost use Rattle.bpf_profile.specs.declared.machine.Cell.TheVariants as byte;
+ghost use Rattle.bpf_profile.specs.Machine.{State, Address, cell_bytes, overwritten, stack_size};
+ghost use Rattle.bpf_profile.specs.Outcomes.{Outcome, AreBytes};
+ghost use Rattle.stack_track.specs.declared.cell.Cell.{Cell};
+ghost use Rattle.stack_track.specs.Accesses.{load_at, store_at, stretch_is_set, stretch_written};
+ghost use Rattle.stack_track.specs.Cells.{entry_cells, joined_cells};
+ghost use Rattle.stack_track.specs.Steps.{AreCells, Stores, loaded_from};
+
+use abs_domain::Domain;
+use bpf_profile::{Extension, Size, Value};
+
+/// A stack that is as known by either of two lists of cells is as known by their join.
+pub fn joined_cells_are_kept<D: Domain>()
+    ensures first { (a b : List (Cell D)) (stack : List Byte) → AreCells ⟦<D as Domain>⟧ a stack → AreCells ⟦<D as Domain>⟧ (joined_cells ⟦<D as Domain>⟧ a b) stack }
+    ensures second { (a b : List (Cell D)) (stack : List Byte) → AreCells ⟦<D as Domain>⟧ b stack → AreCells ⟦<D as Domain>⟧ (joined_cells ⟦<D as Domain>⟧ a b) stack }
+{}
+
+/// Before the first instruction the machine's stack, of which no byte is set, is as known.
+pub fn entry_is_known<D: Domain>()
+    ensures { AreCells ⟦<D as Domain>⟧ entry_cells (replicate stack_size byte.Unset) }
+{}
+
+/// A load that isn't refused doesn't trap, and its value is as known, on every outcome's record
+/// (RFC 9669, section 5).
+pub fn loads_follow<D: Domain>()
+    ensures { (context : ℕ) (outcome : Outcome) (s : State) (cells : List (Cell D)) (address : Known D) (at : Address) (extension : Extension) (size : Size) (a : AbsVal D)
+        → AreCells ⟦<D as Domain>⟧ cells s.stack → IsAt ⟦<D as Domain>⟧ address at → load_at ⟦<D as Domain>⟧ context cells address extension size ≡ Ok a
+        → Gives ⟦<D as Domain>⟧ a (loaded_from context outcome s at extension size) }
+{}
+
+/// A store that isn't refused doesn't trap, and the stack that it leaves is as known (section 5).
+pub fn stores_follow<D: Domain>()
+    ensures { (context : ℕ) (stack : List Byte) (cells after : List (Cell D)) (address : Known D) (at : Address) (v : AbsVal D) (size : Size) (x : Value)
+        → AreCells ⟦<D as Domain>⟧ cells stack → IsAt ⟦<D as Domain>⟧ address at → IsAs ⟦<D as Domain>⟧ v x → store_at cells address v size ≡ Ok after
+        → Stores ⟦<D as Domain>⟧ after context stack at size x }
+{}
+
+/// Bytes that are known to hold numbers do, and once bytes are written the stack is as known.
+pub fn stretches_follow<D: Domain>()
+    ensures read { (cells : List (Cell D)) (stack : List Byte) (place count : ℕ) → AreCells ⟦<D as Domain>⟧ cells stack → place + count ≤ 512 → stretch_is_set cells place count ≡ true
+        → (bytes : List ℕ) × (cell_bytes (take count (drop place stack)) ≡ Some bytes) × AreBytes bytes }
+    ensures written { (cells : List (Cell D)) (stack : List Byte) (place : ℕ) (bytes : List ℕ) → AreCells ⟦<D as Domain>⟧ cells stack → place + length bytes ≤ 512 → AreBytes bytes
+        → AreCells ⟦<D as Domain>⟧ (stretch_written cells place (length bytes)) (overwritten stack place (map byte.Byte bytes)) }
+{}

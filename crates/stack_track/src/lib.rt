@@ -1,0 +1,15 @@
+//! What an analysis knows of the stack, over any domain: 64 cells of eight bytes, and what loads and stores
+//! make of them.
+#![tactic(auto)]
+
+mod accesses;
+mod cell;
+pub mod laws;
+mod masks;
+mod stack;
+mod stretches;
+#[cfg(test)]
+mod tests;
+
+pub use cell::Cell;
+pub use stack::StackState;

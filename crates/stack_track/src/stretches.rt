@@ -1,0 +1,54 @@
+//! Stretches of single bytes, which helper functions read and write.
+ghost use Rattle.std.specs.Prelude.{◌≡◌, ◌+◌, ◌/◌, ◌<◌, ◌≤◌, slice_set};
+ghost use Rattle.stack_track.specs.Cells.{cell_in, mask_of, are_set};
+ghost use Rattle.stack_track.specs.Accesses.{with_numbers, stretch_is_set, stretch_written};
+
+use crate::stack::StackState;
+use abs_domain::Domain;
+use bpf_profile::Size;
+
+impl<D: Domain> StackState<D> {
+    /// Whether each of so many bytes, from the place with so many bytes of the stack before it on, is
+    /// known to hold a number.
+    pub fn stretch_is_set(&self, place: u64, count: u64) -> bool
+        requires { place + count ≤ 512 }
+        ensures { result ≡ stretch_is_set self.now place count }
+    {
+        for i in 0..count {
+            if !self.byte_is_set((place + i) as usize) {
+                return false;
+            }
+        }
+        true
+    }
+
+    /// The same once numbers were written to so many bytes, from the place with so many bytes of the
+    /// stack before it on.
+    pub fn stretch_written(self, place: u64, count: u64) -> Self
+        requires { place + count ≤ 512 }
+        ensures { result ≡ stretch_written self place count }
+    {
+        let mut state = self;
+        for i in 0..count {
+            state = state.with_byte((place + i) as usize);
+        }
+        state
+    }
+
+    /// Whether the byte at a place is known to hold a number.
+    fn byte_is_set(&self, place: usize) -> bool
+        requires { place < 512 }
+        ensures { result ≡ are_set (mask_of (cell_in self.now (place / 8))) place 1 }
+    {
+        self.cell(place / 8).is_set(place, Size::Byte)
+    }
+
+    /// The same once a number was written to the byte at a place.
+    fn with_byte(self, place: usize) -> Self
+        requires { place < 512 }
+        ensures { result ≡ slice_set self (place / 8) (with_numbers (cell_in self (place / 8)) place 1) }
+    {
+        let cell = self.cell(place / 8).with_numbers(place, Size::Byte);
+        self.with(place / 8, cell)
+    }
+}

@@ -1,0 +1,20 @@
+-- What the pass over the slots keeps: the states so far, into which each slot sends.
+use Rattle.std.specs.Prelude.{ℕ, List, [], ◌∷◌, replicate, slice_set, slice_index_or, Option, Some, None}
+use Rattle.abs_domain.specs.declared.domain.Domain.{Ghosts}
+use Rattle.abs_states.specs.declared.state.AbsState.{AbsState}
+use Rattle.abs_states.specs.States.{entry_state}
+use Rattle.verifier.specs.Analysis.{Message, joined_into}
+
+abbrev pub state_of : {X : Type 0} → List (Option (AbsState X)) → ℕ → Option (AbsState X)
+state_of states place = slice_index_or states place None
+
+-- before the first slot
+abbrev pub entry_states : {X : Type 0} → Ghosts X → ℕ → List (Option (AbsState X))
+entry_states domain count = slice_set (replicate count None) 0 (Some (entry_state domain))
+
+abbrev pub delivered : {X : Type 0} → Ghosts X → List (Option (AbsState X)) → Message X → List (Option (AbsState X))
+delivered domain states message = slice_set states message.to (Some (joined_into domain (state_of states message.to) message.state))
+
+abbrev pub delivered_all : {X : Type 0} → Ghosts X → List (Option (AbsState X)) → List (Message X) → List (Option (AbsState X))
+delivered_all domain states [] = states
+delivered_all domain states (message ∷ more) = delivered_all domain (delivered domain states message) more
