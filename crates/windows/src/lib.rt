@@ -1,0 +1,15 @@
+//! Sliding windows over the notes that a circuit breaker makes of calls (CircuitBreaker in the Resilience4j
+//! documentation: count-based and time-based sliding window).
+#![tactic(auto)]
+
+mod count;
+mod notes;
+#[cfg(test)]
+mod tests;
+mod time;
+mod window;
+
+pub use count::CountWindow;
+pub use notes::{Note, Totals};
+pub use time::TimeWindow;
+pub use window::Window;
