@@ -20,15 +20,19 @@ named (releases ticket) = (codes "ticket", count ticket) ∷ []
 named (moves state) = (codes "to", string (state_name state)) ∷ []
 named other = []
 
-abbrev pub entry_data : Line → Data
-entry_data line = object_of (
-    (codes "event", string (event_name line.event))
+-- an entry of an event with this name, which names this beside it
+abbrev pub entry_object : List ℕ → List Field → Line → Data
+entry_object name more line = object_of (
+    (codes "event", string name)
     ∷ (codes "moment", count line.moment)
     ∷ (codes "number", count line.number)
     ∷ (codes "reply", reply_data line.reply)
     ∷ (codes "seat", count line.seat)
-    ∷ named line.event
+    ∷ more
     )
+
+abbrev pub entry_data : Line → Data
+entry_data line = entry_object (event_name line.event) (named line.event) line
 
 abbrev pub entry_text : Line → List ℕ
 entry_text line = compact_text (entry_data line)

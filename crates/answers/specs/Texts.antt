@@ -6,6 +6,7 @@ use Rattle.bpf_profile.specs.declared.machine.Verdict.{Verdict}
 use Rattle.bpf_profile.specs.declared.machine.Verdict.TheVariants as verdict
 use Rattle.refusals.specs.declared.RefusalNumber.{RefusalNumber}
 use Rattle.refusals.specs.Table.{number_of, name_of, status_of}
+use Rattle.verifier.specs.declared.refusal.Refusal.{Refusal}
 use Rattle.book.specs.declared.readings.Reading.{Reading}
 use Rattle.book.specs.declared.replies.Fate.{Fate}
 use Rattle.book.specs.declared.replies.Fate.TheVariants as fate
@@ -64,6 +65,18 @@ object_of fields = object (members_of fields)
 abbrev pub refusal_data : RefusalNumber → Data
 refusal_data refused = object_of ((codes "error", count (number_of refused)) ∷ (codes "name", string (name_of refused)) ∷ [])
 
+-- a program's refusal names the slot of its fault
+abbrev pub program_refusal_data : Refusal → Data
+program_refusal_data refused = object_of (
+    (codes "error", count (number_of refused.number))
+    ∷ (codes "name", string (name_of refused.number))
+    ∷ (codes "slot", count refused.slot)
+    ∷ []
+    )
+
+abbrev pub handed_out_data : ℕ → Data
+handed_out_data entries = object_of ((codes "entries", count entries) ∷ [])
+
 abbrev pub reply_data : Reply → Data
 reply_data (reply.Refused refused) = refusal_data refused
 reply_data (reply.Permitted ticket version state) =
@@ -101,6 +114,8 @@ reading_data reading = object_of (
 abbrev pub answer_data : Answer → Data
 answer_data (answer.Reply reply) = reply_data reply
 answer_data (answer.Reading reading) = reading_data reading
+answer_data (answer.HandedOut entries) = handed_out_data entries
+answer_data (answer.ProgramRefused refused) = program_refusal_data refused
 
 -- the body of an answer
 abbrev pub body : Answer → List ℕ
@@ -119,3 +134,5 @@ reply_status other = 200
 abbrev pub status : Answer → ℕ
 status (answer.Reply reply) = reply_status reply
 status (answer.Reading reading) = 200
+status (answer.HandedOut entries) = 200
+status (answer.ProgramRefused refused) = refusal_status refused.number

@@ -8,6 +8,7 @@ use book::{Reading, Reply};
 use refusals::RefusalNumber;
 use serde_json::Value;
 use std::alloc::{AllocError, Global};
+use verifier::Refusal;
 
 /// What a service is answered with.
 #[derive(Clone, Copy, Debug, PartialEq, Eq)]
@@ -16,6 +17,10 @@ pub enum Answer {
     Reply(Reply),
     /// How the service stands.
     Reading(Reading),
+    /// How many entries a cut handed out.
+    HandedOut(u64),
+    /// Why a program is not installed.
+    ProgramRefused(Refusal),
 }
 
 /// The status of a refusal; 500 where HTTP never answers it.
@@ -41,7 +46,8 @@ impl Answer {
     {
         match self {
             Answer::Reply(reply) => reply_status(reply),
-            Answer::Reading(_) => 200,
+            Answer::Reading(_) | Answer::HandedOut(_) => 200,
+            Answer::ProgramRefused(refusal) => refusal_status(refusal.number),
         }
     }
 
@@ -51,6 +57,8 @@ impl Answer {
         match self {
             Answer::Reply(reply) => values::reply(alloc, *reply),
             Answer::Reading(reading) => values::reading(alloc, reading),
+            Answer::HandedOut(count) => values::handed_out(alloc, *count),
+            Answer::ProgramRefused(refusal) => values::program_refusal(alloc, *refusal),
         }
     }
 

@@ -5,8 +5,9 @@ use bpf_profile::Verdict;
 use bpf_run::judge;
 use helpers::Record;
 use refusals::RefusalNumber;
+use std::sync::Arc;
 use std::test::Fail;
-use verifier::default_classifier;
+use verifier::{Refusal, default_classifier};
 
 #[test]
 fn replies_are_written(rt: HostRuntime) -> Result<(), Fail> {
@@ -108,6 +109,34 @@ fn replies_are_written(rt: HostRuntime) -> Result<(), Fail> {
 }
 
 #[test]
+fn cuts_and_refused_programs_are_written(rt: HostRuntime) -> Result<(), Fail> {
+    for (answer, status, body) in [
+        (Answer::HandedOut(0), 200, "{\"entries\":0}"),
+        (Answer::HandedOut(65_536), 200, "{\"entries\":65536}"),
+        (
+            Answer::ProgramRefused(Refusal {
+                slot: 1,
+                number: RefusalNumber::AnswerRange,
+            }),
+            422,
+            "{\"error\":22,\"name\":\"AnswerRange\",\"slot\":1}",
+        ),
+        (
+            Answer::ProgramRefused(Refusal {
+                slot: 0,
+                number: RefusalNumber::ProgramOutOfMemory,
+            }),
+            503,
+            "{\"error\":23,\"name\":\"OutOfMemory\",\"slot\":0}",
+        ),
+    ] {
+        assert_eq!(rt; answer.status(), status);
+        assert_eq!(rt; answer.body(rt.alloc())?.as_str(), body);
+    }
+    Ok(())
+}
+
+#[test]
 fn readings_are_written(rt: HostRuntime) -> Result<(), Fail> {
     let reading = Reading {
         state: State::Closed,
@@ -143,9 +172,20 @@ fn entries_are_written(rt: HostRuntime) -> Result<(), Fail> {
     let program = book.look(1).expect(&rt, "an open ticket");
     let outcome = Record::from_parts([0; 128], [0; 16], &[]).expect(&rt, "an empty tag");
     book.apply(2, 900, Event::Finish(judge(program, outcome), 1));
+    let another = default_classifier(alloc).expect(&rt, "the default classifier");
+    book.apply(2, 0, Event::Install(Arc::new(alloc, another)?));
+    book.apply(2, 0, Event::Acquire);
+    book.apply(2, 0, Event::Release(2));
+    book.apply(2, 0, Event::Move(State::ForcedOpen));
+    book.apply(2, 1001, Event::Reset);
     let rows = [
         "{\"event\":\"acquire\",\"moment\":1000,\"number\":1,\"reply\":{\"state\":\"CLOSED\",\"ticket\":1,\"version\":1},\"seat\":1}",
         "{\"event\":\"report\",\"moment\":1000,\"number\":2,\"reply\":{\"fate\":\"recorded\",\"state\":\"CLOSED\",\"steps\":6,\"verdict\":\"success\",\"version\":1},\"seat\":2,\"ticket\":1}",
+        "{\"event\":\"install\",\"moment\":1000,\"number\":3,\"reply\":{\"budget\":6,\"version\":2},\"seat\":2}",
+        "{\"event\":\"acquire\",\"moment\":1000,\"number\":4,\"reply\":{\"state\":\"CLOSED\",\"ticket\":2,\"version\":2},\"seat\":2}",
+        "{\"event\":\"release\",\"moment\":1000,\"number\":5,\"reply\":{\"fate\":\"released\",\"state\":\"CLOSED\"},\"seat\":2,\"ticket\":2}",
+        "{\"event\":\"transition\",\"moment\":1000,\"number\":6,\"reply\":{\"period\":2,\"state\":\"FORCED_OPEN\"},\"seat\":2,\"to\":\"FORCED_OPEN\"}",
+        "{\"event\":\"reset\",\"moment\":1001,\"number\":7,\"reply\":{\"period\":3,\"state\":\"CLOSED\"},\"seat\":2}",
     ];
     let entries = book.entries(1);
     assert_eq!(rt; entries.len(), rows.len());

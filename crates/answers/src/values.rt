@@ -1,13 +1,14 @@
 //! Answers as JSON values. Every error is want of memory.
 ghost use Rattle.std.specs.Prelude.{◌≡◌, IfOk};
 ghost use Rattle.serde_json.specs.View.{view};
-ghost use Rattle.answers.specs.Texts.{rate, refusal_data, reply_data, reading_data};
+ghost use Rattle.answers.specs.Texts.{rate, refusal_data, program_refusal_data, handed_out_data, reply_data, reading_data};
 
 use crate::names::{fate_name, state_name, verdict_name};
 use book::{Reading, Reply};
 use refusals::RefusalNumber;
 use serde_json::{Value, json};
 use std::alloc::{AllocError, Global};
+use verifier::Refusal;
 
 fn rate(percent: Option<u64>) -> Value
     ensures { view result ≡ rate percent }
@@ -24,6 +25,21 @@ fn refusal(alloc: Global, number: RefusalNumber) -> Result<Value, AllocError>
     let name = number.name();
     let number = number.number();
     json!(in alloc; {"error": number, "name": name})
+}
+
+pub(crate) fn program_refusal(alloc: Global, refusal: Refusal) -> Result<Value, AllocError>
+    ensures { IfOk result (λ value. view value ≡ program_refusal_data refusal) }
+{
+    let name = refusal.number.name();
+    let number = refusal.number.number();
+    let slot = refusal.slot;
+    json!(in alloc; {"error": number, "name": name, "slot": slot})
+}
+
+pub(crate) fn handed_out(alloc: Global, count: u64) -> Result<Value, AllocError>
+    ensures { IfOk result (λ value. view value ≡ handed_out_data count) }
+{
+    json!(in alloc; {"entries": count})
 }
 
 pub(crate) fn reply(alloc: Global, reply: Reply) -> Result<Value, AllocError>

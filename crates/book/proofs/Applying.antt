@@ -1,24 +1,20 @@
 -- A book with one line more.
-use Rattle.std.proofs.Common.{◌≡◌, ℕ, suc, ◌+◌, ◌^◌, ◌≤◌, ◌<◌, ◌==◌, ◌&&◌, max, Bool, true, false, if◌then◌else◌, List, [], ◌∷◌, ◌++◌, map, length, Option, Some, None, option_to_list, arith, refl, ap, sym, ◌∙◌, subst, length-append, append-nil}
+use Rattle.std.proofs.Common.{◌≡◌, ℕ, suc, ◌+◌, ◌^◌, ◌≤◌, ◌<◌, ◌==◌, ◌&&◌, max, Bool, true, false, if◌then◌else◌, List, [], ◌∷◌, ◌++◌, map, length, Option, Some, None, option_to_list, arith, refl, ap, sym, ◌∙◌, subst, length-append}
 use Rattle.std.proofs.lemmas.List.{length-map}
 use Rattle.std.specs.Arc.{arc_value}
 use Rattle.std.specs.List.{filter_map, cons_option, fold}
 use Rattle.std.proofs.Math.Nat.{le-max_right, max-le}
-use Rattle.bpf_run.specs.JudgedWork.{Work}
-use Rattle.verifier.specs.Programs.{VerifiedProgram}
 use Rattle.std.proofs.lemmas.List.Sums.{fold-append}
 use Rattle.book.specs.declared.books.Start.{Start}
 use Rattle.book.specs.declared.breaker.Breaker.{Breaker}
 use Rattle.book.specs.declared.breaker.Standing.{Standing}
 use Rattle.book.specs.declared.configuration.ConfigParts.{ConfigParts}
 use Rattle.book.specs.declared.events.Event.{Event}
-use Rattle.book.specs.declared.events.Event.TheVariants as event
 use Rattle.book.specs.declared.machine.Decision.{Decision}
 use Rattle.book.specs.declared.registry.Registry.{Registry}
-use Rattle.book.specs.declared.replies.Reply.{Reply}
 use Rattle.book.specs.Answers.{answer, line_of, with_line, IsApplied, as_documented}
 use Rattle.book.specs.Books.{opening_of, history_of, IsBook}
-use Rattle.book.specs.Events.{acquires, finishes, installs, Line, Opening}
+use Rattle.book.specs.Events.{Line, Opening}
 use Rattle.book.specs.Following.{notes_after, tickets_after, one_where_some, is_refused_call, refused_after}
 use Rattle.book.specs.Histories.{Stage, Past, note_by, note_at, taken_in, notes_of, end_by, issue_by, install_by, situation_of, situation_after, machine, opened, passed, past_of, greatest, raised, next_line, refused_of, Follows, AreLegal, IsLegal}
 use Rattle.book.specs.Machine.{Situation, decision, is_entered}
@@ -90,35 +86,19 @@ roomy config start breaker registry held refused moment lines book =
 
 -- ---- what a line changes in the parts
 
-never_installs : (e : Event) (r : Reply) → install_by (seen e) r ≡ None
-never_installs event.Acquire r = refl
-never_installs (event.Finish work ticket) r = refl
-
 pub situation_by : (config : ConfigParts) (breaker after : Breaker) (registry later : Registry) (held more number seat moment : ℕ) (e : Event) (d : Decision)
     → after.standing ≡ d.next
     → after.notes.items ≡ notes_after breaker.standing d.next breaker.notes.items (note_by config moment (seen e) d.reply)
     → later.first_version ≡ registry.first_version
-    → map arc_value later.programs.items ≡ map arc_value registry.programs.items
+    → map arc_value later.programs.items ≡ map arc_value registry.programs.items ++ option_to_list (install_by (seen e) d.reply)
     → later.open_tickets.items ≡ tickets_after registry.open_tickets.items (end_by (seen e) d.reply) (issue_by d.reply d.next.period)
     → later.next_ticket ≡ registry.next_ticket + one_where_some (issue_by d.reply d.next.period)
     → more ≡ held + 1
     → situation config after later more ≡ situation_after (situation config breaker registry held) (line number seat (seen e) moment d.reply) d.next
 situation_by config breaker after registry later held more number seat moment e d standing notes first programs tickets next count =
-    let installed : map arc_value registry.programs.items ++ option_to_list (install_by (seen e) d.reply) ≡ map arc_value registry.programs.items =
-    ap (λ (o : Option _). map arc_value registry.programs.items ++ option_to_list o) (never_installs e d.reply) ∙ append-nil (map arc_value registry.programs.items) in
     cc
 
 -- ---- the book after a line
-
-acquires_nothing : (program : VerifiedProgram) → acquires ≡ installs program → ⊥
-acquires_nothing program h = cc
-
-finishes_nothing : (work : Work) (ticket : ℕ) (program : VerifiedProgram) → finishes work ticket ≡ installs program → ⊥
-finishes_nothing work ticket program h = cc
-
-never_unsafe : (e : Event) → InstallsAccepted (seen e)
-never_unsafe event.Acquire = λ program h. absurd (acquires_nothing program h)
-never_unsafe (event.Finish work ticket) = λ program h. absurd (finishes_nothing work ticket program h)
 
 -- the line that the code writes is the one that follows
 pub follows_there : (opening : Opening) (s : Situation) (refused moment : ℕ) (lines : List Line) (number seat raw now : ℕ) (e : Event) (d : Decision)
@@ -135,9 +115,9 @@ follows_there opening s refused moment lines number seat raw now e d book number
 
 pub book_step : (opening : Opening) (s t : Situation) (refused moment later : ℕ) (lines : List Line) (number seat raw now : ℕ) (e : Event) (d : Decision)
     → IsBook opening s refused moment lines → number ≡ opening.line + length lines → now ≡ max raw moment → d ≡ decision s now (seen e) → is_entered d.reply ≡ true → now < 2 ^ 64
-    → t ≡ situation_after s (line number seat (seen e) now d.reply) d.next → later ≡ refused_after s.standing d.next refused d.reply
+    → InstallsAccepted (seen e) → t ≡ situation_after s (line number seat (seen e) now d.reply) d.next → later ≡ refused_after s.standing d.next refused d.reply
     → IsBook opening t later now (lines ++ line number seat (seen e) now d.reply ∷ [])
-book_step opening s t refused moment later lines number seat raw now e d book numbered raised_ decided entered word situated_ refused_ =
+book_step opening s t refused moment later lines number seat raw now e d book numbered raised_ decided entered word safe situated_ refused_ =
     let past : Past = past_of (history_of opening lines) in
     let l : Line = line number seat (seen e) now d.reply in
     let follows = follows_there opening s refused moment lines number seat raw now e d book numbered raised_ decided entered in
@@ -148,7 +128,7 @@ book_step opening s t refused moment later lines number seat raw now e d book nu
     let stage : Stage = record { line = l; before = past.standing; after = (machine past now (seen e)).next } in
     record {
       legal = legal_step opening lines l book.legal follows;
-      sound = subst (λ (p : Past). IsSound p) (sym with_) (sound_step past l book.sound follows (never_unsafe e) word);
+      sound = subst (λ (p : Past). IsSound p) (sym with_) (sound_step past l book.sound follows safe word);
       situated = situated_ ∙ ap (λ (u : Situation). situation_after u l d.next) book.situated ∙ ap (λ (n : Standing). situation_after (situation_of past) l n) next ∙ sym (situated_step past l book.sound follows) ∙ ap situation_of (sym with_);
       refused_calls = refused_ ∙ ap (λ (u : Situation). refused_after u.standing d.next refused d.reply) book.situated ∙ ap (λ (n : Standing). refused_after past.standing n refused d.reply) next ∙ ap (λ (n : ℕ). refused_after past.standing (machine past now (seen e)).next n d.reply) book.refused_calls ∙ sym (refused_step past.stages stage book.sound.periods near.least) ∙ ap refused_of (sym with_);
       greatest_moment = sym (greatest_step past.opening.moment past.stages stage follows.raises) ∙ ap greatest (sym with_);

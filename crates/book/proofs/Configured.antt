@@ -1,8 +1,10 @@
 -- What the ranges of a configuration say.
-use Rattle.std.proofs.Common.{◌≡◌, ℕ, ◌≤◌, ◌==◌, nat_le, nat_lt, ◌&&◌, ◌^◌, Bool, true, false, if◌then◌else◌, Option, Some, None, refl, ap}
+use Rattle.std.proofs.Common.{◌≡◌, ℕ, ◌≤◌, ◌==◌, nat_le, nat_lt, ◌&&◌, ◌^◌, Bool, true, false, if◌then◌else◌, Option, Some, None, arith, refl, ap}
 use Rattle.book.specs.declared.configuration.ConfigField.{ConfigField}
 use Rattle.book.specs.declared.configuration.ConfigParts.{ConfigParts}
-use Rattle.book.specs.Configuration.{checked, bad_field, bad_limit, is_within, is_count_based}
+use Rattle.book.specs.declared.configuration.SlidingWindowType.{SlidingWindowType}
+use Rattle.book.specs.declared.configuration.SlidingWindowType.TheVariants as window
+use Rattle.book.specs.Configuration.{checked, bad_field, bad_limit, is_within, most_size}
 use Rattle.std.proofs.lemmas.Bool.{leb-true}
 use Rattle.std.proofs.lemmas.Bool.Decides.{Decides-eqb}
 use Rattle.book.specs.declared.configuration.ConfigField.TheVariants as field
@@ -17,19 +19,17 @@ good_field false field later e = let bad : ◌≡◌ {A = Option ConfigField} (S
 pub record Ranges (parts : ConfigParts) : Type 0 where
   pub permitted : is_within 1 10000 parts.permitted_number_of_calls_in_half_open_state ≡ true
   pub stay : (parts.max_wait_duration_in_half_open_state == 0) ≡ true
-  pub window : is_count_based parts.sliding_window_type ≡ true
-  pub size : is_within 1 10000 parts.sliding_window_size ≡ true
+  pub size : is_within 1 (most_size parts.sliding_window_type) parts.sliding_window_size ≡ true
 
 pub ranges : (parts : ConfigParts) → bad_field parts ≡ None → Ranges parts
 ranges parts e =
-    let a = good_field (is_within 1 100 parts.failure_rate_threshold) field.FailureRateThreshold (checked (is_within 1 100 parts.slow_call_rate_threshold) field.SlowCallRateThreshold (checked (is_within 1 (2 ^ 32) parts.slow_call_duration_threshold) field.SlowCallDurationThreshold (checked (is_within 1 10000 parts.permitted_number_of_calls_in_half_open_state) field.PermittedNumberOfCallsInHalfOpenState (checked (parts.max_wait_duration_in_half_open_state == 0) field.MaxWaitDurationInHalfOpenState (checked (is_count_based parts.sliding_window_type) field.SlidingWindowType (bad_limit parts)))))) e in
-    let b = good_field (is_within 1 100 parts.slow_call_rate_threshold) field.SlowCallRateThreshold (checked (is_within 1 (2 ^ 32) parts.slow_call_duration_threshold) field.SlowCallDurationThreshold (checked (is_within 1 10000 parts.permitted_number_of_calls_in_half_open_state) field.PermittedNumberOfCallsInHalfOpenState (checked (parts.max_wait_duration_in_half_open_state == 0) field.MaxWaitDurationInHalfOpenState (checked (is_count_based parts.sliding_window_type) field.SlidingWindowType (bad_limit parts))))) a.1 in
-    let c = good_field (is_within 1 (2 ^ 32) parts.slow_call_duration_threshold) field.SlowCallDurationThreshold (checked (is_within 1 10000 parts.permitted_number_of_calls_in_half_open_state) field.PermittedNumberOfCallsInHalfOpenState (checked (parts.max_wait_duration_in_half_open_state == 0) field.MaxWaitDurationInHalfOpenState (checked (is_count_based parts.sliding_window_type) field.SlidingWindowType (bad_limit parts)))) b.1 in
-    let d = good_field (is_within 1 10000 parts.permitted_number_of_calls_in_half_open_state) field.PermittedNumberOfCallsInHalfOpenState (checked (parts.max_wait_duration_in_half_open_state == 0) field.MaxWaitDurationInHalfOpenState (checked (is_count_based parts.sliding_window_type) field.SlidingWindowType (bad_limit parts))) c.1 in
-    let f = good_field (parts.max_wait_duration_in_half_open_state == 0) field.MaxWaitDurationInHalfOpenState (checked (is_count_based parts.sliding_window_type) field.SlidingWindowType (bad_limit parts)) d.1 in
-    let g = good_field (is_count_based parts.sliding_window_type) field.SlidingWindowType (bad_limit parts) f.1 in
-    let h = good_field (is_within 1 10000 parts.sliding_window_size) field.SlidingWindowSize (checked (is_within 1 1000000 parts.minimum_number_of_calls) field.MinimumNumberOfCalls (checked (is_within 1 (2 ^ 40) parts.wait_duration_in_open_state) field.WaitDurationInOpenState (checked (is_within 1 10000 parts.max_concurrent_calls) field.MaxConcurrentCalls (checked (parts.max_wait_duration == 0) field.MaxWaitDuration None)))) g.1 in
-    record { permitted = d.0; stay = f.0; window = g.0; size = h.0 }
+    let a = good_field (is_within 1 100 parts.failure_rate_threshold) field.FailureRateThreshold (checked (is_within 1 100 parts.slow_call_rate_threshold) field.SlowCallRateThreshold (checked (is_within 1 (2 ^ 32) parts.slow_call_duration_threshold) field.SlowCallDurationThreshold (checked (is_within 1 10000 parts.permitted_number_of_calls_in_half_open_state) field.PermittedNumberOfCallsInHalfOpenState (checked (parts.max_wait_duration_in_half_open_state == 0) field.MaxWaitDurationInHalfOpenState (bad_limit parts))))) e in
+    let b = good_field (is_within 1 100 parts.slow_call_rate_threshold) field.SlowCallRateThreshold (checked (is_within 1 (2 ^ 32) parts.slow_call_duration_threshold) field.SlowCallDurationThreshold (checked (is_within 1 10000 parts.permitted_number_of_calls_in_half_open_state) field.PermittedNumberOfCallsInHalfOpenState (checked (parts.max_wait_duration_in_half_open_state == 0) field.MaxWaitDurationInHalfOpenState (bad_limit parts)))) a.1 in
+    let c = good_field (is_within 1 (2 ^ 32) parts.slow_call_duration_threshold) field.SlowCallDurationThreshold (checked (is_within 1 10000 parts.permitted_number_of_calls_in_half_open_state) field.PermittedNumberOfCallsInHalfOpenState (checked (parts.max_wait_duration_in_half_open_state == 0) field.MaxWaitDurationInHalfOpenState (bad_limit parts))) b.1 in
+    let d = good_field (is_within 1 10000 parts.permitted_number_of_calls_in_half_open_state) field.PermittedNumberOfCallsInHalfOpenState (checked (parts.max_wait_duration_in_half_open_state == 0) field.MaxWaitDurationInHalfOpenState (bad_limit parts)) c.1 in
+    let f = good_field (parts.max_wait_duration_in_half_open_state == 0) field.MaxWaitDurationInHalfOpenState (bad_limit parts) d.1 in
+    let h = good_field (is_within 1 (most_size parts.sliding_window_type) parts.sliding_window_size) field.SlidingWindowSize (checked (is_within 1 1000000 parts.minimum_number_of_calls) field.MinimumNumberOfCalls (checked (is_within 1 (2 ^ 40) parts.wait_duration_in_open_state) field.WaitDurationInOpenState (checked (is_within 1 10000 parts.max_concurrent_calls) field.MaxConcurrentCalls (checked (parts.max_wait_duration == 0) field.MaxWaitDuration None)))) f.1 in
+    record { permitted = d.0; stay = f.0; size = h.0 }
 
 zero_stay : (stay : ℕ) (rest : Bool) → stay ≡ 0 → (nat_lt 0 stay && rest) ≡ false
 zero_stay stay rest e = rw e refl
@@ -46,3 +46,21 @@ and_left false b e = e
 
 pub within_least : (least most number : ℕ) → is_within least most number ≡ true → least ≤ number
 within_least least most number e = leb-true least number (and_left (nat_le least number) (nat_le number most) e)
+
+and_right : (a b : Bool) → (a && b) ≡ true → b ≡ true
+and_right true b e = e
+and_right false b e = let bad : ◌≡◌ {A = Bool} false true = e in cc
+
+within_most : (least most number : ℕ) → is_within least most number ≡ true → number ≤ most
+within_most least most number e = leb-true number most (and_right (nat_le least number) (nat_le number most) e)
+
+small_size : (window : SlidingWindowType) → most_size window ≤ 10000
+small_size window.CountBased = omega arith
+small_size window.TimeBased = omega arith
+
+-- the size of a window
+pub size_least : (parts : ConfigParts) → bad_field parts ≡ None → 1 ≤ parts.sliding_window_size
+size_least parts e = within_least 1 (most_size parts.sliding_window_type) parts.sliding_window_size (ranges parts e).size
+
+pub size_most : (parts : ConfigParts) → bad_field parts ≡ None → parts.sliding_window_size ≤ 10000
+size_most parts e = omega (arith, within_most 1 (most_size parts.sliding_window_type) parts.sliding_window_size (ranges parts e).size, small_size parts.sliding_window_type)

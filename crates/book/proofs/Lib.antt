@@ -9,5 +9,6 @@ pub mod Keeping
 pub mod Applying
 pub mod Openings
 pub mod Worlds
+pub mod Cuts
 pub mod Lawful
 pub mod Seats

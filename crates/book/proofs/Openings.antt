@@ -10,7 +10,8 @@ use Rattle.book.specs.declared.configuration.ConfigParts.{ConfigParts}
 use Rattle.book.specs.declared.registry.Registry.{Registry}
 use Rattle.book.specs.declared.states.State.TheVariants as state
 use Rattle.book.specs.Answers.{IsLooked, looks, no_owner, looked, looked_under}
-use Rattle.book.specs.Books.{history_of, first_opening, IsBook}
+use Rattle.book.specs.Books.{opening_of, history_of, first_opening, IsBook}
+use Rattle.book.specs.declared.books.Start.{Start}
 use Rattle.book.specs.Configuration.{bad_field}
 use Rattle.book.specs.Events.{Line, Opening}
 use Rattle.book.specs.Histories.{opened, past_of, situation_of, next_line, IsLegal}
@@ -64,11 +65,13 @@ first_book opening s refused good situated_ none = record {
   greatest_moment = refl;
 }
 
-pub first_situation : (config : ConfigParts) (breaker : Breaker) (registry : Registry) (program : VerifiedProgram)
-    → breaker.standing ≡ record { state = state.Closed; period = 1; since = 0 } → breaker.notes.items ≡ []
-    → registry.first_version ≡ 1 → map arc_value registry.programs.items ≡ program ∷ [] → registry.open_tickets.items ≡ [] → registry.next_ticket ≡ 1
-    → situation config breaker registry 0 ≡ situation_of (opened (first_opening config program))
-first_situation config breaker registry program standing notes first programs tickets next = rw (standing, notes, first, programs, tickets, next) refl
+pub begun_situation : (config : ConfigParts) (start : Start) (breaker : Breaker) (registry : Registry)
+    → breaker.standing ≡ record { state = state.Closed; period = start.period; since = start.moment } → breaker.notes.items ≡ []
+    → registry.first_version ≡ start.version → map arc_value registry.programs.items ≡ arc_value start.program ∷ [] → registry.open_tickets.items ≡ [] → registry.next_ticket ≡ start.ticket
+    → situation config breaker registry 0 ≡ situation_of (opened (opening_of config start))
+begun_situation config start breaker registry standing notes first programs tickets next =
+    let ticket : registry.next_ticket ≡ start.ticket + 0 = omega (arith, next) in
+    rw (standing, notes, first, programs, tickets, ticket) refl
 
 -- ---- what a book shows
 

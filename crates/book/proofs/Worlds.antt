@@ -175,7 +175,7 @@ none_of : (a b : Bool) → (a || b) ≡ false → (a ≡ false) × (b ≡ false)
 none_of true b e = let bad : ◌≡◌ {A = Bool} true false = e in cc
 none_of false b e = (refl, e)
 
-reopened_opening : (past : Past) → IsSound past → is_worn_out past ≡ false → IsOpening (reopened past)
+pub reopened_opening : (past : Past) → IsSound past → is_worn_out past ≡ false → IsOpening (reopened past)
 reopened_opening past sound e =
     let a = none_of (is_past_the_limit (next_line past)) _ e in
     let b = none_of (is_past_the_limit (situation_of past).next_ticket) _ a.1 in

@@ -146,3 +146,18 @@ cut past =
     if is_worn_out past then Err refusal.JournalFull
     else (if is_some_open (situation_of past).open_tickets then Err refusal.TicketsOpen
     else Ok (reopened past))
+
+-- what is handed out: all lines, or why not
+abbrev pub handed_out : History → Result Opening RefusalNumber → Result (List Line) RefusalNumber
+handed_out history (Ok opening) = Ok history.lines
+handed_out history (Err number) = Err number
+
+-- the history after a cut: the opening and no line, or the history as it was
+abbrev pub after_cut : History → Result Opening RefusalNumber → History
+after_cut history (Ok opening) = record { opening = opening; lines = [] }
+after_cut history (Err number) = history
+
+-- the documented cut; or no memory for the new opening, and nothing changed
+pub data IsCut (history : History) (result : Result (List Line) RefusalNumber) (after : History) : Type 0 where
+  cuts : result ≡ handed_out history (cut (past_of history)) → after ≡ after_cut history (cut (past_of history)) → IsCut history result after
+  no_room : (opening : Opening) → cut (past_of history) ≡ Ok opening → result ≡ Err refusal.ServiceOutOfMemory → after ≡ history → IsCut history result after

@@ -15,19 +15,24 @@ abbrev pub is_count_based : SlidingWindowType → Bool
 is_count_based window.CountBased = true
 is_count_based window.TimeBased = false
 
+-- the greatest size of a window, in calls or in seconds
+abbrev pub most_size : SlidingWindowType → ℕ
+most_size window.CountBased = 10000
+most_size window.TimeBased = 3600
+
 -- the field where its value is out of range, else a later field that is
 abbrev pub checked : Bool → ConfigField → Option ConfigField → Option ConfigField
 checked good field later = if good then later else Some field
 
 abbrev pub bad_limit : ConfigParts → Option ConfigField
 bad_limit parts =
-    checked (is_within 1 10000 parts.sliding_window_size) field.SlidingWindowSize
+    checked (is_within 1 (most_size parts.sliding_window_type) parts.sliding_window_size) field.SlidingWindowSize
     (checked (is_within 1 1000000 parts.minimum_number_of_calls) field.MinimumNumberOfCalls
     (checked (is_within 1 (2 ^ 40) parts.wait_duration_in_open_state) field.WaitDurationInOpenState
     (checked (is_within 1 10000 parts.max_concurrent_calls) field.MaxConcurrentCalls
     (checked (parts.max_wait_duration == 0) field.MaxWaitDuration None))))
 
--- the first field whose value is out of range; time windows and a longest stay in HALF_OPEN are defined below, and not yet taken
+-- the first field whose value is out of range; a longest stay in HALF_OPEN is defined elsewhere, and not yet taken
 abbrev pub bad_field : ConfigParts → Option ConfigField
 bad_field parts =
     checked (is_within 1 100 parts.failure_rate_threshold) field.FailureRateThreshold
@@ -35,8 +40,7 @@ bad_field parts =
     (checked (is_within 1 (2 ^ 32) parts.slow_call_duration_threshold) field.SlowCallDurationThreshold
     (checked (is_within 1 10000 parts.permitted_number_of_calls_in_half_open_state) field.PermittedNumberOfCallsInHalfOpenState
     (checked (parts.max_wait_duration_in_half_open_state == 0) field.MaxWaitDurationInHalfOpenState
-    (checked (is_count_based parts.sliding_window_type) field.SlidingWindowType
-    (bad_limit parts))))))
+    (bad_limit parts)))))
 
 abbrev pub configured_by : ConfigParts → Option ConfigField → Result ConfigParts BadConfig
 configured_by parts None = Ok parts

@@ -3,19 +3,21 @@ ghost use Rattle.std.specs.Prelude.{◌≡◌, ◌<◌, ◌≤◌, ◌+◌, ◌^
 ghost use Rattle.std.specs.Arc.{arc_value};
 ghost use Rattle.std.specs.Vec.{vec_len, vec_capacity};
 ghost use Rattle.book.specs.Answers.{IsApplied, IsLooked, map_ok, reading, lines_from};
-ghost use Rattle.book.specs.Books.{first_opening, history_of};
+ghost use Rattle.book.specs.Books.{first_opening, opening_of, history_of};
 ghost use Rattle.book.specs.Histories.{IsLegal, note_by, end_by, issue_by, past_of, situation_of, next_line};
 ghost use Rattle.book.specs.Seen.{seen};
+ghost use Rattle.book.specs.Sound.{IsOpening};
 
 use crate::breaker::{Breaker, minimum, shown_rate};
 use crate::bulkhead::free_places;
-use crate::configuration::{Config, ConfigParts};
+use crate::changes::{end_by, issue_by, know_program, make_room, note_by, owner_of};
+use crate::configuration::Config;
 use crate::events::{Entry, Event};
-use crate::machine::{decide, is_entered, note_of};
+use crate::machine::{decide, is_entered};
 use crate::readings::Reading;
-use crate::registry::{OpenTicket, Registry};
-use crate::replies::{Fate, Reply};
-use crate::windows::{Note, totals_in};
+use crate::registry::Registry;
+use crate::replies::Reply;
+use crate::windows::totals_in;
 use refusals::RefusalNumber;
 use std::alloc::{AllocError, Global};
 use std::marker::Model;
@@ -37,12 +39,12 @@ pub(crate) struct Start {
 /// history is legal, and beside it what the history says.
 #[derive(Drop)]
 pub struct Book {
-    config: Config,
-    start: Start,
-    breaker: Breaker,
-    registry: Registry,
-    moment: u64,
-    entries: Vec<Entry>,
+    pub(crate) config: Config,
+    pub(crate) start: Start,
+    pub(crate) breaker: Breaker,
+    pub(crate) registry: Registry,
+    pub(crate) moment: u64,
+    pub(crate) entries: Vec<Entry>,
 }
 
 impl Model for Book {
@@ -59,85 +61,6 @@ impl Model for Book {
     ghost invariant = { λ b. IsBook (opening_of b.config b.start) (situation b.config b.breaker b.registry (length b.entries.items)) b.breaker.refused b.moment b.entries.items };
 }
 
-/// The note that a reply leaves.
-fn note_by(config: &ConfigParts, moment: u64, event: &Event, reply: Reply) -> Option<Note>
-    ensures { result ≡ note_by config.now moment (seen event.now) reply }
-{
-    match (event, reply) {
-        (
-            Event::Finish(judged, _),
-            Reply::Finished {
-                fate: Fate::Recorded,
-                verdict,
-                ..
-            },
-        ) => Some(note_of(config, moment, verdict, judged.outcome())),
-        _ => None,
-    }
-}
-
-/// The ticket that ends.
-fn end_by(event: &Event, reply: Reply) -> Option<u64>
-    ensures { result ≡ end_by (seen event.now) reply }
-{
-    match (event, reply) {
-        (Event::Finish(_, ticket), Reply::Finished { .. }) => Some(*ticket),
-        _ => None,
-    }
-}
-
-/// The ticket that is issued.
-fn issue_by(reply: Reply, period: u64) -> Option<OpenTicket>
-    ensures { result ≡ issue_by reply period }
-{
-    match reply {
-        Reply::Permitted {
-            ticket,
-            version,
-            ..
-        } => Some(OpenTicket {
-            number: ticket,
-            version,
-            period,
-        }),
-        _ => None,
-    }
-}
-
-/// Makes room for an entry, and for the note and the ticket that come with it.
-fn make_room(
-    entries: &mut Vec<Entry>,
-    breaker: &mut Breaker,
-    registry: &mut Registry,
-    note: Option<Note>,
-    issued: Option<OpenTicket>,
-) -> Result<(), AllocError>
-    ensures entries { entries.new.items ≡ entries.old.items }
-    ensures standing { breaker.new.standing ≡ breaker.old.standing }
-    ensures notes { breaker.new.notes.items ≡ breaker.old.notes.items }
-    ensures refused { breaker.new.refused ≡ breaker.old.refused }
-    ensures tickets { registry.new.open_tickets.items ≡ registry.old.open_tickets.items }
-    ensures programs { map arc_value registry.new.programs.items ≡ map arc_value registry.old.programs.items }
-    ensures numbers { (registry.new.first_version ≡ registry.old.first_version) × (registry.new.next_ticket ≡ registry.old.next_ticket) }
-    ensures entry_room { OnOk result (vec_len entries.new < vec_capacity entries.new) }
-    ensures note_room { OnOk result (OnSome note (vec_len breaker.new.notes < vec_capacity breaker.new.notes)) }
-    ensures ticket_room { OnOk result (OnSome issued (vec_len registry.new.open_tickets < vec_capacity registry.new.open_tickets)) }
-{
-    entries.reserve(1)?;
-    breaker.make_room(note)?;
-    registry.make_room(issued)
-}
-
-/// One more owner of a program.
-fn owner_of(program: &Arc<Verified>) -> Result<Arc<Verified>, RefusalNumber>
-    ensures { (map_ok arc_value result ≡ Ok (arc_value program.now)) ⊎ (map_ok arc_value result ≡ Err RefusalNumber.ServiceOutOfMemory) }
-{
-    match Arc::try_clone(program) {
-        Ok(program) => Ok(program),
-        Err(_) => Err(RefusalNumber::ServiceOutOfMemory),
-    }
-}
-
 impl Book {
     /// Opens a book in CLOSED, with this program as version 1 and no entry. Errors are want of memory.
     pub fn open(alloc: Global, config: Config, program: Verified) -> Result<Book, AllocError>
@@ -148,31 +71,39 @@ impl Book {
         // What is known of a verified program is kept by the book.
         let _budget = program.budget();
         let _bytes = program.bytes();
-        let program = Arc::new(alloc, program)?;
         let start = Start {
-            program: Arc::try_clone(&program)?,
+            program: Arc::new(alloc, program)?,
             version: 1,
             period: 1,
             ticket: 1,
             line: 1,
             moment: 0,
         };
+        Book::begin(alloc, config, start)
+    }
+
+    /// A book that opens so, in CLOSED with no entry. Errors are want of memory.
+    pub(crate) fn begin(alloc: Global, config: Config, start: Start) -> Result<Book, AllocError>
+        requires { IsOpening (opening_of config start) }
+        ensures opened { IfOk result (λ book. book ≡ history_of (opening_of config start) []) }
+        ensures legal { IfOk result IsLegal }
+    {
         let mut programs = Vec::new(alloc);
-        programs.push(program)?;
+        programs.push(Arc::try_clone(&start.program)?)?;
         Ok(Book {
             config,
-            start,
-            breaker: Breaker::new(alloc),
-            registry: Registry::new(alloc, programs),
-            moment: 0,
+            breaker: Breaker::new(alloc, start.period, start.moment),
+            registry: Registry::new(alloc, programs, start.version, start.ticket),
+            moment: start.moment,
             entries: Vec::new(alloc),
+            start,
         })
     }
 
     /// Takes an event of a seat, and answers it. The moment, in milliseconds, is raised to the greatest
     /// that the book has seen. The refusals `CallNotPermitted`, `BulkheadFull`, `NoTicket` and
-    /// `TicketSpent` make an entry, as each success does; `Stranger` and `JournalFull` change nothing,
-    /// nor does `ServiceOutOfMemory`.
+    /// `TicketSpent` make an entry, as each success does; `Stranger`, `VersionsFull` and `JournalFull`
+    /// change nothing, nor does `ServiceOutOfMemory`.
     pub fn apply(&mut self, seat: u32, moment: u64, event: Event) -> Reply
         ensures applied { IsApplied self.old seat moment (seen event) result self.new }
         ensures legal_before { IsLegal self.old }
@@ -194,19 +125,21 @@ impl Book {
         let note = note_by(&self.config.parts(), moment, &event, reply);
         let ended = end_by(&event, reply);
         let issued = issue_by(reply, decision.next.period);
-        let room = make_room(
+        know_program(&event);
+        let Ok(installed) = make_room(
             &mut self.entries,
             &mut self.breaker,
             &mut self.registry,
+            &event,
+            reply,
             note,
             issued,
-        );
-        if room.is_err() {
+        ) else {
             return Reply::Refused(RefusalNumber::ServiceOutOfMemory);
-        }
+        };
         let number = self.start.line + self.entries.len() as u64;
         self.breaker.follow(decision.next, note, reply);
-        self.registry.follow(ended, issued);
+        self.registry.follow(ended, issued, installed);
         self.moment = moment;
         let entry = Entry::new(number, seat, event, moment, reply);
         self.entries.push_reserved(entry);
@@ -233,7 +166,13 @@ impl Book {
     {
         let parts = self.config.parts();
         let standing = self.breaker.standing;
-        let totals = totals_in(&parts, standing.state, self.breaker.notes.as_slice());
+        let raised = moment.max(self.moment);
+        let totals = totals_in(
+            &parts,
+            standing.state,
+            raised,
+            self.breaker.notes.as_slice(),
+        );
         let least = minimum(&parts, standing.state);
         let open_tickets = self.registry.open_tickets.len() as u64;
         Reading {

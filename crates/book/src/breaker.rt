@@ -1,15 +1,15 @@
 //! The circuit breaker of a service: where it stands, the notes of its period, and what it permits.
 ghost use Rattle.std.specs.Prelude.{◌≡◌, ◌<◌, ◌≤◌, ◌+◌, ◌^◌, ℕ, length, ◌++◌, ◌∷◌, [], None, true, OnOk, OnSome};
 ghost use Rattle.std.specs.List.{filter};
-ghost use Rattle.book.specs.Configuration.{bad_field, is_count_based};
+ghost use Rattle.book.specs.Configuration.{bad_field};
 ghost use Rattle.book.specs.Machine.{permissions_held, half_open_permission, open_permission, permission_in, fate_of, next_by, is_ignored};
-ghost use Rattle.book.specs.Rates.{minimum, reaches, either_reaches, after_totals, after_notes, shown_rate};
+ghost use Rattle.book.specs.Rates.{minimum_in_window, minimum, reaches, either_reaches, after_totals, after_notes, shown_rate};
 ghost use Rattle.book.specs.Standings.{moved, is_disabled};
 ghost use Rattle.book.specs.Windows.{AreTotals};
 ghost use Rattle.book.specs.Following.{notes_after, refused_after, is_refused_call, is_not_permitted};
 ghost use Rattle.std.specs.Vec.{vec_len, vec_capacity};
 
-use crate::configuration::{Config, ConfigParts};
+use crate::configuration::{Config, ConfigParts, is_count_based};
 use crate::registry::OpenTicket;
 use crate::replies::{Fate, Reply};
 use crate::states::State;
@@ -133,16 +133,25 @@ pub(crate) fn permit(
     }
 }
 
+/// From how many notes in the window on the rates are used.
+fn minimum_in_window(config: &ConfigParts) -> u64
+    ensures { result ≡ minimum_in_window config.now }
+{
+    let calls = config.minimum_number_of_calls;
+    if is_count_based(config.sliding_window_type) {
+        calls.min(config.sliding_window_size)
+    } else {
+        calls
+    }
+}
+
 /// From how many notes on the rates are used.
 pub(crate) fn minimum(config: &ConfigParts, state: State) -> u64
-    requires { is_count_based config.now.sliding_window_type ≡ true }
     ensures { result ≡ minimum config.now state }
 {
     match state {
         State::HalfOpen => config.permitted_number_of_calls_in_half_open_state,
-        _ => config
-            .minimum_number_of_calls
-            .min(config.sliding_window_size),
+        _ => minimum_in_window(config),
     }
 }
 
@@ -192,20 +201,19 @@ fn after_totals(config: &Config, moment: u64, standing: Standing, totals: Totals
     }
 }
 
-/// Where the breaker stands after a note that follows these.
+/// Where the breaker stands after a note that follows these, at its moment.
 pub(crate) fn after_note(
     config: &Config,
-    moment: u64,
     standing: Standing,
     notes: &[Note],
     note: Note,
 ) -> Standing
     requires notes { length notes.now < 2 ^ 32 }
     requires period { standing.period + 1 < 2 ^ 64 }
-    ensures { result ≡ after_notes config.now moment standing (notes.now ++ note ∷ []) }
+    ensures { result ≡ after_notes config.now note.moment standing (notes.now ++ note ∷ []) }
 {
     let totals = totals_with(config, standing.state, notes, note);
-    after_totals(config, moment, standing, totals)
+    after_totals(config, note.moment, standing, totals)
 }
 
 /// Whether a reply refuses a call.
@@ -239,17 +247,17 @@ pub(crate) fn shown_rate(least: u64, total: u64, part: u64) -> Option<u64>
 }
 
 impl Breaker {
-    /// A breaker in CLOSED, in its first period, since moment 0.
-    pub(crate) fn new(alloc: Global) -> Breaker
-        ensures standing { result.standing ≡ record { state = State.Closed; period = 1; since = 0 } }
+    /// A breaker in CLOSED, in this period, since a moment in milliseconds.
+    pub(crate) fn new(alloc: Global, period: u64, since: u64) -> Breaker
+        ensures standing { result.standing ≡ record { state = State.Closed; period = period; since = since } }
         ensures notes { result.notes.items ≡ [] }
         ensures refused { result.refused ≡ 0 }
     {
         Breaker {
             standing: Standing {
                 state: State::Closed,
-                period: 1,
-                since: 0,
+                period,
+                since,
             },
             notes: Vec::new(alloc),
             refused: 0,

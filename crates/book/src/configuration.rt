@@ -1,7 +1,7 @@
 //! The configuration of a service's breaker and bulkhead, with the names, defaults and ranges that
 //! the Resilience4j documentation and this product give.
 ghost use Rattle.std.specs.Prelude.{◌≡◌, None};
-ghost use Rattle.book.specs.Configuration.{bad_field, bad_limit, configured, is_within, is_count_based};
+ghost use Rattle.book.specs.Configuration.{bad_field, bad_limit, configured, is_within, is_count_based, most_size};
 
 use refusals::RefusalNumber;
 use std::marker::Model;
@@ -29,7 +29,7 @@ pub struct ConfigParts {
     pub permitted_number_of_calls_in_half_open_state: u64,
     /// 0 alone: HALF_OPEN doesn't end by itself.
     pub max_wait_duration_in_half_open_state: u64,
-    /// Count based alone, until there are time windows.
+    /// What the window's size counts.
     pub sliding_window_type: SlidingWindowType,
     /// 1 to 10,000 calls, or 1 to 3,600 seconds.
     pub sliding_window_size: u64,
@@ -114,7 +114,8 @@ fn is_within(least: u64, most: u64, number: u64) -> bool
     least <= number && number <= most
 }
 
-fn is_count_based(window: SlidingWindowType) -> bool
+/// Whether a window is measured in calls.
+pub(crate) fn is_count_based(window: SlidingWindowType) -> bool
     ensures { result ≡ is_count_based window }
 {
     match window {
@@ -123,11 +124,22 @@ fn is_count_based(window: SlidingWindowType) -> bool
     }
 }
 
+/// The greatest size of a window, in calls or in seconds.
+fn most_size(window: SlidingWindowType) -> u64
+    ensures { result ≡ most_size window }
+{
+    match window {
+        SlidingWindowType::CountBased => 10_000,
+        SlidingWindowType::TimeBased => 3_600,
+    }
+}
+
 /// The first field of a window or of what limits calls that is out of its range.
 fn bad_limit(parts: &ConfigParts) -> Option<ConfigField>
     ensures { result ≡ bad_limit parts.now }
 {
-    if !is_within(1, 10_000, parts.sliding_window_size) {
+    let most = most_size(parts.sliding_window_type);
+    if !is_within(1, most, parts.sliding_window_size) {
         return Some(ConfigField::SlidingWindowSize);
     }
     if !is_within(1, 1_000_000, parts.minimum_number_of_calls) {
@@ -167,9 +179,6 @@ fn bad_field(parts: &ConfigParts) -> Option<ConfigField>
     }
     if parts.max_wait_duration_in_half_open_state != 0 {
         return Some(ConfigField::MaxWaitDurationInHalfOpenState);
-    }
-    if !is_count_based(parts.sliding_window_type) {
-        return Some(ConfigField::SlidingWindowType);
     }
     bad_limit(parts)
 }

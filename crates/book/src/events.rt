@@ -3,8 +3,11 @@ ghost use Rattle.std.specs.Prelude.{◌≡◌};
 ghost use Rattle.book.specs.Seen.{seen, line};
 
 use crate::replies::Reply;
+use crate::states::State;
 use bpf_run::Judged;
 use std::marker::Model;
+use std::sync::Arc;
+use verifier::Verified;
 
 /// What happens on a service.
 #[derive(Drop)]
@@ -13,6 +16,14 @@ pub enum Event {
     Acquire,
     /// The outcome of the call under a ticket, as it was judged.
     Finish(Judged, u64),
+    /// The call under a ticket ends with no outcome.
+    Release(u64),
+    /// A program is to judge under new tickets.
+    Install(Arc<Verified>),
+    /// The breaker is moved to a state.
+    Move(State),
+    /// The breaker is moved to CLOSED.
+    Reset,
 }
 
 /// A line of the journal: what happened, who made it, at which moment, and what was answered.

@@ -5,7 +5,11 @@
 mod books;
 mod breaker;
 mod bulkhead;
+mod changes;
 mod configuration;
+mod cutting;
+#[cfg(test)]
+mod event_tests;
 mod events;
 pub mod laws;
 mod machine;

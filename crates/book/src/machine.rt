@@ -4,7 +4,7 @@ ghost use Rattle.std.specs.Arc.{arc_value};
 ghost use Rattle.book.specs.declared.breaker.Breaker.{Breaker};
 ghost use Rattle.book.specs.declared.configuration.ConfigParts.{ConfigParts};
 ghost use Rattle.book.specs.declared.registry.Registry.{Registry};
-ghost use Rattle.book.specs.Machine.{judged_as, acquired, refused, is_issued, is_open, is_ignored, is_failure, same_program, fate_of, note_of, next_by, concluded, finished, finished_by, finished_under, is_full, decided, decision, is_entered, is_entered_refusal};
+ghost use Rattle.book.specs.Machine.{judged_as, acquired, refused, is_issued, is_open, is_ignored, is_failure, same_program, fate_of, note_of, next_by, concluded, finished, finished_by, finished_under, released, installed, moved_to, is_full, decided, decision, is_entered, is_entered_refusal};
 ghost use Rattle.book.specs.Seen.{seen};
 ghost use Rattle.book.specs.Situations.{situation, IsRoomy};
 ghost use Rattle.book.specs.Standings.{is_disabled};
@@ -123,7 +123,7 @@ fn concluded(
     let note = note_of(&config.parts(), moment, verdict, judged.outcome());
     let fate = fate_of(standing, ticket, verdict);
     let next = match fate {
-        Fate::Recorded => after_note(config, moment, standing, breaker.notes.as_slice(), note),
+        Fate::Recorded => after_note(config, standing, breaker.notes.as_slice(), note),
         _ => standing,
     };
     Decision {
@@ -207,6 +207,60 @@ fn finished(
     finished_under(config, breaker, registry, moment, judged, open)
 }
 
+/// The answer to the end of a ticket with no outcome.
+fn released(breaker: &Breaker, registry: &Registry, ticket: u64) -> Decision
+    ensures { (config : ConfigParts) (held : ℕ) → result ≡ released (situation config breaker.now registry.now held) ticket }
+{
+    if ticket == 0 || ticket >= registry.next_ticket {
+        return refused(breaker.standing, RefusalNumber::NoTicket);
+    }
+    match registry.open_ticket(ticket) {
+        Some(_) => Decision {
+            reply: Reply::Released {
+                state: breaker.standing.state,
+            },
+            next: breaker.standing,
+        },
+        None => refused(breaker.standing, RefusalNumber::TicketSpent),
+    }
+}
+
+/// How many versions are held.
+const MOST_VERSIONS: usize = 256;
+
+/// The answer to a program.
+fn installed(breaker: &Breaker, registry: &Registry, program: &Verified) -> Decision
+    requires { registry.now.first_version + length registry.now.programs.items < 2 ^ 64 }
+    ensures { (config : ConfigParts) (held : ℕ) → result ≡ installed (situation config breaker.now registry.now held) program.now }
+{
+    let versions = registry.programs.len();
+    if versions >= MOST_VERSIONS {
+        return refused(breaker.standing, RefusalNumber::VersionsFull);
+    }
+    Decision {
+        reply: Reply::Installed {
+            version: registry.first_version + versions as u64,
+            budget: program.budget(),
+        },
+        next: breaker.standing,
+    }
+}
+
+/// The answer to a move, which every state allows.
+fn moved_to(breaker: &Breaker, moment: u64, state: State) -> Decision
+    requires { breaker.now.standing.period + 1 < 2 ^ 64 }
+    ensures { (config : ConfigParts) (registry : Registry) (held : ℕ) → result ≡ moved_to (situation config breaker.now registry held) moment state }
+{
+    let next = breaker.standing.moved(state, moment);
+    Decision {
+        reply: Reply::Moved {
+            state,
+            period: next.period,
+        },
+        next,
+    }
+}
+
 /// How many lines a journal holds.
 const MOST_LINES: usize = 65_536;
 
@@ -218,7 +272,10 @@ fn is_full(registry: &Registry, held: usize, event: &Event) -> bool
     let used = held + registry.open_tickets.len();
     match event {
         Event::Acquire => used > MOST_LINES - 2,
-        Event::Finish(_, ticket) => used > MOST_LINES - 1 && !registry.is_open(*ticket),
+        Event::Finish(_, ticket) | Event::Release(ticket) => {
+            used > MOST_LINES - 1 && !registry.is_open(*ticket)
+        }
+        Event::Install(_) | Event::Move(_) | Event::Reset => used > MOST_LINES - 1,
     }
 }
 
@@ -238,6 +295,10 @@ fn decided(
         Event::Finish(judged, ticket) => {
             finished(config, breaker, registry, moment, judged, *ticket)
         }
+        Event::Release(ticket) => released(breaker, registry, *ticket),
+        Event::Install(program) => installed(breaker, registry, program),
+        Event::Move(state) => moved_to(breaker, moment, *state),
+        Event::Reset => moved_to(breaker, moment, State::Closed),
     }
 }
 

@@ -83,18 +83,47 @@ fn keep(tickets: &mut Vec<OpenTicket>, issued: Option<OpenTicket>)
     }
 }
 
+/// Makes room for a program, where one is installed.
+fn make_program_room(
+    programs: &mut Vec<Arc<Verified>>,
+    installed: &Option<Arc<Verified>>,
+) -> Result<(), AllocError>
+    ensures programs { programs.new.items ≡ programs.old.items }
+    ensures room { OnOk result (OnSome installed.now (vec_len programs.new < vec_capacity programs.new)) }
+{
+    match installed {
+        Some(_) => programs.reserve(1),
+        None => Ok(()),
+    }
+}
+
+/// Holds the program that was installed, where there is one.
+fn hold(programs: &mut Vec<Arc<Verified>>, installed: Option<Arc<Verified>>)
+    requires room { OnSome installed (vec_len programs.old < vec_capacity programs.old) }
+    ensures programs { map arc_value programs.new.items ≡ map arc_value programs.old.items ++ option_to_list (option_map arc_value installed) }
+{
+    if let Some(program) = installed {
+        programs.push_reserved(program);
+    }
+}
+
 impl Registry {
-    /// These programs from version 1 on, and no ticket.
-    pub(crate) fn new(alloc: Global, programs: Vec<Arc<Verified>>) -> Registry
+    /// These programs from a version on, and no ticket before the next one.
+    pub(crate) fn new(
+        alloc: Global,
+        programs: Vec<Arc<Verified>>,
+        first_version: u64,
+        next_ticket: u64,
+    ) -> Registry
         ensures programs { result.programs.items ≡ programs.items }
         ensures tickets { result.open_tickets.items ≡ [] }
-        ensures numbers { (result.first_version ≡ 1) × (result.next_ticket ≡ 1) }
+        ensures numbers { (result.first_version ≡ first_version) × (result.next_ticket ≡ next_ticket) }
     {
         Registry {
-            first_version: 1,
+            first_version,
             programs,
             open_tickets: Vec::new(alloc),
-            next_ticket: 1,
+            next_ticket,
         }
     }
 
@@ -164,30 +193,43 @@ impl Registry {
         self.looked_under(open)
     }
 
-    /// Makes room for a ticket, where one is issued.
-    pub(crate) fn make_room(&mut self, issued: Option<OpenTicket>) -> Result<(), AllocError>
+    /// Makes room for a ticket where one is issued, and for a program where one is installed.
+    pub(crate) fn make_room(
+        &mut self,
+        issued: Option<OpenTicket>,
+        installed: &Option<Arc<Verified>>,
+    ) -> Result<(), AllocError>
         ensures tickets { self.new.open_tickets.items ≡ self.old.open_tickets.items }
         ensures programs { map arc_value self.new.programs.items ≡ map arc_value self.old.programs.items }
         ensures numbers { (self.new.first_version ≡ self.old.first_version) × (self.new.next_ticket ≡ self.old.next_ticket) }
         ensures room { OnOk result (OnSome issued (vec_len self.new.open_tickets < vec_capacity self.new.open_tickets)) }
+        ensures program_room { OnOk result (OnSome installed.now (vec_len self.new.programs < vec_capacity self.new.programs)) }
     {
+        make_program_room(&mut self.programs, installed)?;
         match issued {
             Some(_) => self.open_tickets.reserve(1),
             None => Ok(()),
         }
     }
 
-    /// Drops the ticket that ended, and keeps the one that was issued.
-    pub(crate) fn follow(&mut self, ended: Option<u64>, issued: Option<OpenTicket>)
+    /// Drops the ticket that ended, and keeps the one that was issued and the program that was installed.
+    pub(crate) fn follow(
+        &mut self,
+        ended: Option<u64>,
+        issued: Option<OpenTicket>,
+        installed: Option<Arc<Verified>>,
+    )
         requires room { OnSome issued (vec_len self.old.open_tickets < vec_capacity self.old.open_tickets) }
+        requires program_room { OnSome installed (vec_len self.old.programs < vec_capacity self.old.programs) }
         requires next { self.old.next_ticket + 1 < 2 ^ 64 }
         ensures tickets { self.new.open_tickets.items ≡ tickets_after self.old.open_tickets.items ended issued }
         ensures next { self.new.next_ticket ≡ self.old.next_ticket + one_where_some issued }
-        ensures programs { map arc_value self.new.programs.items ≡ map arc_value self.old.programs.items }
+        ensures programs { map arc_value self.new.programs.items ≡ map arc_value self.old.programs.items ++ option_to_list (option_map arc_value installed) }
         ensures first { self.new.first_version ≡ self.old.first_version }
     {
         end(&mut self.open_tickets, ended);
         keep(&mut self.open_tickets, issued);
+        hold(&mut self.programs, installed);
         if issued.is_some() {
             self.next_ticket += 1;
         }

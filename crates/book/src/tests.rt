@@ -20,14 +20,20 @@ fn response(status: u16) -> Option<Record> {
 }
 
 /// A book of these parts with the default classifier.
-fn book<R: Abort>(rt: &R, alloc: Global, parts: ConfigParts) -> Book {
+pub(crate) fn book<R: Abort>(rt: &R, alloc: Global, parts: ConfigParts) -> Book {
     let config = Config::new(parts).expect(rt, "parts in their ranges");
     let classifier = default_classifier(alloc).expect(rt, "the default classifier");
     Book::open(alloc, config, classifier).expect(rt, "ample memory")
 }
 
 /// Reports a response under a ticket.
-fn report<R: Abort>(rt: &R, book: &mut Book, moment: u64, ticket: u64, status: u16) -> Reply {
+pub(crate) fn report<R: Abort>(
+    rt: &R,
+    book: &mut Book,
+    moment: u64,
+    ticket: u64,
+    status: u16,
+) -> Reply {
     match book.look(ticket) {
         Ok(program) => {
             let outcome = response(status).expect(rt, "an empty tag");
@@ -38,14 +44,14 @@ fn report<R: Abort>(rt: &R, book: &mut Book, moment: u64, ticket: u64, status: u
 }
 
 /// Parts that differ from the defaults in the window's size and the minimum.
-fn small_window(size: u64, minimum: u64) -> ConfigParts {
+pub(crate) fn small_window(size: u64, minimum: u64) -> ConfigParts {
     let mut parts = ConfigParts::DEFAULT;
     parts.sliding_window_size = size;
     parts.minimum_number_of_calls = minimum;
     parts
 }
 
-fn permitted(ticket: u64, state: State) -> Reply {
+pub(crate) fn permitted(ticket: u64, state: State) -> Reply {
     Reply::Permitted {
         ticket,
         version: 1,
@@ -54,7 +60,7 @@ fn permitted(ticket: u64, state: State) -> Reply {
 }
 
 /// What the default classifier's verdict on a response leaves.
-fn finished(fate: Fate, verdict: Verdict, state: State) -> Reply {
+pub(crate) fn finished(fate: Fate, verdict: Verdict, state: State) -> Reply {
     Reply::Finished {
         fate,
         verdict,
@@ -225,15 +231,22 @@ fn a_journal_holds_65536_entries(rt: HostRuntime) {
 
 #[test]
 fn fields_out_of_range_are_named(rt: HostRuntime) {
-    let mut rows = [(ConfigParts::DEFAULT, None); 6];
+    let mut rows = [(ConfigParts::DEFAULT, None); 9];
     rows[1].0.failure_rate_threshold = 101;
     rows[1].1 = Some(ConfigField::FailureRateThreshold);
     rows[2].0.wait_duration_in_open_state = (1 << 40) + 1;
     rows[2].1 = Some(ConfigField::WaitDurationInOpenState);
     rows[3].0.max_wait_duration = 5;
     rows[3].1 = Some(ConfigField::MaxWaitDuration);
-    rows[4].0.sliding_window_type = SlidingWindowType::TimeBased;
-    rows[4].1 = Some(ConfigField::SlidingWindowType);
+    rows[4].0.max_wait_duration_in_half_open_state = 1;
+    rows[4].1 = Some(ConfigField::MaxWaitDurationInHalfOpenState);
+    rows[6].0.sliding_window_type = SlidingWindowType::TimeBased;
+    rows[6].0.sliding_window_size = 3_600;
+    rows[7].0.sliding_window_type = SlidingWindowType::TimeBased;
+    rows[7].0.sliding_window_size = 3_601;
+    rows[7].1 = Some(ConfigField::SlidingWindowSize);
+    rows[8].0.sliding_window_size = 10_001;
+    rows[8].1 = Some(ConfigField::SlidingWindowSize);
     rows[5].0.slow_call_rate_threshold = 0;
     rows[5].0.max_concurrent_calls = 0;
     rows[5].1 = Some(ConfigField::SlowCallRateThreshold);

@@ -1,10 +1,9 @@
 //! What a breaker notes of calls, and the totals over a sliding window of notes.
 ghost use Rattle.std.specs.Prelude.{◌≡◌, ◌<◌, ◌≤◌, ◌+◌, ◌^◌, ◌++◌, ◌∷◌, [], ℕ, true, length};
 ghost use Rattle.std.specs.List.{filter};
-ghost use Rattle.book.specs.Windows.{last, totals_of, windowed, with_note, AreTotals};
-ghost use Rattle.book.specs.Configuration.{is_count_based};
+ghost use Rattle.book.specs.Windows.{last, is_recent, in_window, totals_of, windowed, with_note, AreTotals};
 
-use crate::configuration::{Config, ConfigParts};
+use crate::configuration::{Config, ConfigParts, is_count_based};
 use crate::states::State;
 
 /// What a recorded verdict leaves.
@@ -76,37 +75,116 @@ impl Totals {
     }
 }
 
-/// The notes of a period that still count in its state once there is one note more.
-#[tactic(auto, using(crate::proofs::Sliding::last_with_note))]
-fn kept<'a>(config: &Config, state: State, notes: &'a [Note]) -> &'a [Note]
-    ensures window { (moment : ℕ) (note : Note) → windowed config.now state moment (notes.now ++ note ∷ []) ≡ result.now ++ note ∷ [] }
-    ensures fits { length result.now ≤ length notes.now }
+/// Whether a note still counts at a moment in a window of so many seconds.
+#[tactic(auto, using(crate::proofs::Sliding::recent_by))]
+fn is_recent(seconds: u64, moment: u64, note: Note) -> bool
+    ensures { result ≡ is_recent seconds moment note }
 {
-    let size = config.parts().sliding_window_size;
-    match state {
-        State::HalfOpen => notes,
-        _ => last(size - 1, notes),
+    moment / 1000 < (note.moment / 1000).saturating_add(seconds)
+}
+
+fn recent_notes(seconds: u64, moment: u64, notes: &[Note]) -> usize
+    ensures fits { result ≤ length notes.now }
+    ensures count { result ≡ length (filter (is_recent seconds moment) notes.now) }
+{
+    notes
+        .iter()
+        .filter(|note| is_recent(seconds, moment, **note))
+        .count()
+}
+
+fn recent_failures(seconds: u64, moment: u64, notes: &[Note]) -> usize
+    ensures fits { result ≤ length notes.now }
+    ensures count { result ≡ length (filter (λ note. note.failed) (filter (is_recent seconds moment) notes.now)) }
+{
+    notes
+        .iter()
+        .filter(|note| is_recent(seconds, moment, **note))
+        .filter(|note| note.failed)
+        .count()
+}
+
+fn recent_slow_calls(seconds: u64, moment: u64, notes: &[Note]) -> usize
+    ensures fits { result ≤ length notes.now }
+    ensures count { result ≡ length (filter (λ note. note.slow) (filter (is_recent seconds moment) notes.now)) }
+{
+    notes
+        .iter()
+        .filter(|note| is_recent(seconds, moment, **note))
+        .filter(|note| note.slow)
+        .count()
+}
+
+/// The totals over the notes that still count at a moment in a window of so many seconds.
+fn recent_totals(seconds: u64, moment: u64, notes: &[Note]) -> Totals
+    ensures totals { result ≡ totals_of (filter (is_recent seconds moment) notes.now) }
+    ensures fits { AreTotals (length notes.now) result }
+{
+    Totals {
+        total: recent_notes(seconds, moment, notes) as u64,
+        failed: recent_failures(seconds, moment, notes) as u64,
+        slow: recent_slow_calls(seconds, moment, notes) as u64,
     }
 }
 
-/// The totals over the notes of a period that count in its state once there is this note too.
-#[tactic(auto, using(crate::proofs::Sliding::totals_with_note, crate::proofs::Sliding::with_note_fits))]
-pub(crate) fn totals_with(config: &Config, state: State, notes: &[Note], note: Note) -> Totals
-    requires { length notes.now < 2 ^ 32 }
-    ensures totals { (moment : ℕ) → result ≡ totals_of (windowed config.now state moment (notes.now ++ note ∷ [])) }
-    ensures fits { AreTotals (length notes.now + 1) result }
+/// The totals over the notes in the window that still count once there is one more at a moment.
+fn kept_in_window(config: &Config, moment: u64, notes: &[Note]) -> Totals
+    ensures totals { (note : Note) → note.moment ≡ moment → totals_of (in_window config.now moment (notes.now ++ note ∷ [])) ≡ with_note result note }
+    ensures fits { AreTotals (length notes.now) result }
 {
-    totals_of(kept(config, state, notes)).with(note)
+    let parts = config.parts();
+    let size = parts.sliding_window_size;
+    if is_count_based(parts.sliding_window_type) {
+        totals_of(last(size - 1, notes))
+    } else {
+        recent_totals(size, moment, notes)
+    }
 }
 
-/// The totals over the notes of a period that count in its state.
-pub(crate) fn totals_in(config: &ConfigParts, state: State, notes: &[Note]) -> Totals
-    requires { is_count_based config.now.sliding_window_type ≡ true }
-    ensures totals { (moment : ℕ) → result ≡ totals_of (windowed config.now state moment notes.now) }
+/// The totals over the notes of a period that still count in its state once there is one more at a
+/// moment.
+#[tactic(auto, using(crate::proofs::Sliding::totals_with_note))]
+fn kept(config: &Config, state: State, moment: u64, notes: &[Note]) -> Totals
+    ensures totals { (note : Note) → note.moment ≡ moment → totals_of (windowed config.now state moment (notes.now ++ note ∷ [])) ≡ with_note result note }
     ensures fits { AreTotals (length notes.now) result }
 {
     match state {
         State::HalfOpen => totals_of(notes),
-        _ => totals_of(last(config.sliding_window_size, notes)),
+        _ => kept_in_window(config, moment, notes),
+    }
+}
+
+/// The totals over the notes of a period that count in its state once there is this note too, at its
+/// moment.
+#[tactic(auto, using(crate::proofs::Sliding::with_note_fits))]
+pub(crate) fn totals_with(config: &Config, state: State, notes: &[Note], note: Note) -> Totals
+    requires { length notes.now < 2 ^ 32 }
+    ensures totals { result ≡ totals_of (windowed config.now state note.moment (notes.now ++ note ∷ [])) }
+    ensures fits { AreTotals (length notes.now + 1) result }
+{
+    kept(config, state, note.moment, notes).with(note)
+}
+
+/// The totals over the notes in the window at a moment.
+fn totals_in_window(config: &ConfigParts, moment: u64, notes: &[Note]) -> Totals
+    ensures totals { result ≡ totals_of (in_window config.now moment notes.now) }
+    ensures fits { AreTotals (length notes.now) result }
+{
+    let size = config.sliding_window_size;
+    if is_count_based(config.sliding_window_type) {
+        totals_of(last(size, notes))
+    } else {
+        recent_totals(size, moment, notes)
+    }
+}
+
+/// The totals over the notes of a period that count in its state at a moment.
+pub(crate) fn totals_in(config: &ConfigParts, state: State, moment: u64, notes: &[Note]) -> Totals
+    ensures totals { result ≡ totals_of (windowed config.now state moment notes.now) }
+    ensures fits { AreTotals (length notes.now) result }
+{
+    match state {
+        State::HalfOpen => totals_of(notes),
+        _ => totals_in_window(config, moment, notes),
     }
 }

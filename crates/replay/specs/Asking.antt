@@ -6,33 +6,78 @@ use Rattle.serde_json.specs.Data.{Data}
 use Rattle.refusals.specs.declared.RefusalNumber.{RefusalNumber}
 use Rattle.refusals.specs.declared.RefusalNumber.TheVariants as refusal
 use Rattle.helpers.specs.Json.{◌>>=◌}
-use Rattle.requests.specs.Text.{json_of}
-use Rattle.requests.specs.Values.{number_at, text_at}
+use Rattle.book.specs.declared.states.State.{State}
+use Rattle.requests.specs.declared.reports.Report.{Report}
+use Rattle.requests.specs.Programs.{program_of}
 use Rattle.requests.specs.Reports.{report_of}
+use Rattle.requests.specs.Text.{json_of}
+use Rattle.requests.specs.Transitions.{state_of}
+use Rattle.requests.specs.Values.{number_at, text_at}
 use Rattle.replay.specs.declared.asking.Asked.{Asked}
 use Rattle.replay.specs.declared.asking.Call.{Call}
 use Rattle.replay.specs.declared.asking.Call.TheVariants as call
 
--- what is asked under a name; None where nothing is, or its values can't be used
-unfoldable pub call_named : List ℕ → Data → Option Call
-call_named name d =
-    if bytes_eq name (codes "acquire") then Some call.Acquire
-    else (if bytes_eq name (codes "report") then option_map call.Report (report_of d)
-    else (if bytes_eq name (codes "read") then Some call.Read
-    else None))
+-- what is to be done; a program is its bytes
+pub data Want : Type 0 where
+  acquire : Want
+  report : Report → Want
+  release : ℕ → Want
+  move : State → Want
+  reset : Want
+  install : List ℕ → Want
+  read : Want
+  cut : Want
+
+-- what is to be done, and at which moment
+pub record Wish : Type 0 where
+  pub moment : ℕ
+  pub want : Want
+
+-- ---- what the program's own values stand for
+
+abbrev pub wanted : Call → Want
+wanted call.Acquire = acquire
+wanted (call.Report reported) = report reported
+wanted (call.Release ticket) = release ticket
+wanted (call.Transition state) = move state
+wanted call.Reset = reset
+wanted (call.Install program) = install program.items
+wanted call.Read = read
+wanted call.Cut = cut
+
+abbrev pub wished : Asked → Wish
+wished asked = record { moment = asked.moment; want = wanted asked.call }
+
+-- ---- what a line asks for
+
+-- what is asked under a name other than `install`; None where nothing is, or its values can't be used
+unfoldable pub plain_named : List ℕ → Data → Option Want
+plain_named name d =
+    if bytes_eq name (codes "acquire") then Some acquire
+    else (if bytes_eq name (codes "report") then option_map report (report_of d)
+    else (if bytes_eq name (codes "release") then option_map release (number_at (codes "ticket") d)
+    else (if bytes_eq name (codes "transition") then option_map move (state_of d)
+    else (if bytes_eq name (codes "reset") then Some reset
+    else (if bytes_eq name (codes "read") then Some read
+    else (if bytes_eq name (codes "cut") then Some cut
+    else None))))))
+
+-- what is asked under a name; an install names a program
+unfoldable pub want_named : List ℕ → Data → Option Want
+want_named name d = if bytes_eq name (codes "install") then option_map install (program_of d) else plain_named name d
 
 -- what a JSON value asks for; None where it is no object, or a value is missing, of the wrong kind or out of range
-unfoldable pub asked_in : Data → Option Asked
+unfoldable pub asked_in : Data → Option Wish
 asked_in d = do
   moment ← number_at (codes "at") d
   name ← text_at (codes "do") d
-  call ← call_named name d
-  Some (record { moment = moment; call = call })
+  want ← want_named name d
+  Some (record { moment = moment; want = want })
 
-abbrev pub asked_by : Option Data → Result Asked RefusalNumber
+abbrev pub asked_by : Option Data → Result Wish RefusalNumber
 asked_by None = Err refusal.BadJson
 asked_by (Some d) = ok_or (asked_in d) refusal.BadValue
 
 -- what a line asks for, or why it is refused
-abbrev pub asked : List ℕ → Result Asked RefusalNumber
+abbrev pub asked : List ℕ → Result Wish RefusalNumber
 asked line = asked_by (json_of line)

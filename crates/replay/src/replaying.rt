@@ -93,9 +93,11 @@ fn replay_lines<B: BufRead, W: Write>(
 /// Replays events on a service that opens with a configuration and the default classifier. The first
 /// line has the configuration, as `requests::config` reads it, and each further line is an event, a JSON
 /// object: `at` is its moment in milliseconds, below 2^64, and `do` is `acquire`, `report` (with
-/// `ticket` and `outcome`) or `read`. Lines of blanks are passed over. Each event is answered with a
-/// line as HTTP answers it: the status, a blank and the body. A line that is no JSON is answered with
-/// `BadJson`, and one whose values are missing, of the wrong kind or out of range with `BadValue`.
+/// `ticket` and `outcome`), `release` (with `ticket`), `transition` (with `state`), `reset`, `install`
+/// (with `program`, as `requests::program` reads it), `read` or `cut`. Lines of blanks are passed over.
+/// Each event is answered with a line as HTTP answers it: the status, a blank and the body. A line that
+/// is no JSON is answered with `BadJson`, one whose values are missing, of the wrong kind or out of
+/// range with `BadValue`, and a program that is not accepted with its refusal and slot.
 ///
 /// One line is held at a time. Errors are those of the reader and the writer, and want of memory. What
 /// was written up to then is a beginning of the answers.

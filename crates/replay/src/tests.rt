@@ -14,6 +14,11 @@ fn events_are_answered(rt: HostRuntime) -> Result<(), Fail> {
             Ended::Done,
             "200 {\"state\":\"CLOSED\",\"ticket\":1,\"version\":1}\n200 {\"fate\":\"recorded\",\"state\":\"CLOSED\",\"steps\":4,\"verdict\":\"failure\",\"version\":1}\n422 {\"error\":59,\"name\":\"BadField\"}\n",
         ),
+        (
+            "{}\n{\"at\":1,\"do\":\"acquire\"}\n{\"at\":2,\"do\":\"release\",\"ticket\":1}\n{\"at\":2,\"do\":\"install\",\"program\":\"b700000002000000 9500000000000000\"}\n{\"at\":2,\"do\":\"transition\",\"state\":\"OPEN\"}\n{\"at\":2,\"do\":\"reset\"}\n{\"at\":2,\"do\":\"cut\"}\n{\"at\":2,\"do\":\"install\",\"program\":\"95\"}\n",
+            Ended::Done,
+            "200 {\"state\":\"CLOSED\",\"ticket\":1,\"version\":1}\n200 {\"fate\":\"released\",\"state\":\"CLOSED\"}\n200 {\"budget\":2,\"version\":2}\n200 {\"period\":2,\"state\":\"OPEN\"}\n200 {\"period\":3,\"state\":\"CLOSED\"}\n200 {\"entries\":5}\n422 {\"error\":1,\"name\":\"Length\",\"slot\":0}\n",
+        ),
     ] {
         let mut reader = input.as_bytes();
         let mut out = Vec::new(alloc);

@@ -2,3 +2,5 @@ pub mod Text
 pub mod Values
 pub mod Configurations
 pub mod Reports
+pub mod Programs
+pub mod Transitions

@@ -1,6 +1,6 @@
 //! That requests are read with ample memory, and what numbers in JSON are.
-use crate::{Report, config, json, number_at, text_at};
-use book::{ConfigParts, SlidingWindowType};
+use crate::{Report, config, json, number_at, program, state, text_at};
+use book::{ConfigParts, SlidingWindowType, State};
 use serde_json::Value;
 use std::alloc::Global;
 use std::process::Abort;
@@ -87,6 +87,56 @@ fn missing_values_are_the_defaults(rt: HostRuntime) {
 }
 
 #[test]
+fn time_windows_are_read(rt: HostRuntime) {
+    let text = "{\"slidingWindowType\":\"TIME_BASED\",\"slidingWindowSize\":3600}";
+    let value = value(&rt, rt.alloc(), text);
+    let parts = config(&value).expect(&rt, "a configuration").parts();
+    assert_eq!(rt; parts.sliding_window_type, SlidingWindowType::TimeBased);
+    assert_eq!(rt; parts.sliding_window_size, 3_600);
+}
+
+#[test]
+fn programs_are_read(rt: HostRuntime) -> Result<(), Fail> {
+    for (text, bytes) in [
+        ("{\"program\":\"\"}", Some(b"".as_slice())),
+        ("{\"program\":\" b7 0A fF \"}", Some(b"\xb7\x0a\xff")),
+        ("{\"program\":\"b70\"}", None),
+        ("{\"program\":\"b7\\t0a\"}", None),
+        ("{\"program\":\"0xb7\"}", None),
+        ("{\"program\":null}", None),
+        ("{\"program\":183}", None),
+        ("{}", None),
+        ("[]", None),
+    ] {
+        let value = value(&rt, rt.alloc(), text);
+        let found = program(rt.alloc(), &value)?;
+        match (found, bytes) {
+            (Some(found), Some(bytes)) => assert_eq!(rt; found.as_slice(), bytes, "{text}"),
+            (found, bytes) => assert_eq!(rt; found.is_some(), bytes.is_some(), "{text}"),
+        }
+    }
+    Ok(())
+}
+
+#[test]
+fn states_are_read(rt: HostRuntime) {
+    for (text, found) in [
+        ("{\"state\":\"CLOSED\"}", Some(State::Closed)),
+        ("{\"state\":\"OPEN\"}", Some(State::Open)),
+        ("{\"state\":\"HALF_OPEN\"}", Some(State::HalfOpen)),
+        ("{\"state\":\"DISABLED\"}", Some(State::Disabled)),
+        ("{\"state\":\"METRICS_ONLY\"}", Some(State::MetricsOnly)),
+        ("{\"state\":\"FORCED_OPEN\"}", Some(State::ForcedOpen)),
+        ("{\"state\":\"closed\"}", None),
+        ("{\"state\":null}", None),
+        ("{\"to\":\"OPEN\"}", None),
+    ] {
+        let value = value(&rt, rt.alloc(), text);
+        assert_eq!(rt; state(&value), found, "{text}");
+    }
+}
+
+#[test]
 fn other_configurations_are_refused(rt: HostRuntime) {
     for text in [
         "[]",
@@ -96,6 +146,8 @@ fn other_configurations_are_refused(rt: HostRuntime) {
         "{\"slidingWindowType\":\"OTHER\"}",
         "{\"slidingWindowtype\":\"COUNT_BASED\"}",
         "{\"ringBufferSize\":10}",
+        "{\"slidingWindowType\":\"TIME_BASED\",\"slidingWindowSize\":3601}",
+        "{\"slidingWindowType\":\"TIME_BASED\",\"slidingWindowSize\":0}",
     ] {
         let value = value(&rt, rt.alloc(), text);
         assert!(rt; config(&value).is_none(), "{text}");

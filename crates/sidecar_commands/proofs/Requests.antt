@@ -3,12 +3,11 @@ use Rattle.std.proofs.Common.{◌≡◌, ℕ, List, Option, inl, inr, sym, ap, �
 use Rattle.sidecar_commands.specs.declared.commands.Request.{Request}
 use Rattle.sidecar_commands.specs.declared.commands.Request.TheVariants as request
 use Rattle.sidecar_commands.specs.declared.commands.Status.{Status}
-use Rattle.abs_domain.specs.declared.domain.Domain.{Ghosts}
 use Rattle.sidecar_commands.specs.Commands.{Words, word, IsRequest, IsDone, HasAnswered, HasJudged, HasVerified, HasDisassembled}
 
-pub answered : {X : Type 0} (domain : Ghosts X) (words : Words) (r : Request) (known : Option (List ℕ)) (ended : Status) (before after : Option (List ℕ)) → IsRequest words r → IsDone domain r known ended before after → HasAnswered domain words known ended before after
-answered domain words (request.Judge program) known ended before after asked done = inl (asked.0, subst (λ (p : List ℕ). HasJudged domain p known ended before after) asked.1 done)
-answered domain words (request.Verify program) known ended before after asked done = inr (inl (asked.0, subst (λ (p : List ℕ). HasVerified domain p ended before after) asked.1 done))
-answered domain words request.Replay known ended before after asked done = inr (inr (inl (asked, done)))
-answered domain words request.Assemble known ended before after asked done = inr (inr (inr (inl (asked, done))))
-answered domain words (request.Disassemble program) known ended before after asked done = inr (inr (inr (inr (asked.0, subst (λ (p : List ℕ). HasDisassembled p ended before after) asked.1 done))))
+pub answered : (words : Words) (r : Request) (known : Option (List ℕ)) (ended : Status) (before after : Option (List ℕ)) → IsRequest words r → IsDone r known ended before after → HasAnswered words known ended before after
+answered words (request.Judge program) known ended before after asked done = inl (asked.0, subst (λ (p : List ℕ). HasJudged p known ended before after) asked.1 done)
+answered words (request.Verify program) known ended before after asked done = inr (inl (asked.0, subst (λ (p : List ℕ). HasVerified p ended before after) asked.1 done))
+answered words request.Replay known ended before after asked done = inr (inr (inl (asked, done)))
+answered words request.Assemble known ended before after asked done = inr (inr (inr (inl (asked, done))))
+answered words (request.Disassemble program) known ended before after asked done = inr (inr (inr (inr (asked.0, subst (λ (p : List ℕ). HasDisassembled p ended before after) asked.1 done))))

@@ -2,7 +2,6 @@
 use Rattle.std.specs.Prelude.{◌≡◌, ◌⊎◌, ℕ, List, length, Option, Some, None}
 use Rattle.serde_json.specs.Data.{Data}
 use Rattle.refusals.specs.declared.RefusalNumber.TheVariants.{ProgramOutOfMemory, BadHex, BadJson, BadValue}
-use Rattle.abs_domain.specs.declared.domain.Domain.{Ghosts}
 use Rattle.bpf_profile.specs.declared.slot.Slot.{Slot}
 use Rattle.bpf_profile.specs.Meaning.{Judges}
 use Rattle.bpf_profile.specs.Outcomes.{Outcome}
@@ -20,22 +19,22 @@ use Rattle.sidecar_commands.specs.Hexadecimal.{hex_of}
 
 -- ---- programs
 
--- the text is hexadecimal of a program with these slots, which the analysis over the domain accepts, and which is safe with this budget
-abbrev pub IsAdmitted : {X : Type 0} → Ghosts X → List ℕ → List Slot → ℕ → Type 0
-IsAdmitted domain text slots budget = (bytes : List ℕ) × (hex_of text ≡ Some bytes) × Spells bytes slots × IsAccepted domain slots × IsSafe context_size slots budget
+-- the text is hexadecimal of a program with these slots, which flow and analysis accept, and which is safe with this budget
+abbrev pub IsAdmitted : List ℕ → List Slot → ℕ → Type 0
+IsAdmitted text slots budget = (bytes : List ℕ) × (hex_of text ≡ Some bytes) × Spells bytes slots × IsAccepted slots × IsSafe context_size slots budget
 
 -- why the text is no program that is accepted: memory ran out, it is no hexadecimal, or its bytes are refused for their first fault
-abbrev pub IsTextRefused : {X : Type 0} → Ghosts X → List ℕ → Fault → Type 0
-IsTextRefused domain text fault =
+abbrev pub IsTextRefused : List ℕ → Fault → Type 0
+IsTextRefused text fault =
     (fault.number ≡ ProgramOutOfMemory)
     ⊎ ((fault.number ≡ BadHex) × (hex_of text ≡ None))
-    ⊎ ((bytes : List ℕ) × (hex_of text ≡ Some bytes) × IsRefused domain bytes (record { slot = fault.place; number = fault.number }))
+    ⊎ ((bytes : List ℕ) × (hex_of text ≡ Some bytes) × IsRefused bytes (record { slot = fault.place; number = fault.number }))
 
 -- what `verify` answers
-abbrev pub IsVerifyAnswer : {X : Type 0} → Ghosts X → List ℕ → Answer → Type 0
-IsVerifyAnswer domain text (answer.Judged verdict steps budget) = ⊥
-IsVerifyAnswer domain text (answer.Accepted budget count) = (slots : List Slot) × IsAdmitted domain text slots budget × (count ≡ length slots)
-IsVerifyAnswer domain text (answer.Refused fault) = IsTextRefused domain text fault
+abbrev pub IsVerifyAnswer : List ℕ → Answer → Type 0
+IsVerifyAnswer text (answer.Judged verdict steps budget) = ⊥
+IsVerifyAnswer text (answer.Accepted budget count) = (slots : List Slot) × IsAdmitted text slots budget × (count ≡ length slots)
+IsVerifyAnswer text (answer.Refused fault) = IsTextRefused text fault
 
 -- ---- outcomes
 
@@ -62,12 +61,12 @@ IsAllOf None text = Unit {0}
 IsAllOf (Some known) text = text ≡ known
 
 -- a program that is admitted answers so to the outcome that is read
-abbrev pub IsAnswered : {X : Type 0} → Ghosts X → List ℕ → Option (List ℕ) → Answer → Type 0
-IsAnswered domain text known answered =
+abbrev pub IsAnswered : List ℕ → Option (List ℕ) → Answer → Type 0
+IsAnswered text known answered =
     (program : VerifiedProgram) × (read : List ℕ)
-    × IsAdmitted domain text program.slots program.budget × IsAllOf known read × IsJudgement program read answered
+    × IsAdmitted text program.slots program.budget × IsAllOf known read × IsJudgement program read answered
 
 -- what `judge` answers: a refused program comes first
-abbrev pub IsJudgeAnswer : {X : Type 0} → Ghosts X → List ℕ → Option (List ℕ) → Answer → Type 0
-IsJudgeAnswer domain text known (answer.Refused fault) = IsTextRefused domain text fault ⊎ IsAnswered domain text known (answer.Refused fault)
-IsJudgeAnswer domain text known answered = IsAnswered domain text known answered
+abbrev pub IsJudgeAnswer : List ℕ → Option (List ℕ) → Answer → Type 0
+IsJudgeAnswer text known (answer.Refused fault) = IsTextRefused text fault ⊎ IsAnswered text known (answer.Refused fault)
+IsJudgeAnswer text known answered = IsAnswered text known answered

@@ -13,7 +13,6 @@ use Rattle.sidecar_commands.specs.declared.commands.Request.{Request}
 use Rattle.sidecar_commands.specs.declared.commands.Request.TheVariants as request
 use Rattle.sidecar_commands.specs.declared.commands.Status.{Status}
 use Rattle.sidecar_commands.specs.declared.commands.Status.TheVariants as status
-use Rattle.abs_domain.specs.declared.domain.Domain.{Ghosts}
 use Rattle.sidecar_commands.specs.Answers.{IsAllOf, IsVerifyAnswer, IsJudgeAnswer}
 use Rattle.sidecar_commands.specs.Assembling.{IsAssembled, IsAssemblyRefused, IsDisassembled, IsDisassemblyRefused}
 use Rattle.sidecar_commands.specs.Text.{answer_text}
@@ -63,11 +62,11 @@ code_of status.WrongArguments = 2
 abbrev pub IsPrinted : Answer → Status → Option (List ℕ) → Option (List ℕ) → Type 0
 IsPrinted answered ended before after = (ended ≡ status_of answered) × Appends before after (answer_text answered ++ 10 ∷ [])
 
-abbrev pub HasJudged : {X : Type 0} → Ghosts X → List ℕ → Option (List ℕ) → Status → Option (List ℕ) → Option (List ℕ) → Type 0
-HasJudged domain program known ended before after = (answered : Answer) × IsJudgeAnswer domain program known answered × IsPrinted answered ended before after
+abbrev pub HasJudged : List ℕ → Option (List ℕ) → Status → Option (List ℕ) → Option (List ℕ) → Type 0
+HasJudged program known ended before after = (answered : Answer) × IsJudgeAnswer program known answered × IsPrinted answered ended before after
 
-abbrev pub HasVerified : {X : Type 0} → Ghosts X → List ℕ → Status → Option (List ℕ) → Option (List ℕ) → Type 0
-HasVerified domain program ended before after = (answered : Answer) × IsVerifyAnswer domain program answered × IsPrinted answered ended before after
+abbrev pub HasVerified : List ℕ → Status → Option (List ℕ) → Option (List ℕ) → Type 0
+HasVerified program ended before after = (answered : Answer) × IsVerifyAnswer program answered × IsPrinted answered ended before after
 
 -- how a command ends after a replay
 abbrev pub IsEnded : Ended → Status → Option (List ℕ) → Option (List ℕ) → Type 0
@@ -92,18 +91,18 @@ HasDisassembled program ended before after =
     ⊎ ((fault : Fault) × IsDisassemblyRefused program fault × IsPrinted (answer.Refused fault) ended before after)
 
 -- what was asked for was done, where the reader has these bytes
-abbrev pub IsDone : {X : Type 0} → Ghosts X → Request → Option (List ℕ) → Status → Option (List ℕ) → Option (List ℕ) → Type 0
-IsDone domain (request.Judge program) known ended before after = HasJudged domain program.now known ended before after
-IsDone domain (request.Verify program) known ended before after = HasVerified domain program.now ended before after
-IsDone domain request.Replay known ended before after = HasReplayed known ended before after
-IsDone domain request.Assemble known ended before after = HasAssembled known ended before after
-IsDone domain (request.Disassemble program) known ended before after = HasDisassembled program.now ended before after
+abbrev pub IsDone : Request → Option (List ℕ) → Status → Option (List ℕ) → Option (List ℕ) → Type 0
+IsDone (request.Judge program) known ended before after = HasJudged program.now known ended before after
+IsDone (request.Verify program) known ended before after = HasVerified program.now ended before after
+IsDone request.Replay known ended before after = HasReplayed known ended before after
+IsDone request.Assemble known ended before after = HasAssembled known ended before after
+IsDone (request.Disassemble program) known ended before after = HasDisassembled program.now ended before after
 
 -- what the words ask for was done, where the reader has these bytes
-abbrev pub HasAnswered : {X : Type 0} → Ghosts X → Words → Option (List ℕ) → Status → Option (List ℕ) → Option (List ℕ) → Type 0
-HasAnswered domain words known ended before after =
-    (Names words (codes "judge") × HasJudged domain (word words 1) known ended before after)
-    ⊎ (Names words (codes "verify") × HasVerified domain (word words 1) ended before after)
+abbrev pub HasAnswered : Words → Option (List ℕ) → Status → Option (List ℕ) → Option (List ℕ) → Type 0
+HasAnswered words known ended before after =
+    (Names words (codes "judge") × HasJudged (word words 1) known ended before after)
+    ⊎ (Names words (codes "verify") × HasVerified (word words 1) ended before after)
     ⊎ (NamesAlone words (codes "replay") × HasReplayed known ended before after)
     ⊎ (NamesAlone words (codes "asm") × HasAssembled known ended before after)
     ⊎ (Names words (codes "dis") × HasDisassembled (word words 1) ended before after)

@@ -7,10 +7,6 @@ ghost use Rattle.sidecar_commands.specs.Commands.{Names, NamesNone, IsRequest, I
 use crate::answer::{Answer, Fault};
 use crate::assembling::{assembled, disassembled};
 use crate::judging::{judge, verify};
-use abs_domain::Domain;
-use known_bits::KnownBits;
-use product_domain::Both;
-use ranges::Range;
 use refusals::RefusalNumber;
 use replay::{Ended, replay};
 use std::alloc::Global;
@@ -55,7 +51,7 @@ impl<'a> Request<'a> {
         reader: &mut R,
         out: &mut O,
     ) -> io::Result<Status>
-        ensures done { IfOk result (λ status. IsDone ⟦<Both<Range, KnownBits> as Domain>⟧ self.now (R.remaining reader.old) status (O.contents out.old) (O.contents out.new)) }
+        ensures done { IfOk result (λ status. IsDone self.now (R.remaining reader.old) status (O.contents out.old) (O.contents out.new)) }
         ensures right { IfOk result (λ status. status ≢ Status.WrongArguments) }
     {
         match self {
@@ -197,7 +193,7 @@ fn run<R: Read, O: Write, E: Write>(
     err: &mut E,
 ) -> io::Result<Status>
     ensures answered { IfOk result (λ status. (status ≡ Status.WrongArguments)
-        ⊎ HasAnswered ⟦<Both<Range, KnownBits> as Domain>⟧ words.now (R.remaining reader.old) status (O.contents out.old) (O.contents out.new)) }
+        ⊎ HasAnswered words.now (R.remaining reader.old) status (O.contents out.old) (O.contents out.new)) }
     ensures wrong { IfOk result (λ status. status ≡ Status.WrongArguments
         → NamesNone words.now × Appends (E.contents err.old) (E.contents err.new) usage) }
     ensures silent { NamesNone words.now → out.new ≡ out.old }
@@ -223,7 +219,7 @@ pub fn command<R: Read, O: Write, E: Write>(
     err: &mut E,
 ) -> u8
     // With status 0 the command's answer was printed.
-    ensures done { result ≡ 0 → HasAnswered ⟦<Both<Range, KnownBits> as Domain>⟧ words.now (R.remaining reader.old) Status.Done (O.contents out.old) (O.contents out.new) }
+    ensures done { result ≡ 0 → HasAnswered words.now (R.remaining reader.old) Status.Done (O.contents out.old) (O.contents out.new) }
     // With status 2 the words name no command, and the usage was printed.
     ensures wrong { result ≡ 2 → NamesNone words.now × Appends (E.contents err.old) (E.contents err.new) usage }
     // Words that name no command print nothing on `out`.

@@ -6,12 +6,8 @@ ghost use Rattle.sidecar_commands.specs.Answers.{IsAdmitted, IsTextRefused, IsOu
 
 use crate::answer::{Answer, Fault};
 use crate::hexadecimal::hex_bytes;
-use abs_domain::Domain;
 use bpf_run::run;
 use helpers::Record;
-use known_bits::KnownBits;
-use product_domain::Both;
-use ranges::Range;
 use refusals::RefusalNumber;
 use requests::json;
 use serde_json::Value;
@@ -30,8 +26,8 @@ pub(crate) fn unplaced(number: RefusalNumber) -> Fault
 
 /// The verified program of hexadecimal text.
 fn admitted(alloc: Global, text: &str) -> Result<Verified, Fault>
-    ensures ok { IfOk result (λ program. IsAdmitted ⟦<Both<Range, KnownBits> as Domain>⟧ text.now program.slots program.budget) }
-    ensures err { IfErr result (λ fault. IsTextRefused ⟦<Both<Range, KnownBits> as Domain>⟧ text.now fault) }
+    ensures ok { IfOk result (λ program. IsAdmitted text.now program.slots program.budget) }
+    ensures err { IfErr result (λ fault. IsTextRefused text.now fault) }
 {
     let bytes = match hex_bytes(alloc, text) {
         Ok(bytes) => bytes,
@@ -48,7 +44,7 @@ fn admitted(alloc: Global, text: &str) -> Result<Verified, Fault>
 
 /// The budget and the number of slots of a program in hexadecimal, or why it is refused.
 pub fn verify(alloc: Global, text: &str) -> Answer
-    ensures { IsVerifyAnswer ⟦<Both<Range, KnownBits> as Domain>⟧ text.now result }
+    ensures { IsVerifyAnswer text.now result }
 {
     match admitted(alloc, text) {
         Ok(program) => Answer::Accepted {
@@ -103,7 +99,7 @@ fn judge_outcome(alloc: Global, program: &Verified, text: &[u8]) -> Result<Answe
 /// refused. The program comes first: nothing is read where it is refused. An error comes where
 /// reading fails, or memory runs out behind the program.
 pub fn judge<R: Read>(alloc: Global, text: &str, reader: &mut R) -> io::Result<Answer>
-    ensures { IfOk result (λ answer. IsJudgeAnswer ⟦<Both<Range, KnownBits> as Domain>⟧ text.now (R.remaining reader.old) answer) }
+    ensures { IfOk result (λ answer. IsJudgeAnswer text.now (R.remaining reader.old) answer) }
 {
     let program = match admitted(alloc, text) {
         Ok(program) => program,

@@ -12,6 +12,8 @@ mod judging;
 #[cfg(test)]
 mod replay_tests;
 #[cfg(test)]
+mod service_tests;
+#[cfg(test)]
 mod tests;
 #[cfg(test)]
 mod text_tests;

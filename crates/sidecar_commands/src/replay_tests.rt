@@ -8,14 +8,14 @@ use std::test::Fail;
 
 const NO_CONFIG: &str = "refused 47 BadConfig\n";
 
-const ACQUIRED: &str = "200 {\"state\":\"CLOSED\",\"ticket\":1,\"version\":1}\n";
+pub(crate) const ACQUIRED: &str = "200 {\"state\":\"CLOSED\",\"ticket\":1,\"version\":1}\n";
 
-const ACQUIRED_AGAIN: &str = "200 {\"state\":\"CLOSED\",\"ticket\":2,\"version\":1}\n";
+pub(crate) const ACQUIRED_AGAIN: &str = "200 {\"state\":\"CLOSED\",\"ticket\":2,\"version\":1}\n";
 
-const FAILED: &str =
+pub(crate) const FAILED: &str =
     "200 {\"fate\":\"recorded\",\"state\":\"CLOSED\",\"steps\":6,\"verdict\":\"failure\",\"version\":1}\n";
 
-const SUCCEEDED: &str =
+pub(crate) const SUCCEEDED: &str =
     "200 {\"fate\":\"recorded\",\"state\":\"CLOSED\",\"steps\":6,\"verdict\":\"success\",\"version\":1}\n";
 
 const OPENED: &str =
@@ -23,14 +23,14 @@ const OPENED: &str =
 
 const BAD_JSON: &str = "400 {\"error\":58,\"name\":\"BadJson\"}\n";
 
-const BAD_VALUE: &str = "422 {\"error\":59,\"name\":\"BadField\"}\n";
+pub(crate) const BAD_VALUE: &str = "422 {\"error\":59,\"name\":\"BadField\"}\n";
 
 /// A service that was asked nothing.
 const FRESH: &str =
     "200 {\"budget\":6,\"entries\":0,\"failed\":0,\"failureRate\":-1,\"free\":25,\"notPermitted\":0,\"open\":0,\"period\":1,\"slow\":0,\"slowRate\":-1,\"state\":\"CLOSED\",\"total\":0,\"version\":1}\n";
 
 /// That a replay of this input ends so.
-fn replays(
+pub(crate) fn replays(
     rt: &impl Abort,
     alloc: Global,
     input: &[u8],
@@ -146,6 +146,7 @@ fn configurations_are_read_whole(rt: HostRuntime) -> Result<(), Fail> {
         " { } ",
         "{\"failureRateThreshold\":1,\"slowCallRateThreshold\":1,\"slowCallDurationThreshold\":1,\"permittedNumberOfCallsInHalfOpenState\":1,\"maxWaitDurationInHalfOpenState\":0,\"slidingWindowType\":\"COUNT_BASED\",\"slidingWindowSize\":1,\"minimumNumberOfCalls\":1,\"waitDurationInOpenState\":1,\"maxConcurrentCalls\":25,\"maxWaitDuration\":0}",
         "{\"failureRateThreshold\":100,\"slowCallRateThreshold\":100,\"slowCallDurationThreshold\":4294967296,\"permittedNumberOfCallsInHalfOpenState\":10000,\"slidingWindowSize\":10000,\"minimumNumberOfCalls\":1000000,\"waitDurationInOpenState\":1099511627776}",
+        "{\"slidingWindowType\":\"TIME_BASED\",\"slidingWindowSize\":3600}",
     ] {
         let input = format!(in alloc; "{good}\n{{\"at\":0,\"do\":\"read\"}}\n")?;
         replays(&rt, alloc, input.as_bytes(), 0, &[FRESH])?;
@@ -166,6 +167,7 @@ fn configurations_are_read_whole(rt: HostRuntime) -> Result<(), Fail> {
         "{\"waitDurationInOpenState\":18446744073709551616}",
         "{\"slidingWindowType\":\"count_based\"}",
         "{\"slidingWindowType\":1}",
+        "{\"slidingWindowType\":\"TIME_BASED\",\"slidingWindowSize\":3601}",
         "{\"maxConcurrentCalls\":10001}",
         "{\"failureratethreshold\":50}",
         "{\"at\":0,\"do\":\"read\"}",

@@ -1,5 +1,6 @@
 pub mod Analysis
 pub mod Memory
 pub mod Passes
+pub mod Product
 pub mod Programs
 pub mod Verifying

@@ -1,11 +1,11 @@
 -- What verifying answers.
 use Rattle.std.specs.Prelude.{◌≡◌, ◌⊎◌, ℕ, ◌<◌, List, length, slice_get, Some, None}
 use Rattle.refusals.specs.declared.RefusalNumber.TheVariants.{ProgramOutOfMemory}
-use Rattle.abs_domain.specs.declared.domain.Domain.{Ghosts}
 use Rattle.bpf_profile.specs.declared.slot.Slot.{Slot}
 use Rattle.bpf_profile.specs.Flow.{flow_fault, successors}
 use Rattle.bpf_profile.specs.Spelling.{Spells, Fault, first_fault}
 use Rattle.verifier.specs.Analysis.{analysis_fault, context_size}
+use Rattle.verifier.specs.Product.{product}
 use Rattle.verifier.specs.declared.refusal.Refusal.{Refusal}
 
 -- the refusal that says that memory ran out
@@ -16,16 +16,16 @@ abbrev pub fault_of : Refusal → Fault
 fault_of e = record { slot = e.slot; number = e.number }
 
 -- flow and analysis find no fault
-abbrev pub IsAccepted : {X : Type 0} → Ghosts X → List Slot → Type 0
-IsAccepted domain slots = (flow_fault slots ≡ None) × (analysis_fault domain context_size slots ≡ None)
+abbrev pub IsAccepted : List Slot → Type 0
+IsAccepted slots = (flow_fault slots ≡ None) × (analysis_fault product context_size slots ≡ None)
 
 -- the fault that a program is refused for: the first of its flow, or else the first of the analysis
-abbrev pub IsProgramRefused : {X : Type 0} → Ghosts X → List Slot → Fault → Type 0
-IsProgramRefused domain slots fault = (flow_fault slots ≡ Some fault) ⊎ ((flow_fault slots ≡ None) × (analysis_fault domain context_size slots ≡ Some fault))
+abbrev pub IsProgramRefused : List Slot → Fault → Type 0
+IsProgramRefused slots fault = (flow_fault slots ≡ Some fault) ⊎ ((flow_fault slots ≡ None) × (analysis_fault product context_size slots ≡ Some fault))
 
 -- the fault that bytes are refused for: the first of decoding, or else the program's
-abbrev pub IsRefused : {X : Type 0} → Ghosts X → List ℕ → Fault → Type 0
-IsRefused domain bytes fault = (first_fault bytes ≡ Some fault) ⊎ ((slots : List Slot) × Spells bytes slots × IsProgramRefused domain slots fault)
+abbrev pub IsRefused : List ℕ → Fault → Type 0
+IsRefused bytes fault = (first_fault bytes ≡ Some fault) ⊎ ((slots : List Slot) × Spells bytes slots × IsProgramRefused slots fault)
 
 -- the flow of a program, slot by slot
 pub record IsFlowOf (slots : List Slot) (edges : List (List ℕ)) : Type 0 where

@@ -11,7 +11,6 @@ ghost use Rattle.verifier.specs.Verifying.{out_of_memory, fault_of, IsAccepted, 
 use crate::analysis::analyse;
 use crate::decoded::decoded;
 use crate::refusal::Refusal;
-use abs_domain::Domain;
 use bpf_decode::Program;
 use bpf_profile::Instruction;
 use flow_check::check;
@@ -78,8 +77,8 @@ impl Verified {
 fn checked(alloc: Global, program: &Program) -> Result<u32, Refusal>
     ensures budget { IfOk result (λ budget. IsBudget program.now budget) }
     ensures safe { IfOk result (λ budget. IsSafe context_size program.now budget) }
-    ensures accepted { OnOk result (IsAccepted ⟦<Both<Range, KnownBits> as Domain>⟧ program.now) }
-    ensures refused { IfErr result (λ e. (e ≡ out_of_memory) ⊎ IsProgramRefused ⟦<Both<Range, KnownBits> as Domain>⟧ program.now (fault_of e)) }
+    ensures accepted { OnOk result (IsAccepted program.now) }
+    ensures refused { IfErr result (λ e. (e ≡ out_of_memory) ⊎ IsProgramRefused program.now (fault_of e)) }
 {
     let flow = match check(alloc, program) {
         Ok(flow) => flow,
@@ -114,10 +113,10 @@ fn kept(alloc: Global, program: Program, bytes: &[u8], budget: u32) -> Result<Ve
 pub fn verify(alloc: Global, bytes: &[u8]) -> Result<Verified, Refusal>
     // What is verified is spelled so, accepted by flow and analysis, and safe.
     ensures spelled { IfOk result (λ v. Spells bytes.now v.slots) }
-    ensures accepted { IfOk result (λ v. IsAccepted ⟦<Both<Range, KnownBits> as Domain>⟧ v.slots) }
+    ensures accepted { IfOk result (λ v. IsAccepted v.slots) }
     ensures safe { IfOk result (λ v. IsSafe context_size v.slots v.budget) }
     // A refusal is the first fault, unless memory ran out.
-    ensures refused { IfErr result (λ e. (e ≡ out_of_memory) ⊎ IsRefused ⟦<Both<Range, KnownBits> as Domain>⟧ bytes.now (fault_of e)) }
+    ensures refused { IfErr result (λ e. (e ≡ out_of_memory) ⊎ IsRefused bytes.now (fault_of e)) }
 {
     let program = match Program::decode(alloc, bytes) {
         Ok(program) => program,

@@ -2,3 +2,12 @@ use Rattle.book.proofs.machine.decided.Goals as goal
 
 pub returns-in-Acquire : goal.returns-in-Acquire
 returns-in-Acquire c = λ held. rw c.in-Acquire.is (c.acquired.ensures held)
+
+pub returns-in-Install : goal.returns-in-Install
+returns-in-Install c = λ held. rw (c.in-Install.is, ← c.deref.ensures) (c.installed.ensures c.args.config.now held)
+
+pub returns-in-Move : goal.returns-in-Move
+returns-in-Move c = λ held. rw c.in-Move.is (c.moved_to.ensures c.args.config.now c.args.registry.now held)
+
+pub returns-in-Reset : goal.returns-in-Reset
+returns-in-Reset c = λ held. rw c.in-Reset.is (c.moved_to-in-Reset.ensures c.args.config.now c.args.registry.now held)

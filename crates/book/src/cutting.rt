@@ -1,0 +1,87 @@
+//! The cut of a book: its entries are handed out, and it opens anew.
+ghost use Rattle.std.specs.Prelude.{◌≡◌, ◌||◌, false, IfOk, []};
+ghost use Rattle.book.specs.Answers.{IsCut, map_ok, is_past_the_limit, is_worn_out, reopened};
+ghost use Rattle.book.specs.Books.{history_of};
+ghost use Rattle.book.specs.Histories.{IsLegal, past_of};
+
+use crate::books::{Book, Start};
+use crate::events::Entry;
+use refusals::RefusalNumber;
+use std::alloc::AllocError;
+use std::mem;
+use std::sync::Arc;
+
+/// The greatest number that a book may open with.
+const GREATEST_NUMBER: u64 = 1 << 63;
+
+fn is_past_the_limit(number: u64) -> bool
+    ensures { result ≡ is_past_the_limit number }
+{
+    number > GREATEST_NUMBER
+}
+
+/// Whether one of the numbers that would come next is past the limit.
+fn are_worn_out(line: u64, ticket: u64, period: u64, version: u64) -> bool
+    ensures { result ≡ (is_past_the_limit line || (is_past_the_limit ticket || (is_past_the_limit period || is_past_the_limit version))) }
+{
+    is_past_the_limit(line)
+        || is_past_the_limit(ticket)
+        || is_past_the_limit(period)
+        || is_past_the_limit(version)
+}
+
+impl Book {
+    /// Whether a number that would go on is past its limit.
+    fn is_worn_out(&self) -> bool
+        ensures { result ≡ is_worn_out (past_of self.now) }
+    {
+        are_worn_out(
+            self.start.line + self.entries.len() as u64,
+            self.registry.next_ticket,
+            self.breaker.standing.period + 1,
+            self.registry.current_version() + 1,
+        )
+    }
+
+    /// The book that goes on from this one. Errors are want of memory.
+    fn reopened(&self) -> Result<Book, AllocError>
+        requires { is_worn_out (past_of self.now) ≡ false }
+        ensures opened { IfOk result (λ book. book ≡ history_of (reopened (past_of self.now)) []) }
+        ensures legal { IfOk result IsLegal }
+    {
+        let last = self.registry.programs.len() - 1;
+        let start = Start {
+            program: Arc::try_clone(&self.registry.programs[last])?,
+            version: self.registry.current_version(),
+            period: self.breaker.standing.period + 1,
+            ticket: self.registry.next_ticket,
+            line: self.start.line + self.entries.len() as u64,
+            moment: self.moment,
+        };
+        Book::begin(*self.entries.allocator(), self.config, start)
+    }
+
+    /// Hands out all entries, and opens anew: with the configuration, the program of new tickets under
+    /// its number as the only version, in CLOSED and a new period since the greatest moment. That moment
+    /// and all numbers go on. The refusal is `JournalFull` where a number that would go on is past 2^63,
+    /// then `TicketsOpen` where a ticket is open, `ServiceOutOfMemory` without memory; it changes nothing.
+    pub fn cut(&mut self) -> Result<Vec<Entry>, RefusalNumber>
+        ensures cut { IsCut self.old (map_ok (λ entries. entries.items) result) self.new }
+        ensures legal_before { IsLegal self.old }
+        ensures legal_after { IsLegal self.new }
+    {
+        if self.is_worn_out() {
+            return Err(RefusalNumber::JournalFull);
+        }
+        if !self.registry.open_tickets.is_empty() {
+            return Err(RefusalNumber::TicketsOpen);
+        }
+        match self.reopened() {
+            Ok(book) => {
+                let Book { entries, .. } = mem::replace(self, book);
+                Ok(entries)
+            }
+            Err(_) => Err(RefusalNumber::ServiceOutOfMemory),
+        }
+    }
+}
