@@ -18,7 +18,7 @@ use Rattle.book.specs.Events.{Line, Opening}
 use Rattle.book.specs.Following.{notes_after, tickets_after, one_where_some, is_refused_call, refused_after}
 use Rattle.book.specs.Histories.{Stage, Past, note_by, note_at, taken_in, notes_of, end_by, issue_by, install_by, situation_of, situation_after, machine, opened, passed, past_of, greatest, raised, next_line, refused_of, Follows, AreLegal, IsLegal}
 use Rattle.book.specs.Machine.{Situation, decision, is_entered}
-use Rattle.book.specs.Safe.{InstallsAccepted}
+use Rattle.book.specs.Safe.{IsSafeEvent, IsSafeLine}
 use Rattle.book.specs.Seen.{seen, line}
 use Rattle.book.specs.Situations.{situation, IsRoomy}
 use Rattle.book.specs.Sound.{IsSound}
@@ -80,7 +80,7 @@ roomy config start breaker registry held refused moment lines book =
     record {
       period = omega (arith, period, book.sound.period, book.sound.opening.period, few);
       notes = omega (arith, notes, mapped, taken, few);
-      ticket = omega (arith, ticket, book.sound.opening.ticket, book.sound.issued, few);
+      ticket = omega (arith, ticket, book.sound.opening.ticket, book.sound.few_issued, few);
       versions = omega (arith, first, programs, ap (λ (o : Opening). o.version) opening, book.sound.opening.version, book.sound.versions, length-map registry.programs.items arc_value);
     }
 
@@ -114,10 +114,10 @@ follows_there opening s refused moment lines number seat raw now e d book number
     }
 
 pub book_step : (opening : Opening) (s t : Situation) (refused moment later : ℕ) (lines : List Line) (number seat raw now : ℕ) (e : Event) (d : Decision)
-    → IsBook opening s refused moment lines → number ≡ opening.line + length lines → now ≡ max raw moment → d ≡ decision s now (seen e) → is_entered d.reply ≡ true → now < 2 ^ 64
-    → InstallsAccepted (seen e) → t ≡ situation_after s (line number seat (seen e) now d.reply) d.next → later ≡ refused_after s.standing d.next refused d.reply
+    → IsBook opening s refused moment lines → number ≡ opening.line + length lines → now ≡ max raw moment → d ≡ decision s now (seen e) → is_entered d.reply ≡ true → now < 2 ^ 64 → seat < 2 ^ 32
+    → IsSafeEvent (seen e) → t ≡ situation_after s (line number seat (seen e) now d.reply) d.next → later ≡ refused_after s.standing d.next refused d.reply
     → IsBook opening t later now (lines ++ line number seat (seen e) now d.reply ∷ [])
-book_step opening s t refused moment later lines number seat raw now e d book numbered raised_ decided entered word safe situated_ refused_ =
+book_step opening s t refused moment later lines number seat raw now e d book numbered raised_ decided entered word bits safe_ situated_ refused_ =
     let past : Past = past_of (history_of opening lines) in
     let l : Line = line number seat (seen e) now d.reply in
     let follows = follows_there opening s refused moment lines number seat raw now e d book numbered raised_ decided entered in
@@ -128,11 +128,17 @@ book_step opening s t refused moment later lines number seat raw now e d book nu
     let stage : Stage = record { line = l; before = past.standing; after = (machine past now (seen e)).next } in
     record {
       legal = legal_step opening lines l book.legal follows;
-      sound = subst (λ (p : Past). IsSound p) (sym with_) (sound_step past l book.sound follows safe word);
+      sound = subst (λ (p : Past). IsSound p) (sym with_) (sound_step past l book.sound follows (record { word = word; seat = bits; event = safe_ }));
       situated = situated_ ∙ ap (λ (u : Situation). situation_after u l d.next) book.situated ∙ ap (λ (n : Standing). situation_after (situation_of past) l n) next ∙ sym (situated_step past l book.sound follows) ∙ ap situation_of (sym with_);
       refused_calls = refused_ ∙ ap (λ (u : Situation). refused_after u.standing d.next refused d.reply) book.situated ∙ ap (λ (n : Standing). refused_after past.standing n refused d.reply) next ∙ ap (λ (n : ℕ). refused_after past.standing (machine past now (seen e)).next n d.reply) book.refused_calls ∙ sym (refused_step past.stages stage book.sound.periods near.least) ∙ ap refused_of (sym with_);
       greatest_moment = sym (greatest_step past.opening.moment past.stages stage follows.raises) ∙ ap greatest (sym with_);
     }
+
+-- the history stays sound with the line that follows
+pub sound_there : (opening : Opening) (s : Situation) (refused moment : ℕ) (lines : List Line) (l : Line) → IsBook opening s refused moment lines → Follows (past_of (history_of opening lines)) l → IsSafeLine l
+    → IsSound (past_of (history_of opening (lines ++ l ∷ [])))
+sound_there opening s refused moment lines l book follows safe_ =
+    subst (λ (p : Past). IsSound p) (sym (past_with opening lines l)) (sound_step (past_of (history_of opening lines)) l book.sound follows safe_)
 
 chosen_true : {A : Type 0} (b : Bool) (x y : A) → b ≡ true → (if b then x else y) ≡ x
 chosen_true true x y e = refl

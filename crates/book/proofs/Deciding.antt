@@ -24,9 +24,7 @@ use Rattle.book.specs.declared.windows.Totals.{Totals}
 use Rattle.book.specs.Events.{Happening, acquires, finishes, releases, installs, moves, resets}
 use Rattle.book.specs.Machine.{Situation, refused, in_state, overstays, at_moment, permissions_held, half_open_permission, permission_in, placed, admitted, acquired, current_version, open_ticket, is_open, is_issued, program_from, same_program, is_ignored, fate_of, next_by, concluded, finished_by, finished_under, finished, released_under, released, installed, decided, used, is_full, decision, is_entered_refusal}
 use Rattle.book.specs.Rates.{after_totals, either_reaches, minimum}
-use Rattle.book.specs.Configuration.{bad_field}
 use Rattle.book.specs.Standings.{moved, is_half_open, is_disabled}
-use Rattle.book.proofs.Configured.{no_stay}
 use Rattle.book.specs.Verdicts.{judgement}
 
 -- ---- where the breaker stands: just as before, or some periods later
@@ -153,14 +151,28 @@ abbrev pub HasPermission : Situation → Standing → Type 0
 HasPermission s next = is_half_open next.state ≡ true → next.period ≡ s.standing.period
     → permissions_held s.standing.period s.open_tickets + length s.notes < s.config.permitted_number_of_calls_in_half_open_state
 
--- a recorded verdict isn't ignored, and its ticket is of the present period
-abbrev pub IsPresent : Situation → ℕ → Fate → Verdict → Type 0
-IsPresent s ticket f v = f ≡ fate.Recorded → (t : OpenTicket) × (open_ticket s.open_tickets ticket ≡ Some t) × (t.period ≡ s.standing.period) × (is_ignored v ≡ false)
+-- the ticket of a recorded verdict is of the period that goes on
+abbrev pub IsPresent : Situation → Standing → ℕ → Fate → Type 0
+IsPresent s next ticket f = f ≡ fate.Recorded → next.period ≡ s.standing.period → (t : OpenTicket) × (open_ticket s.open_tickets ticket ≡ Some t) × (t.period ≡ s.standing.period)
+
+-- a recorded verdict isn't ignored
+abbrev pub IsCounted : Fate → Verdict → Type 0
+IsCounted f v = f ≡ fate.Recorded → is_ignored v ≡ false
+
+-- the verdict is that of the program of the version with which the open ticket was issued
+pub record IsByVersion (s : Situation) (work : Work) (ticket : ℕ) (v : Verdict) (steps version : ℕ) : Type 0 where
+  pub opened : OpenTicket
+  pub found : open_ticket s.open_tickets ticket ≡ Some opened
+  pub of_version : opened.version ≡ version
+  pub program : VerifiedProgram
+  pub held : program_from s.first_version s.programs version ≡ Some program
+  pub verdict_is : (judgement program work.outcome).verdict ≡ v
+  pub steps_are : (judgement program work.outcome).steps ≡ steps
 
 pub data Shape (s : Situation) (event : Happening) (d : Decision) : Type 0 where
   refuses : (number : RefusalNumber) → d.reply ≡ reply.Refused number → (is_entered_refusal number ≡ true → used s ≤ 65535) → Shape s event d
   permits : (version : ℕ) (st : State) → event ≡ acquires → d.reply ≡ reply.Permitted s.next_ticket version st → used s ≤ 65534 → length s.open_tickets < s.config.max_concurrent_calls → HasPermission s d.next → Shape s event d
-  concludes : (work : Work) (ticket : ℕ) (f : Fate) (v : Verdict) (steps version : ℕ) (st : State) → event ≡ finishes work ticket → d.reply ≡ reply.Finished f v steps version st → is_open s.open_tickets ticket ≡ true → IsPresent s ticket f v → Shape s event d
+  concludes : (work : Work) (ticket : ℕ) (f : Fate) (v : Verdict) (steps version : ℕ) (st : State) → event ≡ finishes work ticket → d.reply ≡ reply.Finished f v steps version st → is_open s.open_tickets ticket ≡ true → IsPresent s d.next ticket f → IsCounted f v → IsByVersion s work ticket v steps version → Shape s event d
   lets_go : (ticket : ℕ) (st : State) → event ≡ releases ticket → d.reply ≡ reply.Released st → is_open s.open_tickets ticket ≡ true → Shape s event d
   takes_in : (program : VerifiedProgram) (version budget : ℕ) → event ≡ installs program → d.reply ≡ reply.Installed version budget → length s.programs < 256 → used s ≤ 65535 → Shape s event d
   turns : (st : State) (period : ℕ) → d.reply ≡ reply.Moved st period → used s ≤ 65535 → Shape s event d
@@ -261,20 +273,22 @@ unignored true false verdict.Ignored e = absurd (not_recorded fate.Ignored e (in
 unignored true false verdict.Success e = refl
 unignored true false verdict.Failure e = refl
 
-finished_by_shape : (s : Situation) (moment : ℕ) (t : OpenTicket) (work : Work) (ticket : ℕ) (program : Option VerifiedProgram) → is_open s.open_tickets ticket ≡ true → open_ticket s.open_tickets ticket ≡ Some t → Shape s (finishes work ticket) (finished_by s moment t work program)
-finished_by_shape s moment t work ticket None there found = unentered_shape s (finishes work ticket) s.standing refusal.Stranger refl
-finished_by_shape s moment t work ticket (Some program) there found =
+finished_by_shape : (s : Situation) (moment : ℕ) (t : OpenTicket) (work : Work) (ticket : ℕ) (program : Option VerifiedProgram) → program_from s.first_version s.programs t.version ≡ program → is_open s.open_tickets ticket ≡ true → open_ticket s.open_tickets ticket ≡ Some t → Shape s (finishes work ticket) (finished_by s moment t work program)
+finished_by_shape s moment t work ticket None held there found = unentered_shape s (finishes work ticket) s.standing refusal.Stranger refl
+finished_by_shape s moment t work ticket (Some program) held there found =
     let j : Judgement = judgement program work.outcome in
     let d : Decision = concluded s moment t work.outcome j in
     either_shape (same_program work.program program) s (finishes work ticket) d (refused s.standing refusal.Stranger)
     (λ e. concludes work ticket (fate_of s.standing t j.verdict) j.verdict j.steps t.version d.next.state refl refl there
-    (λ r. (t, found, recorded_fate s.standing t j.verdict (t.period == s.standing.period) refl r, unignored (t.period == s.standing.period) (is_disabled s.standing.state) j.verdict r)))
+    (λ r same. (t, found, recorded_fate s.standing t j.verdict (t.period == s.standing.period) refl r))
+    (λ r. unignored (t.period == s.standing.period) (is_disabled s.standing.state) j.verdict r)
+    (record { opened = t; found = found; of_version = refl; program = program; held = held; verdict_is = refl; steps_are = refl }))
     (λ e. unentered_shape s (finishes work ticket) s.standing refusal.Stranger refl)
 
 finished_under_shape : (s : Situation) (moment : ℕ) (work : Work) (ticket : ℕ) (found : Option OpenTicket)
     → (nat_lt 65535 (used s) && not (is_open s.open_tickets ticket)) ≡ false → open_ticket s.open_tickets ticket ≡ found → Shape s (finishes work ticket) (finished_under s moment work found)
 finished_under_shape s moment work ticket None full e = refused_shape s (finishes work ticket) s.standing refusal.TicketSpent (closed_room s ticket full (lost_closed s.open_tickets ticket e))
-finished_under_shape s moment work ticket (Some t) full e = finished_by_shape s moment t work ticket (program_from s.first_version s.programs t.version) (found_open s.open_tickets ticket t e) e
+finished_under_shape s moment work ticket (Some t) full e = finished_by_shape s moment t work ticket (program_from s.first_version s.programs t.version) refl (found_open s.open_tickets ticket t e) e
 
 finished_shape : (s : Situation) (moment : ℕ) (work : Work) (ticket : ℕ) → (nat_lt 65535 (used s) && not (is_open s.open_tickets ticket)) ≡ false → OpenAreIssued s → Shape s (finishes work ticket) (finished s moment work ticket)
 finished_shape s moment work ticket full issued =
@@ -308,13 +322,37 @@ decided_shape s moment (installs program) full issued = installed_shape s progra
 decided_shape s moment (moves to) full issued = turns to (suc s.standing.period) refl (ltb-false 65535 (used s) full)
 decided_shape s moment resets full issued = turns state.Closed (suc s.standing.period) refl (ltb-false 65535 (used s) full)
 
-full_or_decided : (s t : Situation) (moment : ℕ) (event : Happening) → t ≡ s → is_full s event ≡ false → OpenAreIssued s → Shape s event (decided t moment event)
-full_or_decided s t moment event same full issued = rw same (decided_shape s moment event full issued)
+-- ---- where a stay in HALF_OPEN has lasted too long, the event is taken in OPEN
 
--- with no longest stay in HALF_OPEN
-pub decision_shape : (s : Situation) (moment : ℕ) (event : Happening) → bad_field s.config ≡ None → OpenAreIssued s → Shape s event (decision s moment event)
+-- whether the journal is full doesn't depend on where the breaker stands
+full_in_open : (s : Situation) (moment : ℕ) (event : Happening) → is_full s event ≡ false → is_full (in_state state.Open moment s) event ≡ false
+full_in_open s moment acquires full = full
+full_in_open s moment (finishes work ticket) full = full
+full_in_open s moment (releases ticket) full = full
+full_in_open s moment (installs program) full = full
+full_in_open s moment (moves to) full = full
+full_in_open s moment resets full = full
+
+-- an event that is taken after a transition has the shape that it has in the situation before
+after_expiry : (s : Situation) (moment : ℕ) (event : Happening) (d : Decision) → IsNear (in_state state.Open moment s).standing d.next 1 → Shape (in_state state.Open moment s) event d → Shape s event d
+after_expiry s moment event d near (refuses number e room) = refuses number e room
+after_expiry s moment event d near (permits version st e r room free given) = permits version st e r room free (λ h same. absurd (omega (arith, same, near.least)))
+after_expiry s moment event d near (concludes work ticket f v steps version st e r there present counted version_is) =
+    concludes work ticket f v steps version st e r there (λ g same. absurd (omega (arith, same, near.least))) counted
+    (record { opened = version_is.opened; found = version_is.found; of_version = version_is.of_version; program = version_is.program; held = version_is.held; verdict_is = version_is.verdict_is; steps_are = version_is.steps_are })
+after_expiry s moment event d near (lets_go ticket st e r there) = lets_go ticket st e r there
+after_expiry s moment event d near (takes_in program version budget e r less room) = takes_in program version budget e r less room
+after_expiry s moment event d near (turns st period e room) = turns st period e room
+
+by_stay : (test : Bool) (s : Situation) (moment : ℕ) (event : Happening) → is_full s event ≡ false → OpenAreIssued s → Shape s event (decided (if test then in_state state.Open moment s else s) moment event)
+by_stay true s moment event full issued =
+    after_expiry s moment event (decided (in_state state.Open moment s) moment event) (decided_near (in_state state.Open moment s) moment event)
+    (decided_shape (in_state state.Open moment s) moment event (full_in_open s moment event full) issued)
+by_stay false s moment event full issued = decided_shape s moment event full issued
+
+pub decision_shape : (s : Situation) (moment : ℕ) (event : Happening) → OpenAreIssued s → Shape s event (decision s moment event)
 unfolding decision
-decision_shape s moment event good issued =
+decision_shape s moment event issued =
     either_shape (is_full s event) s event (refused s.standing refusal.JournalFull) (decided (at_moment s moment) moment event)
     (λ e. unentered_shape s event s.standing refusal.JournalFull refl)
-    (λ e. full_or_decided s (at_moment s moment) moment event (no_stay s moment good) e issued)
+    (λ e. by_stay (overstays s moment) s moment event e issued)

@@ -1,11 +1,11 @@
 -- The verdict of a safe program is the meaning's, and judged work carries it.
-use Rattle.std.proofs.Common.{◌≡◌, ℕ, zero, suc, ◌<◌, List, Option, Some, Ok, arith, refl, ap, sym, ◌∙◌, subst}
+use Rattle.std.proofs.Common.{◌≡◌, ℕ, zero, suc, ◌-◌, ◌<◌, nat_le, Bool, true, false, if◌then◌else◌, List, slice_get, Option, Some, None, Ok, arith, refl, ap, sym, ◌∙◌, subst}
 use Rattle.std.specs.Option.{option_map_or}
 use Rattle.bpf_profile.specs.declared.machine.Verdict.{Verdict}
 use Rattle.bpf_profile.specs.declared.machine.Verdict.TheVariants as verdict
 use Rattle.bpf_profile.specs.declared.slot.Slot.{Slot}
 use Rattle.bpf_profile.specs.Machine.{State, answers}
-use Rattle.bpf_profile.specs.Meaning.{step, entry, Reaches, Judges, answer_of}
+use Rattle.bpf_profile.specs.Meaning.{step, entry, Reaches, Ends, Judges, answer_of}
 use Rattle.bpf_profile.specs.Outcomes.{Outcome, IsOutcome}
 use Rattle.bpf_profile.specs.Safety.{IsSafe}
 use Rattle.bpf_profile.specs.Spelling.{Spells}
@@ -13,7 +13,11 @@ use Rattle.bpf_profile.proofs.Runs.{ends_agree}
 use Rattle.bpf_decode.proofs.Spelled.{same_slots}
 use Rattle.verifier.specs.Analysis.{context_size}
 use Rattle.verifier.specs.Programs.{VerifiedProgram}
+use Rattle.bpf_profile.proofs.Runs.{named_answer}
 use Rattle.book.specs.declared.machine.Judgement.{Judgement}
+use Rattle.book.specs.Machine.{program_from}
+use Rattle.book.specs.Safe.{IsSafeProgram, AreSafePrograms}
+use Rattle.book.proofs.Lists.{got}
 use Rattle.book.specs.Verdicts.{Ending, one_later, ending_of, ending_within, verdict_of, judged_as, judgement}
 
 pub ending_of_run : (slots : List Slot) (outcome : Outcome) (count left : ℕ) (s t : State) (n : ℕ)
@@ -59,3 +63,21 @@ pub judgement_by_slots : (program : VerifiedProgram) (slots : List Slot) (outcom
     → judgement program outcome ≡ record { verdict = v; steps = steps }
 judgement_by_slots program slots outcome v steps same safe fits judges =
     judgement_is program outcome v steps safe fits (subst (λ (s : List Slot). Judges context_size s outcome v steps) same judges)
+
+-- the judgement of a safe program is the meaning's
+pub judgement_judges : (program : VerifiedProgram) (outcome : Outcome) → IsSafeProgram program → IsOutcome context_size outcome
+    → Judges context_size program.slots outcome (judgement program outcome).verdict (judgement program outcome).steps
+judgement_judges program outcome safe_ fits =
+    let ends = safe_.safe.ends outcome fits in
+    let name = named_answer ends.0 ends.2 in
+    let judges : Judges context_size program.slots outcome name.0 ends.1 = subst (λ (n : ℕ). Ends context_size program.slots outcome n ends.1) (sym name.1) ends.4 in
+    let same = judgement_is program outcome name.0 ends.1 safe_.safe fits judges in
+    subst (λ (j : Judgement). Judges context_size program.slots outcome j.verdict j.steps) (sym same) judges
+
+program_by : (test : Bool) (programs : List VerifiedProgram) (place : ℕ) (program : VerifiedProgram) → AreSafePrograms programs → (if test then slice_get programs place else None) ≡ Some program → IsSafeProgram program
+program_by true programs place program all e = got IsSafeProgram programs place program all e
+program_by false programs place program all e = let bad : ◌≡◌ {A = Option VerifiedProgram} None (Some program) = e in cc
+
+-- the program of a version that is held is safe
+pub program_safe : (first : ℕ) (programs : List VerifiedProgram) (version : ℕ) (program : VerifiedProgram) → AreSafePrograms programs → program_from first programs version ≡ Some program → IsSafeProgram program
+program_safe first programs version program all e = program_by (nat_le first version) programs (version - first) program all e

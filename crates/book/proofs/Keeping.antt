@@ -12,15 +12,16 @@ use Rattle.book.specs.declared.replies.Reply.{Reply}
 use Rattle.book.specs.declared.replies.Reply.TheVariants as reply
 use Rattle.book.specs.Events.{Happening, acquires, finishes, releases, installs, moves, resets, Line}
 use Rattle.book.specs.Following.{is_number, tickets_after, one_where_some, notes_after}
-use Rattle.book.specs.Histories.{Stage, Past, issue_by, end_by, end_at, ended, open_of, install_by, install_at, programs_of, notes_of, situation_of, situation_after, machine, passed, Follows}
+use Rattle.book.specs.Histories.{Stage, Past, issue_by, issue_at, issued, end_by, end_at, ended, open_of, install_by, install_at, programs_of, notes_of, situation_of, situation_after, machine, passed, Follows}
 use Rattle.book.specs.Machine.{Situation, used, is_open, is_entered}
-use Rattle.book.specs.Safe.{IsAccepted, AreAccepted, InstallsAccepted}
-use Rattle.book.specs.Sound.{IsSound, next_ticket}
+use Rattle.book.specs.Safe.{IsSafeProgram, AreSafePrograms, IsSafeEvent, IsSafeLine}
+use Rattle.book.specs.Sound.{IsMeantLine, IsSound, next_ticket}
 use Rattle.book.proofs.Deciding.{Shape, refuses, permits, concludes, lets_go, takes_in, turns, decision_shape, decision_near, OpenAreIssued}
 use Rattle.book.specs.Histories.{note_by}
 use Rattle.book.specs.Machine.{permissions_held}
 use Rattle.book.specs.Standings.{is_half_open}
 use Rattle.book.proofs.Configured.{ranges, within_least}
+use Rattle.book.proofs.Meaning.{still_meant, meant_by}
 use Rattle.book.proofs.Permissions.{permissions_after}
 use Rattle.book.proofs.Lists.{all_kept, all_kept_by, fewer_kept, map_with, all_append, all_weaken}
 use Rattle.book.proofs.Passing.{AreBefore, IsFresh, notes_step, open_step, issued_step, greatest_step}
@@ -141,7 +142,7 @@ move_of s event d (refuses number e room) entered most few =
     rw e (still s.held s.open_tickets s.next_ticket (length s.programs) event (reply.Refused number) d.next.period (end_refused event number) refl (install_refused event number) (room (subst (λ (x : Reply). is_entered x ≡ true) e entered)) few)
 move_of s event d (permits version st e f room free given) entered most few =
     rw (e, f) (permit_move s.held s.open_tickets s.next_ticket (length s.programs) version st d.next.period room few)
-move_of s event d (concludes work ticket fate v steps version st e f there present) entered most few =
+move_of s event d (concludes work ticket fate v steps version st e f there present counted is) entered most few =
     rw (e, f) (end_move s.held s.open_tickets s.next_ticket (length s.programs) (finishes work ticket) (reply.Finished fate v steps version st) d.next.period ticket refl refl refl there most few)
 move_of s event d (lets_go ticket st e f there) entered most few =
     rw (e, f) (end_move s.held s.open_tickets s.next_ticket (length s.programs) (releases ticket) (reply.Released st) d.next.period ticket refl refl refl there most few)
@@ -175,7 +176,7 @@ open_are_issued past sound = λ number e.
     in_range (next_ticket past) number range.0 range.1
 
 pub shape_there : (past : Past) (line : Line) → IsSound past → Shape (situation_of past) line.event (machine past line.moment line.event)
-shape_there past line sound = decision_shape (situation_of past) line.moment line.event sound.opening.config (open_are_issued past sound)
+shape_there past line sound = decision_shape (situation_of past) line.moment line.event (open_are_issued past sound)
 
 pub move_there : (past : Past) (line : Line) → IsSound past → Follows past line → IsMove (length past.stages) (open_of past.stages) (next_ticket past) (length (programs_of past)) line.event line.reply (next_standing past line).period
 move_there past line sound follows =
@@ -239,7 +240,7 @@ places_after : (s : Situation) (event : Happening) (d : Decision) → Shape s ev
     → length (tickets_after s.open_tickets (end_by event d.reply) (issue_by d.reply d.next.period)) ≤ s.config.max_concurrent_calls
 places_after s event d (refuses number e room) le = rw (e, end_refused event number) (omega (arith, untouched s.open_tickets, le))
 places_after s event d (permits version st e f room free given) le = rw (e, f) (omega (arith, one_more s.open_tickets (record { number = s.next_ticket; version = version; period = d.next.period }), free))
-places_after s event d (concludes work ticket fate v steps version st e f there present) le = rw (e, f) (omega (arith, one_less s.open_tickets ticket there, le))
+places_after s event d (concludes work ticket fate v steps version st e f there present counted is) le = rw (e, f) (omega (arith, one_less s.open_tickets ticket there, le))
 places_after s event d (lets_go ticket st e f there) le = rw (e, f) (omega (arith, one_less s.open_tickets ticket there, le))
 places_after s event d (takes_in program version budget e f less room) le = rw (e, f) (omega (arith, untouched s.open_tickets, le))
 places_after s event d (turns st p e room) le = rw (e, end_moved event st p) (omega (arith, untouched s.open_tickets, le))
@@ -274,7 +275,7 @@ ticket_periods_step past line sound follows =
     subst (λ (ts : List OpenTicket). AllByRecursion test ts) (sym (tickets_there past line sound follows)) all
 
 some_permitted : (past : Past) → IsSound past → 1 ≤ past.opening.config.permitted_number_of_calls_in_half_open_state
-some_permitted past sound = within_least 1 10000 past.opening.config.permitted_number_of_calls_in_half_open_state (ranges past.opening.config sound.opening.config).permitted
+some_permitted past sound = within_least 1 10000 past.opening.config.permitted_number_of_calls_in_half_open_state (ranges (2 ^ 40) past.opening.config sound.opening.config).permitted
 
 permissions_step : (past : Past) (line : Line) → IsSound past → Follows past line → is_half_open (next_standing past line).state ≡ true
     → permissions_held (next_standing past line).period (open_of (passed past line).stages) + length (notes_of (passed past line)) ≤ past.opening.config.permitted_number_of_calls_in_half_open_state
@@ -291,12 +292,34 @@ one_at_most : {A : Type 0} (o : Option A) → one_where_some o ≤ 1
 one_at_most None = omega arith
 one_at_most (Some x) = omega arith
 
-accepted_there : (event : Happening) (o : Option VerifiedProgram) → ((p : VerifiedProgram) → o ≡ Some p → event ≡ installs p) → InstallsAccepted event → AreAccepted (option_to_list o)
-accepted_there event None from safe = tt
-accepted_there event (Some p) from safe = (safe p (from p refl), tt)
+installed_safe : (event : Happening) (o : Option VerifiedProgram) → ((p : VerifiedProgram) → o ≡ Some p → event ≡ installs p) → IsSafeEvent event → AreSafePrograms (option_to_list o)
+installed_safe event None from safe_ = tt
+installed_safe event (Some p) from safe_ = (safe_.installs_safe p (from p refl), tt)
 
-pub sound_step : (past : Past) (line : Line) → IsSound past → Follows past line → InstallsAccepted line.event → line.moment < 2 ^ 64 → IsSound (passed past line)
-sound_step past line sound follows safe word =
+-- what came before still carries the meaning's verdicts, and so does the line that comes
+meant_step : (past : Past) (line : Line) (programs : List VerifiedProgram) (tickets : List OpenTicket) → IsSound past → Follows past line → IsSafeEvent line.event
+    → AllByRecursion (λ stage. IsMeantLine past.opening.version (programs_of past ++ programs) (issued past.stages ++ tickets) stage.line) (past.stages ++ stage_of past line ∷ [])
+meant_step past line programs tickets sound follows safe_ =
+    let Before : Stage → Type 0 = λ stage. IsMeantLine past.opening.version (programs_of past) (issued past.stages) stage.line in
+    let After : Stage → Type 0 = λ stage. IsMeantLine past.opening.version (programs_of past ++ programs) (issued past.stages ++ tickets) stage.line in
+    let earlier = all_weaken Before After (λ (stage : Stage) meant work ticket f v steps version st e r. still_meant past.opening.version (programs_of past) programs (issued past.stages) tickets work ticket v steps version (meant work ticket f v steps version st e r)) past.stages sound.verdicts in
+    all_append After past.stages (stage_of past line ∷ []) earlier (
+      (λ work ticket f v steps version st e r. still_meant past.opening.version (programs_of past) programs (issued past.stages) tickets work ticket v steps version
+          (meant_by past line.event (machine past line.moment line.event) work ticket f v steps version st sound.programs (safe_.judged work ticket e) (shape_there past line sound) e (sym follows.replied ∙ r))),
+      tt,
+    )
+
+verdicts_step : (past : Past) (line : Line) → IsSound past → Follows past line → IsSafeEvent line.event
+    → AllByRecursion (λ stage. IsMeantLine past.opening.version (programs_of (passed past line)) (issued (passed past line).stages) stage.line) (passed past line).stages
+verdicts_step past line sound follows safe_ =
+    let programs : programs_of (passed past line) ≡ programs_of past ++ option_to_list (install_by line.event line.reply) = ap (λ (ps : List VerifiedProgram). past.opening.program ∷ ps) (map_with install_at past.stages (stage_of past line)) in
+    let tickets : issued (passed past line).stages ≡ issued past.stages ++ option_to_list (issue_at (stage_of past line)) = map_with issue_at past.stages (stage_of past line) in
+    let all = meant_step past line (option_to_list (install_by line.event line.reply)) (option_to_list (issue_at (stage_of past line))) sound follows safe_ in
+    subst (λ (ps : List VerifiedProgram). AllByRecursion (λ stage. IsMeantLine past.opening.version ps (issued (passed past line).stages) stage.line) (passed past line).stages) (sym programs)
+    (subst (λ (ts : List OpenTicket). AllByRecursion (λ stage. IsMeantLine past.opening.version (programs_of past ++ option_to_list (install_by line.event line.reply)) ts stage.line) (passed past line).stages) (sym tickets) all)
+
+pub sound_step : (past : Past) (line : Line) → IsSound past → Follows past line → IsSafeLine line → IsSound (passed past line)
+sound_step past line sound follows safe_ =
     let near = decision_near (situation_of past) line.moment line.event in
     let move = move_there past line sound follows in
     let held : length (passed past line).stages ≡ length past.stages + 1 = length-append past.stages (stage_of past line ∷ []) in
@@ -310,12 +333,14 @@ sound_step past line sound follows safe word =
       period = omega (arith, held, near.most, sound.period);
       ended = ended_step past line sound follows (omega (arith, next));
       open_issued = open_issued_step past line sound follows next;
-      issued = omega (arith, held, count, sound.issued, one_at_most (issue_by line.reply (next_standing past line).period));
+      few_issued = omega (arith, held, count, sound.few_issued, one_at_most (issue_by line.reply (next_standing past line).period));
       ticket_periods = ticket_periods_step past line sound follows;
       places = places_step past line sound follows;
       permissions = permissions_step past line sound follows;
       used = omega (arith, held, ap length tickets, move.room);
       versions = omega (arith, ap length programs, length-append (programs_of past) (option_to_list (install_by line.event line.reply)), move.versions_held);
-      accepted = subst (λ (ps : List VerifiedProgram). AreAccepted ps) (sym programs) (all_append IsAccepted (programs_of past) (option_to_list (install_by line.event line.reply)) sound.accepted (accepted_there line.event (install_by line.event line.reply) move.installed safe));
-      moment = rw (greatest_step past.opening.moment past.stages (stage_of past line) follows.raises) word;
+      programs = subst (λ (ps : List VerifiedProgram). AreSafePrograms ps) (sym programs) (all_append IsSafeProgram (programs_of past) (option_to_list (install_by line.event line.reply)) sound.programs (installed_safe line.event (install_by line.event line.reply) move.installed safe_.event));
+      lines = all_append (λ (stage : Stage). IsSafeLine stage.line) past.stages (stage_of past line ∷ []) sound.lines (safe_, tt);
+      verdicts = verdicts_step past line sound follows safe_.event;
+      moment = rw (greatest_step past.opening.moment past.stages (stage_of past line) follows.raises) safe_.word;
     }

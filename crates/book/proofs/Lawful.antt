@@ -1,5 +1,5 @@
 -- What every legal history keeps.
-use Rattle.std.proofs.Common.{◌≡◌, ℕ, zero, suc, ◌+◌, ◌≤◌, ◌==◌, not, Bool, true, false, cond, List, [], ◌∷◌, length, slice_get, Option, Some, None, arith, refl, ap, sym, ◌∙◌, length-append}
+use Rattle.std.proofs.Common.{◌≡◌, ℕ, zero, suc, ◌+◌, ◌≤◌, ◌==◌, not, Bool, true, false, cond, List, [], ◌∷◌, length, slice_get, Option, Some, None, Result, Ok, arith, refl, ap, sym, ◌∙◌, length-append}
 use Rattle.std.specs.List.{filter, fold, AllByRecursion}
 use Rattle.bpf_profile.specs.declared.machine.Verdict.TheVariants as verdict
 use Rattle.std.proofs.lemmas.Bool.Decides.{Decides-eqb}
@@ -12,26 +12,32 @@ use Rattle.book.specs.declared.replies.Reply.{Reply}
 use Rattle.book.specs.declared.replies.Reply.TheVariants as reply
 use Rattle.book.specs.declared.states.State.{State}
 use Rattle.book.specs.Events.{Happening, acquires, finishes, releases, installs, moves, resets, Line, Opening, History}
-use Rattle.book.specs.Histories.{Stage, Past, note_by, ended, issued, is_listed, open_of, opened, passed, past_of, next_line, situation_of, machine, Follows, AreLegal, IsLegal}
-use Rattle.book.specs.Laws.{IsLine, IsService}
-use Rattle.book.specs.Machine.{is_open, is_ignored}
-use Rattle.book.specs.Sound.{IsSound}
+use Rattle.book.specs.Histories.{Stage, Past, programs_of, note_by, ended, issued, is_listed, open_of, opened, passed, past_of, next_line, situation_of, machine, Follows, AreLegal, IsLegal}
+use Rattle.book.specs.Laws.{IsLine, IsService, IsMeantNote, HasMeantNote}
+use Rattle.book.specs.Answers.{cut}
+use Rattle.book.specs.Machine.{is_open, is_ignored, note_of}
+use Rattle.book.specs.Safe.{IsVerifiedProgram}
+use Rattle.book.specs.Sound.{IsOpening, IsMeantLine, IsSound}
+use Rattle.book.specs.declared.windows.Note.{Note}
 use Rattle.book.proofs.Applying.{same_opening}
 use Rattle.book.proofs.Deciding.{Shape, refuses, permits, concludes, lets_go, takes_in, turns}
 use Rattle.book.proofs.Keeping.{shape_there, sound_step}
 use Rattle.book.proofs.Openings.{sound_opened}
+use Rattle.book.proofs.Lists.{all_weaken}
+use Rattle.book.proofs.SafeEvents.{Safely, safe_program, line_safe}
+use Rattle.book.proofs.Worlds.{cut_opening, cut_program}
 
-sound_from : (past : Past) (lines : List Line) → IsSound past → AreLegal past lines → AllByRecursion IsLine lines → IsSound (fold passed past lines)
-sound_from past [] sound legal good = sound
-sound_from past (l ∷ lines) sound legal good = sound_from (passed past l) lines (sound_step past l sound legal.0 good.0.installs good.0.word) legal.1 good.1
+sound_from : Safely → (past : Past) (lines : List Line) → IsSound past → AreLegal past lines → AllByRecursion IsLine lines → IsSound (fold passed past lines)
+sound_from safely past [] sound legal good = sound
+sound_from safely past (l ∷ lines) sound legal good = sound_from safely (passed past l) lines (sound_step past l sound legal.0 (line_safe safely l good.0)) legal.1 good.1
 
-pub service_sound : (history : History) → IsService history → IsSound (past_of history)
+pub service_sound : Safely → (history : History) → IsService history → IsSound (past_of history)
 unfolding IsLegal
-service_sound history service = sound_from (opened history.opening) history.lines (sound_opened history.opening service.opening) service.legal service.lines
+service_sound safely history service = sound_from safely (opened history.opening) history.lines (sound_opened history.opening service.opening (safe_program safely history.opening.program service.program)) service.legal service.lines
 
-pub places_kept : (history : History) → IsService history → length (open_of (past_of history).stages) ≤ history.opening.config.max_concurrent_calls
-places_kept history service =
-    let sound = service_sound history service in
+pub places_kept : Safely → (history : History) → IsService history → length (open_of (past_of history).stages) ≤ history.opening.config.max_concurrent_calls
+places_kept safely history service =
+    let sound = service_sound safely history service in
     omega (arith, sound.places, ap (λ (o : Opening). o.config.max_concurrent_calls) (same_opening history.opening history.lines))
 
 -- ---- numbers
@@ -86,19 +92,55 @@ other_reply r a b p q = sym p ∙ q
 ignored_fate : (past : Past) (event : Happening) (d : Decision) (f : Fate) (steps version : ℕ) (st : State) → Shape (situation_of past) event d → d.reply ≡ reply.Finished f verdict.Ignored steps version st → f ≡ fate.Recorded → ⊥
 ignored_fate past event d f steps version st (refuses number e room) r h = let bad : ◌≡◌ {A = Reply} (reply.Refused number) (reply.Finished f verdict.Ignored steps version st) = sym e ∙ r in cc
 ignored_fate past event d f steps version st (permits v s e p room free given) r h = let bad : ◌≡◌ {A = Reply} (reply.Permitted (situation_of past).next_ticket v s) (reply.Finished f verdict.Ignored steps version st) = sym p ∙ r in cc
-ignored_fate past event d f steps version st (concludes work ticket g w k v s e p there present) r h =
+ignored_fate past event d f steps version st (concludes work ticket g w k v s e p there present counted is) r h =
     let same : ◌≡◌ {A = Reply} (reply.Finished g w k v s) (reply.Finished f verdict.Ignored steps version st) = sym p ∙ r in
     let fates : g ≡ f = cc in
     let verdicts : w ≡ verdict.Ignored = cc in
-    let t = present (fates ∙ h) in
-    let bad : ◌≡◌ {A = Bool} true false = sym (ap is_ignored verdicts) ∙ t.3 in cc
+    let bad : ◌≡◌ {A = Bool} true false = sym (ap is_ignored verdicts) ∙ counted (fates ∙ h) in cc
 ignored_fate past event d f steps version st (lets_go ticket s e p there) r h = let bad : ◌≡◌ {A = Reply} (reply.Released s) (reply.Finished f verdict.Ignored steps version st) = sym p ∙ r in cc
 ignored_fate past event d f steps version st (takes_in program v budget e p less room) r h = let bad : ◌≡◌ {A = Reply} (reply.Installed v budget) (reply.Finished f verdict.Ignored steps version st) = sym p ∙ r in cc
 ignored_fate past event d f steps version st (turns s q p room) r h = let bad : ◌≡◌ {A = Reply} (reply.Moved s q) (reply.Finished f verdict.Ignored steps version st) = sym p ∙ r in cc
 
-pub ignored_unnoted : (history : History) (l : Line) (f : Fate) (steps version : ℕ) (st : State) → IsService history → Follows (past_of history) l → l.reply ≡ reply.Finished f verdict.Ignored steps version st
+pub ignored_unnoted : Safely → (history : History) (l : Line) (f : Fate) (steps version : ℕ) (st : State) → IsService history → Follows (past_of history) l → l.reply ≡ reply.Finished f verdict.Ignored steps version st
     → note_by history.opening.config l.moment l.event l.reply ≡ None
-ignored_unnoted history l f steps version st service follows r =
-    let sound = service_sound history service in
+ignored_unnoted safely history l f steps version st service follows r =
+    let sound = service_sound safely history service in
     let past : Past = past_of history in
     rw r (unnoted history.opening.config l.moment l.event f steps version st (ignored_fate past l.event (machine past l.moment l.event) f steps version st (shape_there past l sound) (sym follows.replied ∙ r)))
+
+-- ---- notes
+
+noted_by : (past : Past) (line : Line) (event : Happening) (r : Reply) (note : Note) → line.event ≡ event → line.reply ≡ r → note_by past.opening.config line.moment event r ≡ Some note
+    → IsMeantLine past.opening.version (programs_of past) (issued past.stages) line → IsMeantNote past line note
+noted_by past line (finishes work ticket) (reply.Finished fate.Recorded v steps version st) note e r n meant =
+    let same : ◌≡◌ {A = Option Note} (Some (note_of past.opening.config line.moment v work.outcome)) (Some note) = n in
+    let is : note_of past.opening.config line.moment v work.outcome ≡ note = cc in
+    record {
+      work = work;
+      ticket = ticket;
+      verdict = v;
+      steps = steps;
+      version = version;
+      finished = e;
+      meant = meant work ticket fate.Recorded v steps version st e r;
+      noted = sym is;
+    }
+noted_by past line event r note e s n meant = no_note n
+  where
+    no_note : {A : Type 0} → ◌≡◌ {A = Option Note} None (Some note) → A
+    no_note f = cc
+
+pub notes_meant : Safely → (history : History) → IsService history → AllByRecursion (HasMeantNote (past_of history)) (past_of history).stages
+notes_meant safely history service =
+    let past : Past = past_of history in
+    let sound = service_sound safely history service in
+    all_weaken (λ (stage : Stage). IsMeantLine past.opening.version (programs_of past) (issued past.stages) stage.line) (HasMeantNote past)
+    (λ (stage : Stage) meant note n. noted_by past stage.line stage.line.event stage.line.reply note refl refl n meant) past.stages sound.verdicts
+
+-- ---- cuts
+
+-- a cut leaves a good opening, with a verified program
+pub cut_well : Safely → (history : History) (opening : Opening) → IsService history → cut (past_of history) ≡ Ok opening → IsOpening opening × IsVerifiedProgram opening.program
+cut_well safely history opening service e =
+    let sound = service_sound safely history service in
+    (cut_opening (past_of history) opening sound e, (cut_program (past_of history) opening sound e).verified)

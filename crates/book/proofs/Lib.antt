@@ -3,6 +3,8 @@ pub mod Sliding
 pub mod Judging
 pub mod Configured
 pub mod Deciding
+pub mod Meaning
+pub mod SafeEvents
 pub mod Passing
 pub mod Permissions
 pub mod Keeping

@@ -1,4 +1,4 @@
-use Rattle.std.proofs.Common.{◌≡◌, ◌+◌, ◌≤◌, ◌&&◌, ◌||◌, not, Bool, true, false, cond, Option, Some, None, option_to_list, List, [], ◌∷◌, ◌++◌, length, arith, refl, ap, ◌∙◌}
+use Rattle.std.proofs.Common.{◌≡◌, ℕ, zero, suc, slice_get, subst, ◌+◌, ◌≤◌, ◌&&◌, ◌||◌, not, Bool, true, false, cond, Option, Some, None, option_to_list, List, [], ◌∷◌, ◌++◌, length, arith, refl, ap, ◌∙◌}
 use Rattle.std.specs.List.{filter, filter_map, cons_option, list_any, AllByRecursion}
 use Rattle.std.proofs.lemmas.List.Elements.{filter_map-append}
 use Rattle.std.proofs.lemmas.List.Filters.{length-filter_both}
@@ -80,3 +80,15 @@ one_kept test x e = rw e refl
 
 pub one_dropped : {X : Type 0} (test : X → Bool) (x : X) → test x ≡ false → filter test (x ∷ []) ≡ []
 one_dropped test x e = rw e refl
+
+-- what holds of all elements holds of the one at a place
+pub got : {A : Type 0} (P : A → Type 0) (xs : List A) (place : ℕ) (x : A) → AllByRecursion P xs → slice_get xs place ≡ Some x → P x
+got P [] place x all e = let bad : ◌≡◌ {A = Option _} None (Some x) = e in cc
+got P (y ∷ xs) zero x all e = let same : ◌≡◌ {A = Option _} (Some y) (Some x) = e in let is : y ≡ x = cc in subst P is all.0
+got P (y ∷ xs) (suc place) x all e = got P xs place x all.1 e
+
+-- an element that is there stays there with more elements behind it
+pub still_there : {A : Type 0} (xs ys : List A) (place : ℕ) (x : A) → slice_get xs place ≡ Some x → slice_get (xs ++ ys) place ≡ Some x
+still_there [] ys place x e = let bad : ◌≡◌ {A = Option _} None (Some x) = e in cc
+still_there (y ∷ xs) ys zero x e = e
+still_there (y ∷ xs) ys (suc place) x e = still_there xs ys place x e

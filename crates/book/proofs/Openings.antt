@@ -1,7 +1,7 @@
 -- A book that has just been opened, and what any book shows.
 use Rattle.std.proofs.Common.{◌≡◌, ℕ, ◌+◌, ◌≤◌, ◌<◌, ◌⊎◌, inl, inr, List, [], ◌∷◌, map, length, Some, None, Result, Ok, Err, arith, refl, ap, sym, ◌∙◌}
 use Rattle.std.specs.Arc.{arc_value}
-use Rattle.book.specs.Safe.{IsAccepted}
+use Rattle.book.specs.Safe.{IsSafeProgram}
 use Rattle.refusals.specs.declared.RefusalNumber.{RefusalNumber}
 use Rattle.refusals.specs.declared.RefusalNumber.TheVariants as refusal
 use Rattle.verifier.specs.Programs.{VerifiedProgram}
@@ -21,30 +21,34 @@ use Rattle.book.specs.Machine.{Situation, open_ticket}
 use Rattle.book.specs.Situations.{situation}
 use Rattle.book.specs.Sound.{IsOpening, IsSound}
 use Rattle.book.proofs.Applying.{same_opening, stage_count}
+use Rattle.book.proofs.Configured.{in_range}
 
-pub sound_opened : (opening : Opening) → IsOpening opening → IsSound (opened opening)
-sound_opened opening good = record {
+pub sound_opened : (opening : Opening) → IsOpening opening → IsSafeProgram opening.program → IsSound (opened opening)
+sound_opened opening good program = record {
   opening = good;
   periods = tt;
   period = omega arith;
   ended = tt;
   open_issued = tt;
-  issued = omega arith;
+  few_issued = omega arith;
   ticket_periods = tt;
   places = omega arith;
   permissions = λ h. omega arith;
   used = omega arith;
   versions = omega arith;
-  accepted = (good.accepted, tt);
+  programs = (program, tt);
+  lines = tt;
+  verdicts = tt;
   moment = good.moment;
 }
 
-pub is_first : (config : ConfigParts) (program : VerifiedProgram) → bad_field config ≡ None → IsAccepted program → IsOpening (first_opening config program)
-is_first config program good accepted_ = record {
-  config = good;
-  accepted = accepted_;
+pub is_first : (config : ConfigParts) (program : VerifiedProgram) → bad_field config ≡ None → IsOpening (first_opening config program)
+is_first config program good = record {
+  config = in_range config good;
   version = omega arith;
+  first_version = omega arith;
   period = omega arith;
+  first_period = omega arith;
   ticket = omega arith;
   first_ticket = omega arith;
   line = omega arith;
@@ -56,10 +60,10 @@ pub legal_opened : (opening : Opening) → IsLegal (history_of opening [])
 unfolding IsLegal
 legal_opened opening = tt
 
-pub first_book : (opening : Opening) (s : Situation) (refused : ℕ) → IsOpening opening → s ≡ situation_of (opened opening) → refused ≡ 0 → IsBook opening s refused opening.moment []
-first_book opening s refused good situated_ none = record {
+pub first_book : (opening : Opening) (s : Situation) (refused : ℕ) → IsOpening opening → IsSafeProgram opening.program → s ≡ situation_of (opened opening) → refused ≡ 0 → IsBook opening s refused opening.moment []
+first_book opening s refused good program situated_ none = record {
   legal = legal_opened opening;
-  sound = sound_opened opening good;
+  sound = sound_opened opening good program;
   situated = situated_;
   refused_calls = none;
   greatest_moment = refl;

@@ -120,17 +120,17 @@ no_more_notes : (notes : List Note) → length (notes ++ []) ≡ length notes
 no_more_notes notes = ap length (append-nil notes)
 
 concluded_left : (s : Situation) (work : Work) (ticket : ℕ) (f : Fate) (v : Verdict) (steps version : ℕ) (st : State) (period moment limit : ℕ)
-    → IsPresent s ticket f v
+    → (next : Standing) → IsPresent s next ticket f → next.period ≡ s.standing.period
     → permissions_held s.standing.period s.open_tickets + length s.notes ≤ limit
     → Left s (finishes work ticket) (reply.Finished f v steps version st) period moment ≤ limit
-concluded_left s work ticket fate.Recorded v steps version st period moment limit present le =
-    let t = present refl in
+concluded_left s work ticket fate.Recorded v steps version st period moment limit next present same le =
+    let t = present refl same in
     omega (arith, le, held_after_end s.standing.period s.open_tickets ticket, held_dropped s.standing.period ticket s.open_tickets t.0 t.1 t.2, length-append s.notes (option_to_list (note_by s.config moment (finishes work ticket) (reply.Finished fate.Recorded v steps version st))))
-concluded_left s work ticket fate.Ignored v steps version st period moment limit present le =
+concluded_left s work ticket fate.Ignored v steps version st period moment limit next present same le =
     omega (arith, le, held_after_end s.standing.period s.open_tickets ticket, held_kept s.standing.period (λ (t : OpenTicket). not (t.number == ticket)) s.open_tickets, no_more_notes s.notes)
-concluded_left s work ticket fate.Off v steps version st period moment limit present le =
+concluded_left s work ticket fate.Off v steps version st period moment limit next present same le =
     omega (arith, le, held_after_end s.standing.period s.open_tickets ticket, held_kept s.standing.period (λ (t : OpenTicket). not (t.number == ticket)) s.open_tickets, no_more_notes s.notes)
-concluded_left s work ticket fate.Stale v steps version st period moment limit present le =
+concluded_left s work ticket fate.Stale v steps version st period moment limit next present same le =
     omega (arith, le, held_after_end s.standing.period s.open_tickets ticket, held_kept s.standing.period (λ (t : OpenTicket). not (t.number == ticket)) s.open_tickets, no_more_notes s.notes)
 
 left_there : (s : Situation) (event : Happening) (d : Decision) (moment : ℕ) → Shape s event d → d.next ≡ s.standing → is_half_open d.next.state ≡ true
@@ -141,8 +141,8 @@ left_there s event d moment (refuses number e room) same half le =
 left_there s event d moment (permits version st e f room free given) same half le =
     let less = given half (ap (λ (x : Standing). x.period) same) in
     rw (e, f) (omega (arith, less, held_after_issue s.standing.period s.open_tickets (record { number = s.next_ticket; version = version; period = d.next.period }), no_more_notes s.notes))
-left_there s event d moment (concludes work ticket f v steps version st e r there present) same half le =
-    rw (e, r) (concluded_left s work ticket f v steps version st d.next.period moment s.config.permitted_number_of_calls_in_half_open_state present le)
+left_there s event d moment (concludes work ticket f v steps version st e r there present counted version_is) same half le =
+    rw (e, r) (concluded_left s work ticket f v steps version st d.next.period moment s.config.permitted_number_of_calls_in_half_open_state d.next present (ap (λ (x : Standing). x.period) same) le)
 left_there s event d moment (lets_go ticket st e r there) same half le =
     rw (e, r) (omega (arith, le, held_after_end s.standing.period s.open_tickets ticket, held_kept s.standing.period (λ (t : OpenTicket). not (t.number == ticket)) s.open_tickets, no_more_notes s.notes))
 left_there s event d moment (takes_in program version budget e r less room) same half le =

@@ -1,5 +1,5 @@
 -- What a book answers to calls, by its history.
-use Rattle.std.specs.Prelude.{◌≡◌, ℕ, suc, ◌-◌, ◌^◌, nat_lt, ◌||◌, Bool, true, false, if◌then◌else◌, List, [], ◌∷◌, ◌++◌, length, drop, Option, Some, None, Result, Ok, Err}
+use Rattle.std.specs.Prelude.{◌≡◌, ℕ, suc, ◌-◌, ◌^◌, ◌<◌, nat_lt, ◌||◌, Bool, true, false, if◌then◌else◌, List, [], ◌∷◌, ◌++◌, length, take, drop, Option, Some, None, Result, Ok, Err}
 use Rattle.std.specs.List.{filter_map}
 use Rattle.refusals.specs.declared.RefusalNumber.{RefusalNumber}
 use Rattle.refusals.specs.declared.RefusalNumber.TheVariants as refusal
@@ -102,6 +102,16 @@ reading past moment =
 
 abbrev pub lines_from : History → ℕ → List Line
 lines_from history from = drop (from - history.opening.line) history.lines
+
+-- ---- a page: at most 100 lines, from a number on
+
+abbrev pub page_from : History → ℕ → List Line
+page_from history from = take 100 (lines_from history from)
+
+-- the page; or no memory for copies, where there is a line to be copied
+pub data IsPage (history : History) (from : ℕ) (result : Result (List Line) RefusalNumber) : Type 0 where
+  copies : result ≡ Ok (page_from history from) → IsPage history from result
+  no_copy : 0 < length (page_from history from) → result ≡ Err refusal.ServiceOutOfMemory → IsPage history from result
 
 -- ---- a cut: the entries are handed out, and the book opens anew
 

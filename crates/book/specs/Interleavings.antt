@@ -2,7 +2,7 @@
 use Rattle.std.specs.Prelude.{ℕ, ◌^◌, ◌<◌, ◌==◌, Bool, true, false, if◌then◌else◌, List, [], ◌∷◌, ◌++◌, slice_get, Option, Some, None, Result, Ok, Err}
 use Rattle.std.specs.List.{AllByRecursion}
 use Rattle.bpf_profile.specs.Outcomes.{Outcome, IsOutcome}
-use Rattle.bpf_run.specs.JudgedWork.{Work, IsTied}
+use Rattle.bpf_run.specs.JudgedWork.{Work}
 use Rattle.refusals.specs.declared.RefusalNumber.{RefusalNumber}
 use Rattle.refusals.specs.declared.RefusalNumber.TheVariants as refusal
 use Rattle.verifier.specs.Analysis.{context_size}
@@ -11,12 +11,13 @@ use Rattle.book.specs.declared.machine.Decision.{Decision}
 use Rattle.book.specs.declared.readings.Reading.{Reading}
 use Rattle.book.specs.declared.registry.OpenTicket.{OpenTicket}
 use Rattle.book.specs.declared.replies.Reply.{Reply}
+use Rattle.book.specs.declared.replies.Reply.TheVariants as reply
 use Rattle.book.specs.declared.states.State.{State}
 use Rattle.book.specs.Answers.{looked, reading, with_line, cut}
 use Rattle.book.specs.Events.{Happening, acquires, finishes, releases, installs, moves, resets, Line, Opening, History}
 use Rattle.book.specs.Histories.{past_of, situation_of, raised, next_line, IsLegal}
 use Rattle.book.specs.Machine.{Situation, decision, refused, is_full, at_moment, is_issued, open_ticket, program_from, same_program, judged_as, concluded, is_entered}
-use Rattle.book.specs.Safe.{IsAccepted, AreAccepted}
+use Rattle.book.specs.Safe.{IsVerifiedProgram, AreSafePrograms, IsJudged}
 use Rattle.book.specs.Sound.{IsSound}
 use Rattle.book.specs.Verdicts.{judgement}
 
@@ -140,9 +141,37 @@ taken answering w actor cut_off = cutting w (cut (past_of w.history))
 
 -- ---- lists of steps
 
+-- whether the memory that a step wants is there
+pub data Memory : Type 0 where
+  ample : Memory
+  wanting : Memory
+
 pub record Act : Type 0 where
   pub actor : ℕ
   pub step : Step
+  pub memory : Memory
+
+-- what a step gives for want of memory in place of what it would have given; a reply that isn't entered, a refusal and a reading want none
+abbrev pub starved_given : Given → Given
+starved_given (replied r) = if is_entered r then replied (reply.Refused refusal.ServiceOutOfMemory) else replied r
+starved_given (found (Ok program)) = found (Err refusal.ServiceOutOfMemory)
+starved_given (found (Err number)) = found (Err number)
+starved_given (shown reading) = shown reading
+starved_given (handed (Ok lines)) = handed (Err refusal.ServiceOutOfMemory)
+starved_given (handed (Err number)) = handed (Err number)
+starved_given nothing = nothing
+
+-- for want of memory a step changes nothing; judging wants none
+abbrev pub starved : World → Turn → Turn
+starved w turn = record { world = w; given = starved_given turn.given }
+
+abbrev pub turned_with : Memory → Answering → World → ℕ → Step → Turn
+turned_with ample answering w actor step = taken answering w actor step
+turned_with wanting answering w actor (judge place outcome) = taken answering w actor (judge place outcome)
+turned_with wanting answering w actor step = starved w (taken answering w actor step)
+
+abbrev pub turned : Answering → World → Act → Turn
+turned answering w act = turned_with act.memory answering w act.actor act.step
 
 pub record Course : Type 0 where
   pub world : World
@@ -154,41 +183,35 @@ preceded given course = record { world = course.world; given = given ∷ course.
 -- the steps one after another, by any actors in any order
 unfoldable pub course : Answering → World → List Act → Course
 course answering w [] = record { world = w; given = [] }
-course answering w (act ∷ acts) = preceded (taken answering w act.actor act.step).given (course answering (taken answering w act.actor act.step).world acts)
+course answering w (act ∷ acts) = preceded (turned answering w act).given (course answering (turned answering w act).world acts)
 
 -- before the first step nobody holds anything
 abbrev pub begun : Opening → World
 begun opening = record { history = record { opening = opening; lines = [] }; hands = λ actor. record { programs = []; works = [] } }
 
--- moments are words, outcomes are records, and what is installed was accepted
+-- moments are words, actors are seats of 32 bits, outcomes are records, and what is installed was verified
 abbrev pub IsStep : Step → Type 0
 IsStep (acquire moment) = moment < 2 ^ 64
 IsStep (look ticket) = Unit {0}
 IsStep (judge place outcome) = IsOutcome context_size outcome
 IsStep (finish moment place ticket) = moment < 2 ^ 64
 IsStep (release moment ticket) = moment < 2 ^ 64
-IsStep (install moment program) = (moment < 2 ^ 64) × IsAccepted program
+IsStep (install moment program) = (moment < 2 ^ 64) × IsVerifiedProgram program
 IsStep (move moment state) = moment < 2 ^ 64
 IsStep (reset moment) = moment < 2 ^ 64
 IsStep (read moment) = moment < 2 ^ 64
 IsStep cut_off = Unit {0}
 
 abbrev pub AreSteps : List Act → Type 0
-AreSteps acts = AllByRecursion (λ act. IsStep act.step) acts
+AreSteps acts = AllByRecursion (λ act. (act.actor < 2 ^ 32) × IsStep act.step) acts
 
 -- ---- what holds of the world throughout
 
--- the meaning's verdict of an accepted program on a record
-pub record IsJudged (work : Work) : Type 0 where
-  pub program : IsAccepted work.program
-  pub outcome : IsOutcome context_size work.outcome
-  pub tied : IsTied work
-
 pub record AreHands (hands : Hands) : Type 0 where
-  pub programs : AreAccepted hands.programs
+  pub programs : AreSafePrograms hands.programs
   pub works : AllByRecursion IsJudged hands.works
 
--- the history is legal, every installed program was accepted, and all work carries the meaning's verdict
+-- the history is legal and sound, and all programs and all work that actors hold are safe and judged
 pub record IsWorld (w : World) : Type 0 where
   pub legal : IsLegal w.history
   pub sound : IsSound (past_of w.history)

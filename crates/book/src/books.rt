@@ -1,16 +1,17 @@
 //! The book of a service.
-ghost use Rattle.std.specs.Prelude.{◌≡◌, ◌<◌, ◌≤◌, ◌+◌, ◌^◌, ℕ, length, map, ◌-◌, ◌⊎◌, [], OnOk, OnSome, IfOk, Ok, Err};
+ghost use Rattle.std.specs.Prelude.{◌≡◌, suc, ◌<◌, ◌≤◌, ◌+◌, ◌^◌, ℕ, length, map, ◌-◌, ◌⊎◌, [], OnOk, OnSome, IfOk, Ok, Err};
 ghost use Rattle.std.specs.Arc.{arc_value};
 ghost use Rattle.std.specs.Vec.{vec_len, vec_capacity};
 ghost use Rattle.book.specs.Answers.{IsApplied, IsLooked, map_ok, reading, lines_from};
 ghost use Rattle.book.specs.Books.{first_opening, opening_of, history_of};
 ghost use Rattle.book.specs.Histories.{IsLegal, note_by, end_by, issue_by, past_of, situation_of, next_line};
 ghost use Rattle.book.specs.Seen.{seen};
-ghost use Rattle.book.specs.Sound.{IsOpening};
+ghost use Rattle.book.specs.Safe.{IsSafeProgram};
+ghost use Rattle.book.specs.Sound.{IsOpening, IsSound};
 
 use crate::breaker::{Breaker, minimum, shown_rate};
 use crate::bulkhead::free_places;
-use crate::changes::{end_by, issue_by, know_program, make_room, note_by, owner_of};
+use crate::changes::{end_by, issue_by, know_event, know_program, make_room, note_by, owner_of};
 use crate::configuration::Config;
 use crate::events::{Entry, Event};
 use crate::machine::{decide, is_entered};
@@ -66,11 +67,11 @@ impl Book {
     pub fn open(alloc: Global, config: Config, program: Verified) -> Result<Book, AllocError>
         ensures opened { IfOk result (λ book. book ≡ history_of (first_opening config program) []) }
         ensures legal { IfOk result IsLegal }
+        ensures sound { IfOk result (λ book. IsSound (past_of book)) }
     {
         let _parts = config.parts();
         // What is known of a verified program is kept by the book.
-        let _budget = program.budget();
-        let _bytes = program.bytes();
+        know_program(&program);
         let start = Start {
             program: Arc::new(alloc, program)?,
             version: 1,
@@ -84,9 +85,11 @@ impl Book {
 
     /// A book that opens so, in CLOSED with no entry. Errors are want of memory.
     pub(crate) fn begin(alloc: Global, config: Config, start: Start) -> Result<Book, AllocError>
-        requires { IsOpening (opening_of config start) }
+        requires opening { IsOpening (opening_of config start) }
+        requires program { IsSafeProgram (arc_value start.program) }
         ensures opened { IfOk result (λ book. book ≡ history_of (opening_of config start) []) }
         ensures legal { IfOk result IsLegal }
+        ensures sound { IfOk result (λ book. IsSound (past_of book)) }
     {
         let mut programs = Vec::new(alloc);
         programs.push(Arc::try_clone(&start.program)?)?;
@@ -107,7 +110,9 @@ impl Book {
     pub fn apply(&mut self, seat: u32, moment: u64, event: Event) -> Reply
         ensures applied { IsApplied self.old seat moment (seen event) result self.new }
         ensures legal_before { IsLegal self.old }
+        ensures sound_before { IsSound (past_of self.old) }
         ensures legal_after { IsLegal self.new }
+        ensures sound_after { IsSound (past_of self.new) }
     {
         let moment = moment.max(self.moment);
         let decision = decide(
@@ -125,7 +130,7 @@ impl Book {
         let note = note_by(&self.config.parts(), moment, &event, reply);
         let ended = end_by(&event, reply);
         let issued = issue_by(reply, decision.next.period);
-        know_program(&event);
+        know_event(&event);
         let Ok(installed) = make_room(
             &mut self.entries,
             &mut self.breaker,
@@ -152,6 +157,7 @@ impl Book {
     pub fn look(&self, ticket: u64) -> Result<Arc<Verified>, RefusalNumber>
         ensures looked { IsLooked self.now ticket (map_ok arc_value result) }
         ensures legal { IsLegal self.now }
+        ensures sound { IsSound (past_of self.now) }
     {
         match self.registry.look(ticket) {
             Ok(program) => owner_of(program),
@@ -163,6 +169,7 @@ impl Book {
     pub fn read(&self, moment: u64) -> Reading
         ensures reading { result ≡ reading (past_of self.now) moment }
         ensures legal { IsLegal self.now }
+        ensures sound { IsSound (past_of self.now) }
     {
         let parts = self.config.parts();
         let standing = self.breaker.standing;
@@ -196,6 +203,7 @@ impl Book {
     pub fn entries(&self, from: u64) -> &[Entry]
         ensures entries { result.now ≡ lines_from self.now from }
         ensures legal { IsLegal self.now }
+        ensures sound { IsSound (past_of self.now) }
     {
         let passed = from.saturating_sub(self.start.line);
         let first = passed.min(self.entries.len() as u64) as usize;
@@ -204,8 +212,9 @@ impl Book {
 
     /// The number of the last entry, 0 before the first.
     pub fn last_number(&self) -> u64
-        ensures number { result ≡ next_line (past_of self.now) - 1 }
+        ensures number { suc result ≡ next_line (past_of self.now) }
         ensures legal { IsLegal self.now }
+        ensures sound { IsSound (past_of self.now) }
     {
         self.start.line + self.entries.len() as u64 - 1
     }

@@ -6,7 +6,7 @@ ghost use Rattle.std.specs.Option.{option_map};
 ghost use Rattle.std.specs.Vec.{vec_len, vec_capacity};
 ghost use Rattle.book.specs.Answers.{map_ok};
 ghost use Rattle.book.specs.Histories.{note_by, end_by, issue_by, install_by};
-ghost use Rattle.book.specs.Safe.{InstallsAccepted};
+ghost use Rattle.book.specs.Safe.{IsSafeProgram, IsJudged, IsSafeEvent};
 ghost use Rattle.book.specs.Seen.{seen};
 
 use crate::breaker::Breaker;
@@ -16,6 +16,7 @@ use crate::machine::note_of;
 use crate::registry::{OpenTicket, Registry};
 use crate::replies::{Fate, Reply};
 use crate::windows::Note;
+use bpf_run::Judged;
 use refusals::RefusalNumber;
 use std::alloc::AllocError;
 use std::sync::Arc;
@@ -82,13 +83,30 @@ fn install_by(event: &Event, reply: Reply) -> Result<Option<Arc<Verified>>, Allo
     }
 }
 
-/// Reads off an event that a program which it installs was verified.
-pub(crate) fn know_program(event: &Event)
-    ensures { InstallsAccepted (seen event.now) }
+/// Reads off a verified program that it is safe.
+pub(crate) fn know_program(program: &Verified)
+    ensures { IsSafeProgram program.now }
 {
-    if let Event::Install(program) = event {
-        let _budget = program.budget();
-        let _bytes = program.bytes();
+    let _budget = program.budget();
+    let _bytes = program.bytes();
+}
+
+/// Reads off judged work that its verdict is the meaning's, on an outcome's record.
+fn know_work(judged: &Judged)
+    ensures { IsJudged judged.now }
+{
+    know_program(judged.program());
+    let _context = judged.outcome().context();
+}
+
+/// Reads off an event that a program which it installs is safe, and that work which it brings was judged.
+pub(crate) fn know_event(event: &Event)
+    ensures { IsSafeEvent (seen event.now) }
+{
+    match event {
+        Event::Install(program) => know_program(program),
+        Event::Finish(judged, _) => know_work(judged),
+        _ => {}
     }
 }
 

@@ -76,15 +76,19 @@ pub enum ConfigField {
     MaxWaitDuration,
 }
 
-/// A field of a configuration is out of its range.
+/// A field of a configuration is out of its range. Its text names the field behind the refusal, as
+/// `refused 47 BadConfig SlidingWindowSize`.
 #[derive(Clone, Copy, Debug, PartialEq, Eq, Error)]
-#[error("{}: {:?} is out of its range", .number.name(), .field)]
+#[error("refused {} {} {:?}", .number.number(), .number.name(), .field)]
 pub struct BadConfig {
     /// The first such field, in the order of `ConfigParts`.
     pub field: ConfigField,
     /// `BadConfig`.
     pub number: RefusalNumber,
 }
+
+/// The greatest longest stay in HALF_OPEN that is taken, in milliseconds; 0 is no limit.
+const LONGEST_STAY_IN_HALF_OPEN: u64 = 0;
 
 /// A configuration in which each value is in its range. Contracts see its parts.
 #[derive(Clone, Copy, Debug, PartialEq, Eq)]
@@ -177,7 +181,11 @@ fn bad_field(parts: &ConfigParts) -> Option<ConfigField>
     ) {
         return Some(ConfigField::PermittedNumberOfCallsInHalfOpenState);
     }
-    if parts.max_wait_duration_in_half_open_state != 0 {
+    if !is_within(
+        0,
+        LONGEST_STAY_IN_HALF_OPEN,
+        parts.max_wait_duration_in_half_open_state,
+    ) {
         return Some(ConfigField::MaxWaitDurationInHalfOpenState);
     }
     bad_limit(parts)

@@ -3,6 +3,7 @@ ghost use Rattle.std.specs.Prelude.{◌≡◌, ◌||◌, false, IfOk, []};
 ghost use Rattle.book.specs.Answers.{IsCut, map_ok, is_past_the_limit, is_worn_out, reopened};
 ghost use Rattle.book.specs.Books.{history_of};
 ghost use Rattle.book.specs.Histories.{IsLegal, past_of};
+ghost use Rattle.book.specs.Sound.{IsSound};
 
 use crate::books::{Book, Start};
 use crate::events::Entry;
@@ -48,6 +49,7 @@ impl Book {
         requires { is_worn_out (past_of self.now) ≡ false }
         ensures opened { IfOk result (λ book. book ≡ history_of (reopened (past_of self.now)) []) }
         ensures legal { IfOk result IsLegal }
+        ensures sound { IfOk result (λ book. IsSound (past_of book)) }
     {
         let last = self.registry.programs.len() - 1;
         let start = Start {
@@ -68,7 +70,9 @@ impl Book {
     pub fn cut(&mut self) -> Result<Vec<Entry>, RefusalNumber>
         ensures cut { IsCut self.old (map_ok (λ entries. entries.items) result) self.new }
         ensures legal_before { IsLegal self.old }
+        ensures sound_before { IsSound (past_of self.old) }
         ensures legal_after { IsLegal self.new }
+        ensures sound_after { IsSound (past_of self.new) }
     {
         if self.is_worn_out() {
             return Err(RefusalNumber::JournalFull);

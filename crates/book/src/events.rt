@@ -1,10 +1,11 @@
 //! Events, and the entries of the journal.
-ghost use Rattle.std.specs.Prelude.{◌≡◌};
+ghost use Rattle.std.specs.Prelude.{◌≡◌, IfOk};
 ghost use Rattle.book.specs.Seen.{seen, line};
 
 use crate::replies::Reply;
 use crate::states::State;
 use bpf_run::Judged;
+use std::alloc::AllocError;
 use std::marker::Model;
 use std::sync::Arc;
 use verifier::Verified;
@@ -24,6 +25,23 @@ pub enum Event {
     Move(State),
     /// The breaker is moved to CLOSED.
     Reset,
+}
+
+impl Event {
+    /// The same event once more, under one more owner of the program that it brings. The error comes
+    /// where that program can have no more owners.
+    pub fn try_clone(&self) -> Result<Event, AllocError>
+        ensures { IfOk result (λ copy. seen copy ≡ seen self.now) }
+    {
+        match self {
+            Event::Acquire => Ok(Event::Acquire),
+            Event::Finish(judged, ticket) => Ok(Event::Finish(judged.try_clone()?, *ticket)),
+            Event::Release(ticket) => Ok(Event::Release(*ticket)),
+            Event::Install(program) => Ok(Event::Install(Arc::try_clone(program)?)),
+            Event::Move(state) => Ok(Event::Move(*state)),
+            Event::Reset => Ok(Event::Reset),
+        }
+    }
 }
 
 /// A line of the journal: what happened, who made it, at which moment, and what was answered.
@@ -57,6 +75,19 @@ impl Entry {
             moment,
             reply,
         }
+    }
+
+    /// The same entry once more. The error comes where a program can have no more owners.
+    pub fn try_clone(&self) -> Result<Entry, AllocError>
+        ensures { IfOk result (λ copy. copy ≡ self.now) }
+    {
+        Ok(Entry {
+            number: self.number,
+            seat: self.seat,
+            event: self.event.try_clone()?,
+            moment: self.moment,
+            reply: self.reply,
+        })
     }
 
     /// From 1 on, one more for each entry, also over cuts.

@@ -1,6 +1,7 @@
 //! Laws of the documented machine, of its histories, and of all that workers and operators may do in
 //! any order.
-ghost use Rattle.std.specs.Prelude.{◌≡◌, ◌≤◌, ◌+◌, ℕ, List, length, Some, None, true, false, slice_get};
+ghost use Rattle.std.specs.Prelude.{◌≡◌, ◌≤◌, ◌+◌, ℕ, List, length, Some, None, Ok, true, false, slice_get};
+ghost use Rattle.std.specs.List.{AllByRecursion};
 ghost use Rattle.bpf_profile.specs.declared.machine.Verdict.TheVariants as verdict;
 ghost use Rattle.bpf_profile.specs.Meaning.{Judges};
 ghost use Rattle.bpf_profile.specs.Outcomes.{Outcome, IsOutcome};
@@ -9,38 +10,59 @@ ghost use Rattle.verifier.specs.Programs.{VerifiedProgram};
 ghost use Rattle.book.specs.declared.replies.Fate.{Fate};
 ghost use Rattle.book.specs.declared.replies.Reply.TheVariants as reply;
 ghost use Rattle.book.specs.declared.states.State.{State};
+ghost use Rattle.book.specs.Configuration.{default_parts};
 ghost use Rattle.book.specs.Events.{Line, Opening, History};
-ghost use Rattle.book.specs.Histories.{Stage, past_of, open_of, ended, notes_of, is_listed, note_by, Follows, IsLegal};
+ghost use Rattle.book.specs.Histories.{Stage, past_of, programs_of, issued, open_of, ended, notes_of, is_listed, note_by, Follows, IsLegal};
 ghost use Rattle.book.specs.Interleavings.{Act, AreSteps, IsWorld, carried, course, begun};
-ghost use Rattle.book.specs.Laws.{IsService};
+ghost use Rattle.book.specs.Laws.{IsService, HasMeantNote};
 ghost use Rattle.book.specs.Machine.{decision, is_open, permissions_held};
-ghost use Rattle.book.specs.Safe.{IsAccepted};
-ghost use Rattle.book.specs.Sound.{IsOpening, IsSound};
+ghost use Rattle.book.specs.Answers.{cut};
+ghost use Rattle.book.specs.Safe.{IsVerifiedProgram, AreSafePrograms};
+ghost use Rattle.book.specs.Sound.{IsOpening, IsMeantLine, IsSound};
 ghost use Rattle.book.specs.Standings.{is_half_open};
 ghost use Rattle.book.specs.Verdicts.{judgement};
 
-/// The verdict that the machine takes for an accepted program and a record is the meaning's.
-pub fn judgements_are_the_meaning()
-    ensures { (program : VerifiedProgram) (outcome : Outcome) → IsAccepted program → IsOutcome context_size outcome → Judges context_size program.slots outcome (judgement program outcome).verdict (judgement program outcome).steps }
+use crate::configuration::ConfigParts;
+use verifier::laws::accepted_programs_are_safe;
+
+/// The defaults of the code are those that the definitions state.
+pub fn defaults_are_stated()
+    ensures { ConfigParts.DEFAULT ≡ default_parts }
 {}
+
+/// The verdict that the machine takes for a verified program and a record is the meaning's.
+pub fn judgements_are_the_meaning()
+    ensures { (program : VerifiedProgram) (outcome : Outcome) → IsVerifiedProgram program → IsOutcome context_size outcome → Judges context_size program.slots outcome (judgement program outcome).verdict (judgement program outcome).steps }
+{
+    accepted_programs_are_safe();
+}
 
 /// For every list of atomic steps of workers and operators on a service, from a good opening on: each
 /// answer that the world gives, on the verdicts that judged work carries, is the documented machine's,
-/// on the verdicts that the meaning gives for the version of each ticket.
+/// on the verdicts that the meaning gives for the version of each ticket. Steps that were refused for
+/// want of memory stand in the list too. What an operator installs is verified: decoding, flow and the
+/// analysis accept its bytes.
 pub fn interleavings_are_documented()
-    ensures { (opening : Opening) (acts : List Act) → IsOpening opening → AreSteps acts → course carried (begun opening) acts ≡ course decision (begun opening) acts }
-{}
+    ensures { (opening : Opening) (acts : List Act) → IsOpening opening → IsVerifiedProgram opening.program → AreSteps acts → course carried (begun opening) acts ≡ course decision (begun opening) acts }
+{
+    accepted_programs_are_safe();
+}
 
 /// After every such list the history is legal, every program that was installed ends on every outcome's
-/// record within its budget and never does what it must not, and all work carries the meaning's verdict.
+/// record within its budget and never does what it must not, each finished call carries the meaning's
+/// verdict for the version of its ticket, and so does all work that was judged.
 pub fn interleavings_are_legal()
-    ensures { (opening : Opening) (acts : List Act) → IsOpening opening → AreSteps acts → IsWorld (course carried (begun opening) acts).world }
-{}
+    ensures { (opening : Opening) (acts : List Act) → IsOpening opening → IsVerifiedProgram opening.program → AreSteps acts → IsWorld (course carried (begun opening) acts).world }
+{
+    accepted_programs_are_safe();
+}
 
 /// What every legal history keeps.
 pub fn legal_histories_are_sound()
     ensures { (history : History) → IsService history → IsSound (past_of history) }
-{}
+{
+    accepted_programs_are_safe();
+}
 
 /// The numbers of entries go up by one.
 pub fn numbers_go_up_by_one()
@@ -55,14 +77,50 @@ pub fn spent_tickets_are_not_open()
 /// There are never more open tickets than the bulkhead has places.
 pub fn bulkhead_is_never_overfull()
     ensures { (history : History) → IsService history → length (open_of (past_of history).stages) ≤ history.opening.config.max_concurrent_calls }
-{}
+{
+    accepted_programs_are_safe();
+}
 
 /// In HALF_OPEN the permissions that are held and the notes are never more than the permitted number.
 pub fn half_open_is_never_overfull()
     ensures { (history : History) → IsService history → is_half_open (past_of history).standing.state ≡ true → permissions_held (past_of history).standing.period (open_of (past_of history).stages) + length (notes_of (past_of history)) ≤ history.opening.config.permitted_number_of_calls_in_half_open_state }
-{}
+{
+    accepted_programs_are_safe();
+}
 
 /// A verdict that is ignored makes no note.
 pub fn ignored_verdicts_make_no_note()
     ensures { (history : History) (line : Line) (fate : Fate) (steps version : ℕ) (state : State) → IsService history → Follows (past_of history) line → line.reply ≡ reply.Finished fate verdict.Ignored steps version state → note_by history.opening.config line.moment line.event line.reply ≡ None }
-{}
+{
+    accepted_programs_are_safe();
+}
+
+/// Every program that was installed is verified and safe: on every outcome's record it ends within its
+/// budget, and never does what it must not.
+pub fn installed_programs_are_safe()
+    ensures { (history : History) → IsService history → AreSafePrograms (programs_of (past_of history)) }
+{
+    accepted_programs_are_safe();
+}
+
+/// Each finished call carries the verdict and the steps that the meaning gives on its record for the
+/// program of the version with which its ticket was issued, whatever was installed since.
+pub fn verdicts_are_the_meaning()
+    ensures { (history : History) → IsService history → AllByRecursion (λ stage. IsMeantLine (past_of history).opening.version (programs_of (past_of history)) (issued (past_of history).stages) stage.line) (past_of history).stages }
+{
+    accepted_programs_are_safe();
+}
+
+/// The notes that are read off the replies of a history are those of the verdicts that the meaning gives.
+pub fn notes_are_of_the_meaning()
+    ensures { (history : History) → IsService history → AllByRecursion (HasMeantNote (past_of history)) (past_of history).stages }
+{
+    accepted_programs_are_safe();
+}
+
+/// A cut leaves a good opening, with a verified program.
+pub fn cuts_leave_good_openings()
+    ensures { (history : History) (opening : Opening) → IsService history → cut (past_of history) ≡ Ok opening → IsOpening opening × IsVerifiedProgram opening.program }
+{
+    accepted_programs_are_safe();
+}

@@ -13,6 +13,7 @@ mod event_tests;
 mod events;
 pub mod laws;
 mod machine;
+mod paging;
 mod readings;
 mod registry;
 mod replies;

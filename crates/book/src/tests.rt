@@ -212,21 +212,68 @@ fn a_ticket_that_was_never_issued_is_refused(rt: HostRuntime) {
     assert_eq!(rt; book.last_number(), 0);
 }
 
-#[test]
-fn a_journal_holds_65536_entries(rt: HostRuntime) {
-    let mut book = book(&rt, rt.alloc(), ConfigParts::DEFAULT);
-    for ticket in 1..=32_768 {
+/// Makes this many calls, each reported as a success: two entries a call.
+fn make_calls<R: Abort>(rt: &R, book: &mut Book, calls: u64) {
+    for ticket in 1..=calls {
         let closed = permitted(ticket, State::Closed);
         assert_eq!(rt; book.apply(1, ticket, Event::Acquire), closed);
         let recorded = finished(Fate::Recorded, Verdict::Success, State::Closed);
-        assert_eq!(rt; report(&rt, &mut book, ticket, ticket, 200), recorded);
+        assert_eq!(rt; report(rt, book, ticket, ticket, 200), recorded);
     }
-    let full = Reply::Refused(RefusalNumber::JournalFull);
-    assert_eq!(rt; book.apply(1, 0, Event::Acquire), full);
+}
+
+#[test]
+fn a_journal_holds_65536_entries(rt: HostRuntime) {
+    let mut book = book(&rt, rt.alloc(), ConfigParts::DEFAULT);
+    make_calls(&rt, &mut book, 32_768);
     assert_eq!(rt; book.last_number(), 65_536);
     assert_eq!(rt; book.entries(65_536).len(), 1);
     let spent = Reply::Refused(RefusalNumber::TicketSpent);
     assert_eq!(rt; report(&rt, &mut book, 0, 1, 200), spent);
+    let full = Reply::Refused(RefusalNumber::JournalFull);
+    assert_eq!(rt; book.apply(1, 0, Event::Acquire), full);
+    assert_eq!(rt; book.apply(1, 0, Event::Release(1)), full);
+    assert_eq!(rt; book.apply(1, 0, Event::Reset), full);
+    let cut = book.cut().expect(&rt, "no ticket is open");
+    assert_eq!(rt; cut.len(), 65_536);
+    assert_eq!(rt;
+        book.apply(1, 0, Event::Acquire),
+        permitted(32_769, State::Closed)
+    );
+    assert_eq!(rt; book.last_number(), 65_537);
+}
+
+#[test]
+fn a_journal_keeps_a_line_for_each_open_ticket(rt: HostRuntime) {
+    let mut book = book(&rt, rt.alloc(), ConfigParts::DEFAULT);
+    make_calls(&rt, &mut book, 32_767);
+    assert_eq!(rt; book.last_number(), 65_534);
+    assert_eq!(rt;
+        book.apply(1, 0, Event::Reset),
+        Reply::Moved {
+            state: State::Closed,
+            period: 2
+        }
+    );
+    let full = Reply::Refused(RefusalNumber::JournalFull);
+    assert_eq!(rt; book.apply(1, 0, Event::Acquire), full);
+}
+
+#[test]
+fn a_page_has_a_hundred_entries(rt: HostRuntime) {
+    let mut book = book(&rt, rt.alloc(), ConfigParts::DEFAULT);
+    make_calls(&rt, &mut book, 60);
+    for (from, count) in [(0, 100), (1, 100), (21, 100), (22, 99), (120, 1), (121, 0)] {
+        let page = book.page(from).expect(&rt, "ample memory");
+        assert_eq!(rt; page.len(), count, "from {from}");
+        let held = book.entries(from);
+        for (copy, entry) in page.iter().zip(held) {
+            assert_eq!(rt; copy.number(), entry.number());
+            assert_eq!(rt; copy.seat(), entry.seat());
+            assert_eq!(rt; copy.moment(), entry.moment());
+            assert_eq!(rt; copy.reply(), entry.reply());
+        }
+    }
 }
 
 #[test]
@@ -257,4 +304,18 @@ fn fields_out_of_range_are_named(rt: HostRuntime) {
         };
         assert_eq!(rt; refused, field);
     }
+}
+
+#[test]
+fn text_of_a_bad_configuration(rt: HostRuntime) -> Result<(), Fail> {
+    let mut parts = ConfigParts::DEFAULT;
+    parts.sliding_window_size = 0;
+    match Config::new(parts) {
+        Ok(_) => assert!(rt; false, "a window of no calls"),
+        Err(bad) => {
+            let text = format!(in rt.alloc(); "{bad}")?;
+            assert_eq!(rt; text.as_str(), "refused 47 BadConfig SlidingWindowSize");
+        }
+    }
+    Ok(())
 }

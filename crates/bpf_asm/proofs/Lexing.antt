@@ -1,6 +1,6 @@
 -- Texts and their tokens, put together.
 use Rattle.std.proofs.Common.{◌≡◌, refl, sym, ap, ◌∙◌, ℕ, ◌≤◌, Bool, true, false, not, List, [], ◌∷◌, ◌++◌, append_assoc, arith}
-use Rattle.std.specs.Prelude.{◌&&◌, option_to_list}
+use Rattle.std.specs.Prelude.{option_to_list}
 use Rattle.std.specs.Str.Parse.{AllDigits}
 use Rattle.std.proofs.lemmas.List.{append-nil}
 use Rattle.std.proofs.lemmas.Bool.{ne_eqb, and_parts, and_from}
@@ -8,38 +8,29 @@ use Rattle.std.proofs.lemmas.Str.Parse.{digit_from_value}
 use Rattle.bpf_asm.specs.declared.tokens.Token.{Token}
 use Rattle.bpf_asm.specs.declared.tokens.Token.TheVariants as token
 use Rattle.bpf_asm.specs.Tokens.{run_tokens, mark_of, ends_run, tokens_after}
+use Rattle.bpf_asm.specs.Writing.{is_run, closes}
 use Rattle.bpf_asm.proofs.Scanning.{after_end, after_part, after_all}
-
--- characters of one run
-abbrev pub is_run : List ℕ → Bool
-is_run [] = true
-is_run (c ∷ cs) = not (ends_run c) && is_run cs
-
--- the end, or a character that ends a run
-abbrev pub closes : List ℕ → Bool
-closes [] = true
-closes (c ∷ cs) = ends_run c
 
 -- a text has these tokens, whatever closes it
 pub record Lexes (text : List ℕ) (tokens : List Token) : Type 0 where
   pub lexed : (rest : List ℕ) → closes rest ≡ true → tokens_after [] (text ++ rest) ≡ tokens ++ tokens_after [] rest
 
-was_false : (b : Bool) → not b ≡ true → b ≡ false
+pub was_false : (b : Bool) → not b ≡ true → b ≡ false
 was_false true e = absurd cc
 was_false false e = refl
 
-runs_on : (run text rest : List ℕ) → is_run text ≡ true → tokens_after run (text ++ rest) ≡ tokens_after (run ++ text) rest
+pub runs_on : (run text rest : List ℕ) → is_run text ≡ true → tokens_after run (text ++ rest) ≡ tokens_after (run ++ text) rest
 runs_on run [] rest e = ap (λ (xs : List ℕ). tokens_after xs rest) (sym (append-nil run))
 runs_on run (c ∷ cs) rest e =
     let parts = and_parts (not (ends_run c)) (is_run cs) e in
     after_part run (cs ++ rest) c (was_false _ parts.0) ∙ runs_on (run ++ (c ∷ [])) cs rest parts.1
     ∙ ap (λ (xs : List ℕ). tokens_after xs rest) (append_assoc run (c ∷ []) cs)
 
-no_run : run_tokens [] ≡ []
+pub no_run : run_tokens [] ≡ []
 unfolding run_tokens
 no_run = refl
 
-closed : (run rest : List ℕ) → closes rest ≡ true → tokens_after run rest ≡ run_tokens run ++ tokens_after [] rest
+pub closed : (run rest : List ℕ) → closes rest ≡ true → tokens_after run rest ≡ run_tokens run ++ tokens_after [] rest
 closed run [] e = after_all run ∙ sym (append-nil (run_tokens run)) ∙ ap (λ (ts : List Token). run_tokens run ++ ts) (sym (after_all [] ∙ no_run))
 closed run (c ∷ cs) e =
     let alone = after_end [] cs c e in

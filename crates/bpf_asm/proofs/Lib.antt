@@ -12,3 +12,8 @@ pub mod Pieces
 pub mod Operands
 pub mod Printed
 pub mod Called
+pub mod FirstFault
+pub mod Returning
+pub mod Contents
+pub mod Written
+pub mod Leniency

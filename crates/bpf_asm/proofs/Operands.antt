@@ -20,7 +20,8 @@ use Rattle.bpf_asm.specs.Arguments.{signed_by}
 use Rattle.bpf_asm.specs.Canonical.{with_sign, offset_text, operand_text, place_text, register_text}
 use Rattle.bpf_asm.specs.Reading.{◌>>=◌, immediate_of, wide_of, helper_of, offset_of, distance_of, written, operand_of}
 use Rattle.bpf_asm.proofs.Plain.{all_plain, plain_append}
-use Rattle.bpf_asm.proofs.Lexing.{Lexes, closes, joined, opened, close, plus, minus, close_closes, plus_closes, minus_closes}
+use Rattle.bpf_asm.proofs.Lexing.{Lexes, joined, opened, close, plus, minus, close_closes, plus_closes, minus_closes}
+use Rattle.bpf_asm.specs.Writing.{closes}
 use Rattle.bpf_asm.proofs.Pieces.{register_lexes, register_plain, decimal_lexes, decimal_plain}
 
 -- ---- the signed reading of a word of few bits

@@ -21,7 +21,8 @@ use Rattle.bpf_asm.specs.Tokens.{numeral, number_of, register_named, token_of, t
 use Rattle.bpf_asm.specs.Canonical.{register_text}
 use Rattle.bpf_asm.proofs.Admitted.{IsNamed}
 use Rattle.bpf_asm.proofs.Plain.{all_plain, digits_plain}
-use Rattle.bpf_asm.proofs.Lexing.{Lexes, is_run, piece, digits_run}
+use Rattle.bpf_asm.proofs.Lexing.{Lexes, piece, digits_run}
+use Rattle.bpf_asm.specs.Writing.{is_run}
 
 -- ---- words
 

@@ -24,7 +24,8 @@ use Rattle.bpf_asm.specs.Canonical.{word_of, register_text, operand_text, offset
 use Rattle.bpf_asm.specs.Assembly.{Assembles, statement_on, slots_of, lines_of, small_letters}
 use Rattle.bpf_asm.proofs.Admitted.{IsNamed}
 use Rattle.bpf_asm.proofs.Plain.{all_plain, plain_append, keeps_content, first_line, small_line}
-use Rattle.bpf_asm.proofs.Lexing.{Lexes, closes, joined, blank, comma, nothing, whole, blank_closes, comma_closes}
+use Rattle.bpf_asm.proofs.Lexing.{Lexes, joined, blank, comma, nothing, whole, blank_closes, comma_closes}
+use Rattle.bpf_asm.specs.Writing.{closes}
 use Rattle.bpf_asm.proofs.Pieces.{word_lexes, word_plain, register_lexes, register_plain, decimal_lexes, decimal_plain}
 use Rattle.bpf_asm.proofs.Operands.{operand_tokens, offset_tokens, place_tokens, number_tokens, operand_lexes, offset_lexes, distance_lexes, place_lexes, operand_plain, offset_plain, distance_plain, place_plain, numeral_of, offset_numeral, operand_argument, immediate_read, offset_read, distance_read, wide_read, helper_read, written_read, operand_read}
 use Rattle.bpf_asm.proofs.Programs.{program_is_listed, program_fits}

@@ -38,7 +38,7 @@ pub record Assembles (text : List ℕ) (slots : List Slot) : Type 0 where
 -- ---- the first fault
 
 abbrev pub fault : ℕ → RefusalNumber → AsmError
-fault line number = record { line = line; number = number }
+fault line kind = record { line = line; kind = kind }
 
 abbrev pub out_of_memory : AsmError
 out_of_memory = fault 0 AssemblerOutOfMemory
@@ -54,7 +54,7 @@ with_line slots line = do
 
 abbrev pub at_line : {A : Type 0} → ℕ → Result A RefusalNumber → Result A AsmError
 at_line line (Ok a) = Ok a
-at_line line (Err number) = Err (fault line number)
+at_line line (Err kind) = Err (fault line kind)
 
 abbrev pub then_lines : Result (List Slot) AsmError → (List Slot → Result (List Slot) AsmError) → Result (List Slot) AsmError
 then_lines (Ok slots) f = f slots

@@ -4,3 +4,5 @@ pub mod Tokens
 pub mod Arguments
 pub mod Reading
 pub mod Assembly
+pub mod Faults
+pub mod Writing

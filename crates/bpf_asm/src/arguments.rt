@@ -6,7 +6,7 @@ ghost use Rattle.bpf_asm.specs.Arguments.{argument_of, is_comma, cut, third_of, 
 use crate::tokens::Token;
 use bpf_profile::Register;
 
-#[derive(Clone, Copy, Debug, PartialEq, Eq)]
+#[derive(Clone, Copy, PartialEq, Eq)]
 pub(crate) enum Sign {
     Absent,
     Plus,
@@ -14,14 +14,14 @@ pub(crate) enum Sign {
 }
 
 /// A number as it is written.
-#[derive(Clone, Copy, Debug, PartialEq, Eq)]
+#[derive(Clone, Copy)]
 pub(crate) struct Numeral {
     pub(crate) sign: Sign,
     /// None stands for each number from 2^64 on.
     pub(crate) magnitude: Option<u64>,
 }
 
-#[derive(Clone, Copy, Debug, PartialEq, Eq)]
+#[derive(Clone, Copy)]
 pub(crate) enum Argument {
     Register(Register),
     Number(Numeral),
@@ -30,7 +30,7 @@ pub(crate) enum Argument {
 }
 
 /// The arguments of a line, of which no word has more than three.
-#[derive(Clone, Copy, Debug, PartialEq, Eq)]
+#[derive(Clone, Copy)]
 pub(crate) enum Arguments {
     Zero,
     One(Argument),

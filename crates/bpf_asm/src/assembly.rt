@@ -2,12 +2,14 @@
 ghost use Rattle.std.specs.Prelude.{◌≡◌, ◌==◌, ◌++◌, ◌∷◌, [], ◌⊎◌, ◌<◌, List, Ok, Err, Some, None, IfOk, IfErr, MatchResult, MatchOption, length};
 ghost use Rattle.std.specs.List.{position};
 ghost use Rattle.bpf_profile.specs.declared.slot.Slot.{Slot};
+ghost use Rattle.bpf_profile.specs.Spelling.{IsProgram};
 ghost use Rattle.bpf_encode.specs.Encoding.{encoding};
 ghost use Rattle.bpf_asm.specs.Assembly.{small_letters, lines_of, statement_on, at_line, with_line, with_lines, assembly_of, out_of_memory, Assembles};
+ghost use Rattle.bpf_asm.specs.Canonical.{text_of};
 
 use crate::error::AsmError;
 use crate::reading::statement_of;
-use crate::tokens::tokens_of;
+use crate::tokens::{Token, read_tokens};
 use bpf_decode::Program;
 use bpf_encode::Encoded;
 use bpf_profile::{Instruction, Slot};
@@ -39,11 +41,11 @@ fn push_slots(slots: &mut Vec<Slot>, instruction: &Instruction) -> Result<(), Al
     Ok(())
 }
 
-/// Appends the slots of a line, which is the one of this number.
+/// Appends the slots of a line, which is the one of this number, by way of its tokens.
 #[tactic(auto, unfolding(crate::specs::Assembly::with_line, crate::specs::Assembly::statement_on))]
 fn push_line(
-    alloc: Global,
     slots: &mut Vec<Slot>,
+    tokens: &mut Vec<Token>,
     line: &[u8],
     number: usize,
 ) -> Result<(), AsmError>
@@ -51,14 +53,11 @@ fn push_line(
         (λ _. with_line slots.old.items line.now ≡ Ok slots.new.items)
         (λ e. (e ≡ out_of_memory) ⊎ (at_line number (with_line slots.old.items line.now) ≡ Err e)) }
 {
-    let tokens = tokens_of(alloc, line)?;
-    let statement = match statement_of(&tokens) {
+    read_tokens(tokens, line)?;
+    let statement = match statement_of(tokens) {
         Ok(statement) => statement,
-        Err(refusal) => {
-            return Err(AsmError {
-                line: number,
-                number: refusal,
-            });
+        Err(kind) => {
+            return Err(AsmError { line: number, kind });
         }
     };
     if let Some(instruction) = statement {
@@ -67,7 +66,7 @@ fn push_line(
     if slots.len() > MOST_SLOTS {
         return Err(AsmError {
             line: number,
-            number: RefusalNumber::BadTextLength,
+            kind: RefusalNumber::BadTextLength,
         });
     }
     Ok(())
@@ -99,11 +98,12 @@ fn slots_of(alloc: Global, text: &[u8]) -> Result<Vec<Slot>, AsmError>
         (λ e. (e ≡ out_of_memory) ⊎ (with_lines 1 [] (lines_of text.now) ≡ Err e)) }
 {
     let mut slots = Vec::new(alloc);
+    let mut tokens = Vec::new(alloc);
     let mut rest = text;
     let mut number = 1;
     'lines: loop {
         let (line, more) = cut_line(rest);
-        push_line(alloc, &mut slots, line, number)?;
+        push_line(&mut slots, &mut tokens, line, number)?;
         let Some(more) = more else {
             return Ok(slots);
         };
@@ -125,13 +125,15 @@ pub fn assemble(alloc: Global, text: &str) -> Result<Program, AsmError>
     ensures refused { IfErr result (λ e. (e ≡ out_of_memory) ⊎ ((slots : List Slot) → ¬ Assembles text.now slots)) }
     // An error is the first fault, with its line, unless memory ran out.
     ensures fault { IfErr result (λ e. (e ≡ out_of_memory) ⊎ (assembly_of text.now ≡ Err e)) }
+    // The text that a program is disassembled to is assembled to that program, unless memory ran out.
+    ensures round_trip { (slots : List Slot) → IsProgram slots → text.now ≡ text_of slots → MatchResult result (λ program. program ≡ slots) (λ e. e ≡ out_of_memory) }
 {
     let small = small_letters(alloc, text)?;
     let slots = slots_of(alloc, &small)?;
     if slots.is_empty() {
         return Err(AsmError {
             line: 0,
-            number: RefusalNumber::BadTextLength,
+            kind: RefusalNumber::BadTextLength,
         });
     }
     Ok(Program::from_slots(slots))

@@ -1,17 +1,30 @@
 //! Why a text is no program.
 use refusals::RefusalNumber;
 use std::alloc::AllocError;
+use std::fmt;
 use thiserror::Error;
 
-/// The first fault of a text, or want of memory.
+/// The first fault of a text, or want of memory. Its text is the one that the program prints, as
+/// `refused 41 UnknownWord line 2`.
 #[derive(Clone, Copy, Debug, PartialEq, Eq, Error)]
-#[error("{} {} at line {line}", .number.number(), .number.name())]
 pub struct AsmError {
     /// The line of the fault, counted from 1. It is 0 where the text has no instruction and where
     /// memory runs out.
     pub line: usize,
     /// `UnknownWord`, `BadOperand`, `BadNumber` or `BadTextLength`, or `AssemblerOutOfMemory`.
-    pub number: RefusalNumber,
+    pub kind: RefusalNumber,
+}
+
+impl fmt::Display for AsmError {
+    fn fmt<W: fmt::Write>(&self, f: &mut fmt::Formatter<W>) -> fmt::Result {
+        let number = self.kind.number();
+        let name = self.kind.name();
+        write!(f, "refused {number} {name}")?;
+        match self.kind {
+            RefusalNumber::AssemblerOutOfMemory => Ok(()),
+            _ => write!(f, " line {}", self.line),
+        }
+    }
 }
 
 impl From<AllocError> for AsmError {
@@ -23,7 +36,7 @@ impl From<AllocError> for AsmError {
     fn from(_error: AllocError) -> AsmError {
         AsmError {
             line: 0,
-            number: RefusalNumber::AssemblerOutOfMemory,
+            kind: RefusalNumber::AssemblerOutOfMemory,
         }
     }
 }

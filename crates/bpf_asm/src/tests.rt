@@ -23,11 +23,11 @@ mov r0, 1
 exit
 ";
 
-/// The line and the number of the text's first fault.
+/// The line and the kind of the text's first fault.
 fn fault(alloc: Global, text: &str) -> Option<(usize, RefusalNumber)> {
     match assemble(alloc, text) {
         Ok(_) => None,
-        Err(e) => Some((e.line, e.number)),
+        Err(e) => Some((e.line, e.kind)),
     }
 }
 
@@ -243,15 +243,87 @@ fn texts_of_no_program(rt: HostRuntime) -> Result<(), Fail> {
     Ok(())
 }
 
+/// Numbers of lines: each power of two up to the most, one less and one more.
+const COUNTS: [usize; 33] = [
+    1, 2, 3, 4, 5, 7, 8, 9, 15, 16, 17, 31, 32, 33, 63, 64, 65, 127, 128, 129, 255, 256, 257, 511,
+    512, 513, 1023, 1024, 1025, 2047, 2048, 2049, 4095,
+];
+
 #[test]
-fn texts(rt: HostRuntime) -> Result<(), Fail> {
-    let e = AsmError {
-        line: 2,
-        number: RefusalNumber::BadNumber,
-    };
-    assert_eq!(rt;
-        format!(in rt.alloc(); "{e}")?.as_str(),
-        "43 BadNumber at line 2"
-    );
+fn texts_of_many_lines(rt: HostRuntime) -> Result<(), Fail> {
+    for count in COUNTS {
+        let text = exits(rt.alloc(), count, "")?;
+        let program = assemble(rt.alloc(), &text)?;
+        assert_eq!(rt; program.len(), count);
+        assert_eq!(rt; disassemble(rt.alloc(), &program)?.as_str(), text.as_str());
+    }
+    let text = exits(rt.alloc(), 4096, "")?;
+    let program = assemble(rt.alloc(), &text)?;
+    assert_eq!(rt; program.len(), 4096);
+    assert_eq!(rt; disassemble(rt.alloc(), &program)?.as_str(), text.as_str());
+    Ok(())
+}
+
+#[test]
+fn texts_of_each_length(rt: HostRuntime) -> Result<(), Fail> {
+    let mut text = String::from_str(rt.alloc(), "exit")?;
+    for length in 5usize..300 {
+        text.push(' ')?;
+        assert_eq!(rt; text.len(), length);
+        let program = assemble(rt.alloc(), &text)?;
+        assert_eq!(rt; program.len(), 1, "{length}");
+        assert_eq!(rt; disassemble(rt.alloc(), &program)?.as_str(), "exit\n");
+    }
+    Ok(())
+}
+
+/// The longest lines that are written, 30 bytes each.
+#[test]
+fn texts_of_long_lines(rt: HostRuntime) -> Result<(), Fail> {
+    for count in [1usize, 2, 3, 41, 64, 1000, 4096] {
+        let mut text = String::new(rt.alloc());
+        for _ in 0..count {
+            text.push_str("jslt32 r7, -2147483648, -32768\n")?;
+        }
+        let program = assemble(rt.alloc(), &text)?;
+        assert_eq!(rt; program.len(), count);
+        assert_eq!(rt; disassemble(rt.alloc(), &program)?.as_str(), text.as_str());
+    }
+    Ok(())
+}
+
+#[test]
+fn texts_of_errors(rt: HostRuntime) -> Result<(), Fail> {
+    let rows = [
+        (
+            2,
+            RefusalNumber::UnknownWord,
+            "refused 41 UnknownWord line 2",
+        ),
+        (
+            10,
+            RefusalNumber::BadOperand,
+            "refused 42 BadOperand line 10",
+        ),
+        (
+            4096,
+            RefusalNumber::BadNumber,
+            "refused 43 BadNumber line 4096",
+        ),
+        (
+            0,
+            RefusalNumber::BadTextLength,
+            "refused 44 BadLength line 0",
+        ),
+        (
+            0,
+            RefusalNumber::AssemblerOutOfMemory,
+            "refused 45 OutOfMemory",
+        ),
+    ];
+    for (line, kind, text) in rows {
+        let e = AsmError { line, kind };
+        assert_eq!(rt; format!(in rt.alloc(); "{e}")?.as_str(), text);
+    }
     Ok(())
 }

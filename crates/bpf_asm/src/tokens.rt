@@ -5,10 +5,10 @@ ghost use Rattle.bpf_asm.specs.Tokens.{bounded, numeral, number_of, register_nam
 
 use crate::words::{Word, word_named};
 use bpf_profile::Register;
-use std::alloc::{AllocError, Global};
+use std::alloc::AllocError;
 
 /// A word, a register, a number or a mark.
-#[derive(Clone, Copy, Debug, PartialEq, Eq)]
+#[derive(Clone, Copy)]
 pub(crate) enum Token {
     Word(Word),
     Register(Register),
@@ -173,19 +173,19 @@ fn content_of(line: &[u8]) -> &[u8]
     }
 }
 
-/// The tokens of a line, whose letters are small.
-pub(crate) fn tokens_of(alloc: Global, line: &[u8]) -> Result<Vec<Token>, AllocError>
-    ensures { IfOk result (λ tokens. tokens.items ≡ tokens_of line.now) }
+/// Puts the tokens of a line, whose letters are small, in place of those that were there.
+pub(crate) fn read_tokens(tokens: &mut Vec<Token>, line: &[u8]) -> Result<(), AllocError>
+    ensures { IfOk result (λ _. tokens.new.items ≡ tokens_of line.now) }
 {
+    tokens.clear();
     let content = content_of(line);
-    let mut tokens = Vec::new(alloc);
     let mut start = 0;
     for (place, character) in content.iter().enumerate() {
         if ends_run(*character) {
-            push_ended(&mut tokens, &content[start..place], *character)?;
+            push_ended(tokens, &content[start..place], *character)?;
             start = place + 1;
         }
     }
-    push_run(&mut tokens, &content[start..])?;
-    Ok(tokens)
+    push_run(tokens, &content[start..])?;
+    Ok(())
 }

@@ -5,7 +5,7 @@ ghost use Rattle.bpf_asm.specs.Names.{operation_name, comparison_name, width_nam
 use bpf_profile::{ByteOrder, Comparison, Extension, Operation, Size, Width};
 
 /// What the first word of a line names.
-#[derive(Clone, Copy, Debug, PartialEq, Eq)]
+#[derive(Clone, Copy)]
 pub(crate) enum Word {
     Arithmetic(Operation, Width),
     Negate(Width),

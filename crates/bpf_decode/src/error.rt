@@ -1,11 +1,12 @@
 //! Why bytes are no program.
+use bpf_profile::FaultText;
 use refusals::RefusalNumber;
 use std::alloc::AllocError;
+use std::fmt;
 use thiserror::Error;
 
 /// The first fault of bytes that spell no program, or want of memory.
 #[derive(Clone, Copy, Debug, PartialEq, Eq, Error)]
-#[error("{} {} at slot {slot}", .number.number(), .number.name())]
 pub struct DecodeError {
     /// The place of the fault in slots of eight bytes, from 0 to 4,095. It is 0 where the length is
     /// wrong and where memory runs out.
@@ -13,6 +14,22 @@ pub struct DecodeError {
     /// `Length`, `UnknownOpcode`, `LeftOut`, `BadField`, `BadRegister` or `BadTail`, or
     /// `ProgramOutOfMemory`.
     pub number: RefusalNumber,
+}
+
+impl fmt::Display for DecodeError {
+    ghost use Rattle.std.specs.Prelude.{Some};
+    ghost use Rattle.bpf_profile.specs.FaultTexts.{fault_text};
+    ghost use Rattle.bpf_decode.specs.Faults.{fault_of};
+
+    ghost output = { λ error. Some (fault_text (fault_of error)) };
+
+    fn fmt<W: fmt::Write>(&self, f: &mut fmt::Formatter<W>) -> fmt::Result {
+        let shown = FaultText {
+            slot: self.slot,
+            number: self.number,
+        };
+        write!(f, "{shown}")
+    }
 }
 
 impl From<AllocError> for DecodeError {

@@ -7,6 +7,7 @@ mod program;
 mod reading;
 mod writing;
 
+pub use bpf_profile::Slot;
 pub use error::DecodeError;
 pub use program::Program;
 

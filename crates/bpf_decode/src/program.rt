@@ -40,6 +40,8 @@ impl Program {
         ensures program { IfOk result (λ slots. Spells bytes.now slots) }
         // An error is the first fault of the bytes, unless memory ran out.
         ensures fault { IfErr result (λ e. IsFirstFault bytes.now e) }
+        // The slot of an error is one that a program may have.
+        ensures slot { IfErr result (λ e. e.slot < 4096) }
         // What is spelled so is decoded, unless memory ran out.
         ensures complete { (slots : List Slot) → Spells bytes.now slots → MatchResult result (λ p. p ≡ slots) (λ e. e ≡ out_of_memory) }
     {

@@ -1,5 +1,5 @@
 //! Bytes read as slots, and the first fault of the slots.
-ghost use Rattle.std.specs.Prelude.{◌≡◌, ◌≤◌, ◌/◌, ◌<◌, ◌+◌, length, slice_get, IfSome, IfOk, false};
+ghost use Rattle.std.specs.Prelude.{◌≡◌, ◌≤◌, ◌/◌, ◌<◌, ◌+◌, length, slice_get, IfSome, IfOk, IfErr, false};
 ghost use Rattle.bpf_profile.specs.Slots.{instruction_of};
 ghost use Rattle.bpf_profile.specs.Spelling.{is_bad_length, slot_at, slots_at, is_wide, fault_from};
 ghost use Rattle.bpf_decode.specs.Faults.{found_fault};
@@ -83,7 +83,8 @@ pub(crate) fn instruction_at(slots: &[Slot], place: usize) -> Result<Instruction
 /// again, since the first one is refused where it is no tail.
 pub(crate) fn check_slots(slots: &[Slot]) -> Result<(), DecodeError>
     requires { length slots.now ≤ 4096 }
-    ensures { found_fault result ≡ fault_from 0 false slots.now }
+    ensures fault { found_fault result ≡ fault_from 0 false slots.now }
+    ensures slot { IfErr result (λ e. e.slot < 4096) }
 {
     let mut is_second = false;
     for (place, slot) in slots.iter().enumerate() {

@@ -122,7 +122,12 @@ fn texts(rt: HostRuntime) -> Result<(), Fail> {
     };
     assert_eq!(rt;
         format!(in rt.alloc(); "{e}")?.as_str(),
-        "3 BadField at slot 7"
+        "refused 3 BadField slot 7"
+    );
+    let memory = DecodeError::from(AllocError);
+    assert_eq!(rt;
+        format!(in rt.alloc(); "{memory}")?.as_str(),
+        "refused 23 OutOfMemory"
     );
     Ok(())
 }

@@ -1,5 +1,5 @@
 -- The immediates and offsets of a program's instructions are words.
-use Rattle.std.proofs.Common.{◌≡◌, ℕ, zero, suc, pos, negsuc, ◌+◌, ◌*◌, ◌^◌, ◌<◌, ◌==◌, Bool, true, false, cond, List, [], ◌∷◌, Option, Some, None, Result, Ok, Err, refl, sym, ap, ◌∙◌, subst, arith}
+use Rattle.std.proofs.Common.{◌≡◌, ℕ, zero, suc, pos, negsuc, ◌+◌, ◌*◌, ◌^◌, ◌<◌, ◌==◌, Bool, true, false, cond, List, [], ◌∷◌, Option, Some, None, Result, Ok, Err, refl, subst, arith}
 use Rattle.std.proofs.lemmas.Nat.{pow_pos, mod_below}
 use Rattle.std.specs.List.{AllByRecursion}
 use Rattle.std.specs.Prelude.{slice_get, nat_lt}
@@ -23,7 +23,7 @@ use Rattle.bpf_profile.specs.Meaning.{instruction_at}
 use Rattle.bpf_profile.specs.Opcodes.{opcode_of}
 use Rattle.bpf_profile.specs.Slots.{instruction_of, read_opcode, read_fields, instruction_with, arithmetic_instruction, signed_variant, wide_instruction, operand_of, immediate_word, offset_word, is_left_out, fields_fit, registers_fit, bits_size}
 use Rattle.bpf_profile.specs.Spelling.{IsSlot, IsProgram}
-use Rattle.bpf_profile.specs.Words.{IsWord, word_of, sign_extended, low}
+use Rattle.bpf_profile.specs.Words.{IsWord, word_of, low}
 use Rattle.bpf_profile.proofs.Edges.{slot_of}
 
 abbrev pub OperandIsWord : Operand → Type 0

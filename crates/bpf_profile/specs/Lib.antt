@@ -6,5 +6,7 @@ pub mod Outcomes
 pub mod Machine
 pub mod Helpers
 pub mod Meaning
+pub mod Faults
+pub mod FaultTexts
 pub mod Flow
 pub mod Safety

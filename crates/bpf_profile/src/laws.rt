@@ -1,16 +1,18 @@
 //! What the definitions entail, stated apart from them.
-ghost use Rattle.std.specs.Prelude.{◌≡◌, ◌≢◌, ℕ, ◌+◌, ◌-◌, ◌*◌, ◌^◌, ◌<◌, ◌≤◌, List, Option, None, Some, IsSome, Result, Ok};
+ghost use Rattle.std.specs.Prelude.{◌≡◌, ◌≢◌, ◌↔◌, ℕ, ◌+◌, ◌-◌, ◌*◌, ◌/◌, ◌^◌, ◌<◌, ◌≤◌, true, false, List, length, Option, None, Some, IsSome, Result, Ok};
+ghost use Rattle.refusals.specs.declared.RefusalNumber.TheVariants.{Length};
 ghost use Rattle.bpf_profile.specs.declared.instruction.Operation.{Operation};
 ghost use Rattle.bpf_profile.specs.declared.instruction.Width.{Width};
 ghost use Rattle.bpf_profile.specs.declared.machine.TrapReason.{TrapReason};
 ghost use Rattle.bpf_profile.specs.declared.machine.Verdict.{Verdict};
 ghost use Rattle.bpf_profile.specs.declared.slot.Slot.{Slot};
 ghost use Rattle.bpf_profile.specs.Words.{IsWord, arithmetic, low, bits_of};
-ghost use Rattle.bpf_profile.specs.Spelling.{IsProgram};
+ghost use Rattle.bpf_profile.specs.Faults.{IsLeastFault, IsFaultless, decoding_fault_at, slots_of};
+ghost use Rattle.bpf_profile.specs.Spelling.{IsProgram, Fault, first_fault, is_bad_length};
 ghost use Rattle.bpf_profile.specs.Outcomes.{Outcome, IsOutcome};
 ghost use Rattle.bpf_profile.specs.Machine.{State, Effect};
 ghost use Rattle.bpf_profile.specs.Meaning.{step, Ends, Judges, instruction_at};
-ghost use Rattle.bpf_profile.specs.Flow.{IsBudget, Edge, flow_fault};
+ghost use Rattle.bpf_profile.specs.Flow.{IsBudget, Edge, flow_fault, flow_fault_at};
 ghost use Rattle.bpf_profile.specs.Safety.{IsSafe};
 
 /// Division by 0 gives 0, and the remainder by 0 is the dividend (RFC 9669, section 4.1).
@@ -67,6 +69,28 @@ pub fn verdict_is_determined()
 /// A program has one budget, or none.
 pub fn budget_is_determined()
     ensures { (slots : List Slot) (b c : ℕ) → IsBudget slots b → IsBudget slots c → b ≡ c }
+{}
+
+/// A budget is at least 1, and where the flow is accepted no more than the program has slots: so it is
+/// at most 4,096.
+pub fn budgets_are_few()
+    ensures some { (slots : List Slot) (budget : ℕ) → IsBudget slots budget → 1 ≤ budget }
+    ensures few { (slots : List Slot) (budget : ℕ) → IsProgram slots → flow_fault slots ≡ None → IsBudget slots budget → budget ≤ length slots }
+{}
+
+/// The first fault of bytes is that of their length, or else that of the least slot that has one. Where
+/// no slot has one the bytes have none.
+pub fn first_fault_is_the_least()
+    ensures bad_length { (bytes : List ℕ) → is_bad_length (length bytes) ≡ true → first_fault bytes ≡ Some (record { slot = 0; number = Length }) }
+    ensures some { (bytes : List ℕ) (fault : Fault) → is_bad_length (length bytes) ≡ false → ((first_fault bytes ≡ Some fault) ↔ IsLeastFault (decoding_fault_at (slots_of bytes)) (length bytes / 8) fault) }
+    ensures none { (bytes : List ℕ) → is_bad_length (length bytes) ≡ false → ((first_fault bytes ≡ None) ↔ IsFaultless (decoding_fault_at (slots_of bytes)) (length bytes / 8)) }
+{}
+
+/// The fault of a program's flow is that of the least slot that has one. Where no slot has one the flow
+/// is accepted.
+pub fn flow_fault_is_the_least()
+    ensures some { (slots : List Slot) (fault : Fault) → (flow_fault slots ≡ Some fault) ↔ IsLeastFault (flow_fault_at slots) (length slots) fault }
+    ensures none { (slots : List Slot) → (flow_fault slots ≡ None) ↔ IsFaultless (flow_fault_at slots) (length slots) }
 {}
 
 /// Each edge of a program whose flow is accepted leads forward, to an instruction.

@@ -2,6 +2,7 @@
 //! the plain types that the crates above share.
 #![tactic(auto)]
 
+mod fault_text;
 mod fields;
 mod instruction;
 pub mod laws;
@@ -10,6 +11,7 @@ mod opcode;
 mod register;
 mod slot;
 
+pub use fault_text::FaultText;
 pub use instruction::{
     ByteOrder, Comparison, Extension, Instruction, Operand, Operation, Size, Width,
 };

@@ -1,11 +1,12 @@
 //! Work that was judged, tied to its program and its outcome.
-ghost use Rattle.std.specs.Prelude.{◌≡◌};
+ghost use Rattle.std.specs.Prelude.{◌≡◌, IfOk};
 ghost use Rattle.std.specs.Arc.{arc_value};
 ghost use Rattle.bpf_run.specs.JudgedWork.{IsTied};
 
 use crate::execution::run;
 use bpf_profile::Verdict;
 use helpers::Record;
+use std::alloc::AllocError;
 use std::marker::Model;
 use std::sync::Arc;
 use verifier::Verified;
@@ -47,6 +48,25 @@ pub fn judge(program: Arc<Verified>, outcome: Record) -> Judged
 }
 
 impl Judged {
+    /// The same judged work once more, under one more owner of its program. The error comes where the
+    /// program can have no more owners.
+    pub fn try_clone(&self) -> Result<Judged, AllocError>
+        ensures { IfOk result (λ copy. copy ≡ self.now) }
+    {
+        let Judged {
+            program,
+            outcome,
+            verdict,
+            steps,
+        } = self;
+        Ok(Judged {
+            program: Arc::try_clone(program)?,
+            outcome: *outcome,
+            verdict: *verdict,
+            steps: *steps,
+        })
+    }
+
     /// The program that judged.
     pub fn program(&self) -> &Arc<Verified>
         ensures program { arc_value result.now ≡ self.now.program }

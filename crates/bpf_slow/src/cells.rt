@@ -82,12 +82,7 @@ fn is_some_piece(cell: Cell) -> bool
 fn has_piece(cells: &[Cell]) -> bool
     ensures { result ≡ list_any is_some_piece cells.now }
 {
-    for cell in cells {
-        if is_some_piece(*cell) {
-            return true;
-        }
-    }
-    false
+    cells.iter().any(|cell| is_some_piece(*cell))
 }
 
 /// Reads the bytes that the cells hold, and answers whether each holds one. Where one doesn't,

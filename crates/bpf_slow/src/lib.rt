@@ -17,5 +17,6 @@ mod step;
 mod tests;
 mod tracing;
 
+pub use bpf_profile::TrapReason;
 pub use ending::End;
 pub use tracing::trace;

@@ -1,6 +1,6 @@
 //! Prints what the commands of `sidecar` answer to the example classifiers that its arguments name: to
 //! the assembler text `NAME.asm` and to Clang's bytecode of `NAME.c` in `NAME.hex`, on the outcomes in
-//! the lines of `NAME.jsonl`.
+//! the lines of `NAME.jsonl`. For an argument `NAME.replay` it replays the events of that file.
 #![tactic(auto)]
 
 use sidecar_commands::command;
@@ -61,9 +61,21 @@ fn show_example(rt: &HostRuntime, name: &str) -> io::Result<()> {
     show(rt.alloc(), compiled.trim_end(), &outcomes, &mut out)
 }
 
+/// Prints what is answered to the events of a replay.
+fn show_replay(rt: &HostRuntime, name: &str) -> io::Result<()> {
+    let events = text_of(rt, name, "replay")?;
+    let mut out = rt.stdout();
+    writeln!(out, "{name}.replay")?;
+    answer(rt.alloc(), &["replay"], &events, &mut out)?;
+    Ok(())
+}
+
 fn main(rt: HostRuntime) -> io::Result<()> {
     for name in env::args(&rt)?.skip(1) {
-        show_example(&rt, &name)?;
+        match name.as_str().strip_suffix(".replay") {
+            Some(name) => show_replay(&rt, name)?,
+            None => show_example(&rt, &name)?,
+        }
     }
     Ok(())
 }

@@ -1,4 +1,5 @@
 pub mod Accepted
+pub mod EdgeKinds
 pub mod Marks
 pub mod Refusals
 pub mod Walks

@@ -1,7 +1,8 @@
 //! Where control may go on after an instruction.
-ghost use Rattle.std.specs.Prelude.{◌≡◌, ℕ, ◌+◌, ◌^◌, ◌<◌, ◌≤◌, length, All, IfSome, option_map};
+ghost use Rattle.std.specs.Prelude.{◌≡◌, ℕ, ◌+◌, ◌^◌, ◌<◌, ◌≤◌, length, All, IfSome, option_map, option_and_then};
 ghost use Rattle.bpf_profile.specs.Spelling.{IsProgram};
 ghost use Rattle.bpf_profile.specs.Machine.{target_of};
+ghost use Rattle.bpf_profile.specs.Meaning.{instruction_at};
 ghost use Rattle.bpf_profile.specs.Flow.{next_of, distance_of, successors, flow_fault};
 ghost use Rattle.flow_check.specs.Routes.{successor_list};
 
@@ -75,6 +76,8 @@ pub fn successors_of(slots: &[Slot], place: usize) -> Successors
     requires within { place < length slots.now }
     ensures edges { successor_list result ≡ successors slots.now place }
     ensures inside { All (λ to. to < length slots.now) (successor_list result) }
+    ensures next { result.next ≡ option_and_then (next_of place) (instruction_at slots.now place) }
+    ensures target { result.target ≡ option_and_then (λ i. option_map (target_of place) (distance_of i)) (instruction_at slots.now place) }
 {
     match instruction_at(slots, place) {
         Some(instruction) => Successors {

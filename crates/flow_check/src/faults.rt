@@ -1,5 +1,5 @@
 //! What is refused before any value is looked at.
-ghost use Rattle.std.specs.Prelude.{◌≡◌, ℕ, ◌<◌, ◌≤◌, length, option_map};
+ghost use Rattle.std.specs.Prelude.{◌≡◌, ℕ, ◌<◌, ◌≤◌, length, option_map, IfSome};
 ghost use Rattle.bpf_profile.specs.Flow.{jump_fault, next_fault, flow_fault_at, flow_fault, is_tail_at};
 ghost use Rattle.flow_check.specs.Passes.{AreEntered, edge_fault};
 ghost use Rattle.flow_check.specs.Refused.{fault_of};
@@ -80,7 +80,8 @@ fn fault_at(slots: &[Slot], entered: &[bool], place: usize) -> Option<RefusalNum
 pub fn first_fault(slots: &[Slot], entered: &[bool]) -> Option<FlowError>
     requires few { length slots.now ≤ 4096 }
     requires entered { AreEntered slots.now (length slots.now) entered.now }
-    ensures { option_map fault_of result ≡ flow_fault slots.now }
+    ensures fault { option_map fault_of result ≡ flow_fault slots.now }
+    ensures slot { IfSome result (λ e. e.slot < 4096) }
 {
     for place in 0..slots.len() {
         if let Some(number) = fault_at(slots, entered, place) {

@@ -4,7 +4,7 @@ ghost use Rattle.std.specs.List.{range_with_len};
 ghost use Rattle.bpf_profile.specs.Spelling.{IsProgram};
 ghost use Rattle.bpf_profile.specs.Flow.{IsBudget, successors, flow_fault};
 ghost use Rattle.flow_check.specs.Passes.{IsLengthened};
-ghost use Rattle.flow_check.specs.Routes.{Routes, successor_list};
+ghost use Rattle.flow_check.specs.Routes.{Routes, successor_list, successors_at, AreFew};
 ghost use Rattle.flow_check.specs.Refused.{out_of_memory, fault_of};
 
 use crate::edges::{Successors, successors_of};
@@ -29,21 +29,27 @@ pub struct Flow {
 impl Model for Flow {
     ghost Value = { Routes };
 
-    ghost view = { λ flow. record { edges = map successor_list flow.edges.items; budget = flow.budget } };
+    ghost view = { λ flow. record { edges = map successor_list flow.edges.items; successors = flow.edges.items; budget = flow.budget } };
+
+    ghost invariant = { λ flow. AreFew flow.edges.items flow.budget };
 }
 
 impl Flow {
     /// The slots to which edges lead from a slot; none from a tail.
     pub fn successors(&self, slot: usize) -> Successors
         requires { slot < length self.now.edges }
-        ensures { slice_get self.now.edges slot ≡ Some (successor_list result) }
+        ensures edges { slice_get self.now.edges slot ≡ Some (successor_list result) }
+        ensures kinds { slice_get self.now.successors slot ≡ Some result }
+        ensures few { All (λ to. to < 4096) (successor_list result) }
     {
         self.edges[slot]
     }
 
     /// How many instructions the program executes at most, from 1 to 4,096.
     pub fn budget(&self) -> u32
-        ensures { result ≡ self.now.budget }
+        ensures budget { result ≡ self.now.budget }
+        ensures some { 1 ≤ result }
+        ensures few { result ≤ 4096 }
     {
         self.budget
     }
@@ -84,6 +90,7 @@ fn follow_all(
     ensures budget { IfOk result (λ budget. IsBudget slots.now budget) }
     ensures counted { OnOk result (length (map successor_list edges.new.items) ≡ length slots.now) }
     ensures edges { OnOk result (map successor_list edges.new.items ≡ map (successors slots.now) (range_with_len 0 (length slots.now))) }
+    ensures kinds { OnOk result (edges.new.items ≡ map (successors_at slots.now) (range_with_len 0 (length slots.now))) }
 {
     longest[0] = 1;
     let mut budget = 0;
@@ -104,6 +111,7 @@ fn routes_of(alloc: Global, slots: &[Slot]) -> Result<Flow, AllocError>
     ensures budget { IfOk result (λ flow. IsBudget slots.now flow.budget) }
     ensures counted { IfOk result (λ flow. length flow.edges ≡ length slots.now) }
     ensures edges { IfOk result (λ flow. flow.edges ≡ map (successors slots.now) (range_with_len 0 (length slots.now))) }
+    ensures kinds { IfOk result (λ flow. flow.successors ≡ map (successors_at slots.now) (range_with_len 0 (length slots.now))) }
 {
     let mut edges = Vec::with_capacity(alloc, slots.len())?;
     let mut longest = [0u32; MOST_SLOTS];
@@ -114,7 +122,8 @@ fn routes_of(alloc: Global, slots: &[Slot]) -> Result<Flow, AllocError>
 /// The first fault of a program.
 fn fault(slots: &[Slot]) -> Option<FlowError>
     requires { length slots.now ≤ 4096 }
-    ensures { option_map fault_of result ≡ flow_fault slots.now }
+    ensures fault { option_map fault_of result ≡ flow_fault slots.now }
+    ensures slot { IfSome result (λ e. e.slot < 4096) }
 {
     let mut marks = [false; MOST_SLOTS];
     let entered = &mut marks[..slots.len()];
@@ -133,8 +142,12 @@ pub fn check(alloc: Global, program: &Program) -> Result<Flow, FlowError>
     // The edges of each slot, in the order of the slots.
     ensures counted { IfOk result (λ flow. length flow.edges ≡ length program.now) }
     ensures edges { IfOk result (λ flow. flow.edges ≡ map (successors program.now) (range_with_len 0 (length program.now))) }
+    // Which of them leads behind the instruction, and which to the target of its jump.
+    ensures kinds { IfOk result (λ flow. flow.successors ≡ map (successors_at program.now) (range_with_len 0 (length program.now))) }
     // An error is the first fault, unless memory ran out.
     ensures refused { IfErr result (λ e. (e ≡ out_of_memory) ⊎ (flow_fault program.now ≡ Some (fault_of e))) }
+    // Its slot is one that a program may have.
+    ensures slot { IfErr result (λ e. e.slot < 4096) }
 {
     let slots = program.slots();
     if let Some(error) = fault(slots) {

@@ -11,6 +11,11 @@ const EXIT: [u8; 8] = [0x95, 0, 0, 0, 0, 0, 0, 0];
 /// To itself, since a distance counts from the next slot.
 const JUMP_BACK: [u8; 8] = [0x05, 0, 0xff, 0xff, 0, 0, 0, 0];
 
+/// To the next slot.
+const JUMP_BY_0: [u8; 8] = [0x05, 0, 0, 0, 0, 0, 0, 0];
+
+const JUMP_BY_1: [u8; 8] = [0x05, 0, 1, 0, 0, 0, 0, 0];
+
 const JUMP_BY_5: [u8; 8] = [0x05, 0, 5, 0, 0, 0, 0, 0];
 
 const BRANCH_BY_0: [u8; 8] = [0x15, 0, 0, 0, 0, 0, 0, 0];
@@ -49,7 +54,7 @@ fn refused(slot: u32, number: RefusalNumber) -> Result<u32, FlowError> {
 
 #[test]
 fn answers(rt: HostRuntime) {
-    let rows: [(&[[u8; 8]], Result<u32, FlowError>); 8] = [
+    let rows: [(&[[u8; 8]], Result<u32, FlowError>); 9] = [
         (&[JUMP_BACK, EXIT], refused(0, RefusalNumber::BackJump)),
         (
             &[BRANCH_BY_1, WIDE, TAIL, EXIT],
@@ -59,6 +64,7 @@ fn answers(rt: HostRuntime) {
         (&[MOVE], refused(0, RefusalNumber::FallsOff)),
         (&[JUMP_BY_5, EXIT], refused(0, RefusalNumber::JumpOut)),
         (&[WIDE, TAIL, EXIT], Ok(2)),
+        (&[JUMP_BY_0, EXIT], Ok(2)),
         (
             &[
                 MOVE,
@@ -117,6 +123,26 @@ fn edges(rt: HostRuntime) -> Result<(), Fail> {
     Ok(())
 }
 
+/// The edge of a jump leads to its target, also where that is the next slot.
+#[test]
+fn edges_of_jumps(rt: HostRuntime) -> Result<(), Fail> {
+    let slots = [BRANCH_BY_1, JUMP_BY_1, JUMP_BY_0, EXIT];
+    let program = Program::decode(rt.alloc(), slots.as_flattened())?;
+    assert_eq!(rt; program.len(), 4);
+    let flow = check(rt.alloc(), &program)?;
+    let rows = [
+        (0, Some(1), Some(2)),
+        (1, None, Some(3)),
+        (2, None, Some(3)),
+        (3, None, None),
+    ];
+    for (slot, next, target) in rows {
+        assert!(rt; slot < program.len());
+        assert_eq!(rt; flow.successors(slot), Successors { next, target });
+    }
+    Ok(())
+}
+
 #[test]
 fn refusal_in_words(rt: HostRuntime) -> Result<(), Fail> {
     let error = FlowError {
@@ -124,6 +150,9 @@ fn refusal_in_words(rt: HostRuntime) -> Result<(), Fail> {
         number: RefusalNumber::JumpOut,
     };
     let text = format!(in rt.alloc(); "{error}")?;
-    assert_eq!(rt; text.as_str(), "slot 3: JumpOut");
+    assert_eq!(rt; text.as_str(), "refused 8 JumpOut slot 3");
+    let memory = FlowError::from(AllocError);
+    let text = format!(in rt.alloc(); "{memory}")?;
+    assert_eq!(rt; text.as_str(), "refused 23 OutOfMemory");
     Ok(())
 }

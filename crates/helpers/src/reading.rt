@@ -8,16 +8,32 @@ use crate::fields::{Fields, Kind, Method};
 use crate::hexadecimal::read_padded;
 use crate::record::Record;
 use crate::tag::Tag;
+use bpf_profile::FaultText;
 use refusals::RefusalNumber;
 use serde_json::Value;
+use std::fmt;
 use thiserror::Error;
 
 /// A value that is of the wrong kind or out of range.
 #[derive(Clone, Copy, Debug, PartialEq, Eq, Error)]
-#[error("a value is of the wrong kind or out of range")]
 pub struct BadField {
     /// Always `RefusalNumber::BadValue`.
     pub number: RefusalNumber,
+}
+
+impl fmt::Display for BadField {
+    ghost use Rattle.std.specs.Prelude.{Some};
+    ghost use Rattle.bpf_profile.specs.FaultTexts.{fault_text};
+
+    ghost output = { λ error. Some (fault_text (record { slot = 0; number = error.number })) };
+
+    fn fmt<W: fmt::Write>(&self, f: &mut fmt::Formatter<W>) -> fmt::Result {
+        let shown = FaultText {
+            slot: 0,
+            number: self.number,
+        };
+        write!(f, "{shown}")
+    }
 }
 
 /// A number below 2^64; 0 where the key is missing.
@@ -34,10 +50,7 @@ fn number_at(value: &Value, key: &str) -> Option<u64>
 fn small_at(value: &Value, key: &str) -> Option<u32>
     ensures { result ≡ u32_at key.now (view value.now) }
 {
-    match number_at(value, key) {
-        Some(number) if number < 0x1_0000_0000 => Some(number as u32),
-        _ => None,
-    }
+    u32::try_from(number_at(value, key)?).ok()
 }
 
 /// How the call ended.

@@ -139,10 +139,9 @@ impl Record {
         self.context[FRONT + i]
     }
 
-    /// Helper 3: writes the tag's first bytes to all of `to`, at most 32 bytes, with zeros past the
-    /// tag's end. Returns the tag's whole length.
+    /// Helper 3: writes the tag's first bytes to all of `to`, with zeros past the tag's end. Returns
+    /// the tag's whole length.
     pub fn copy_tag(&self, to: &mut [u8]) -> u64
-        requires { length to.old ≤ 32 }
         ensures bytes { to.new ≡ tag_front self.now (length to.old) }
         ensures count { result ≡ length self.now.tag }
     {

@@ -88,6 +88,16 @@ fn wrong_values_are_refused(rt: HostRuntime) -> Result<(), Fail> {
 }
 
 #[test]
+fn a_refusal_in_words(rt: HostRuntime) -> Result<(), Fail> {
+    let refused = BadField {
+        number: RefusalNumber::BadValue,
+    };
+    let text = format!(in rt.alloc(); "{refused}")?;
+    assert_eq!(rt; text.as_str(), "refused 59 BadField");
+    Ok(())
+}
+
+#[test]
 fn the_widest_values_are_read(rt: HostRuntime) -> Result<(), Fail> {
     for text in [
         "{\"status\":4294967295,\"method\":\"get\"}",

@@ -1,10 +1,9 @@
 -- One bit of a number, through each operation.
-use Rattle.std.proofs.Common.{◌≡◌, ℕ, ◌+◌, ◌-◌, ◌*◌, ◌/◌, ◌%◌, ◌^◌, ◌<◌, ◌≤◌, min, max, ◌⊎◌, inl, inr, refl, sym, ap, ◌∙◌, subst, arith}
+use Rattle.std.proofs.Common.{◌≡◌, ℕ, ◌+◌, ◌-◌, ◌*◌, ◌/◌, ◌%◌, ◌^◌, ◌<◌, ◌≤◌, min, max, refl, ap, ◌∙◌, subst, arith}
 use Rattle.std.specs.Prelude.{bit_and, bit_or, bit_xor}
 use Rattle.std.specs.Int.{bit_at, w64}
 use Rattle.std.proofs.lemmas.Nat.{shr-shr, mod_below, pow_pos}
 use Rattle.std.proofs.lemmas.Nat.Bits.{bit_at_and, bit_at_or, bit_at_xor, bit_at-lt, bit_at_not, bit_at_above, bit_at_cat_low, bit_at_cat_high, bit_at_mask_inside, bit_at_mask_below, bit_at_mask_above, same_from_bits}
-use Rattle.std.proofs.lemmas.Bool.{cases_lt}
 use Rattle.known_bits.specs.KnownBitsTable.{without}
 use lib.Pow.{field, mod-mod-pow}
 
@@ -87,17 +86,3 @@ bit_of_mask_below k i h = bit_at_mask_below k 64 i h
 pub bit_of_mask_above : (k i : ℕ) → 64 ≤ i → bit (2 ^ 64 - 2 ^ k) i ≡ 0
 unfolding bit
 bit_of_mask_above k i h = bit_at_mask_above k 64 i h
-
--- what the code computes for `a & !b`
-pub without_is : (a b : ℕ) → a < 2 ^ 64 → b < 2 ^ 64 → bit_and a (2 ^ 64 - 1 - b) ≡ without a b
-without_is a b h k = same_bits _ _ (λ i. at i (cases_lt i 64))
-  where
-    chosen : (x y : ℕ) → x < 2 → y < 2 → min x (1 - y) ≡ x - y
-    chosen x y p q = omega arith
-
-    none : (x y z : ℕ) → x ≡ 0 → min x y ≡ x - z
-    none x y z e = omega arith
-
-    at : (i : ℕ) → (i < 64) ⊎ (64 ≤ i) → bit (bit_and a (2 ^ 64 - 1 - b)) i ≡ bit (without a b) i
-    at i (inl p) = bit_of_and a (2 ^ 64 - 1 - b) i ∙ ap (min (bit a i)) (bit_of_complement b i k p) ∙ chosen (bit a i) (bit b i) (bit_small a i) (bit_small b i) ∙ sym (bit_of_without a b i)
-    at i (inr q) = bit_of_and a (2 ^ 64 - 1 - b) i ∙ none (bit a i) (bit (2 ^ 64 - 1 - b) i) (bit b i) (bit_above a 64 i h q) ∙ sym (bit_of_without a b i)

@@ -1,6 +1,6 @@
 -- Shifts and conversions, each of whose bits is one bit of their operand, or 0.
 use Rattle.std.proofs.Common.{◌≡◌, ℕ, suc, pos, negsuc, ◌+◌, ◌-◌, ◌*◌, ◌/◌, ◌%◌, ◌^◌, ◌<◌, ◌≤◌, min, ◌⊎◌, inl, inr, refl, sym, ap, ◌∙◌, subst, arith, Bool, true, false, cond}
-use Rattle.std.specs.Prelude.{nat_lt, bit_and}
+use Rattle.std.specs.Prelude.{nat_lt}
 use Rattle.std.specs.Int.{int_shr}
 use Rattle.std.proofs.Math.Nat.{pow-suc, add-zero}
 use Rattle.std.proofs.lemmas.Bool.{cases_lt, ltb-true, ltb-false}
@@ -17,13 +17,13 @@ use Rattle.abs_domain.specs.declared.operations.Conversion.{Conversion}
 use Rattle.abs_domain.specs.declared.operations.Conversion.TheVariants as conversion
 use Rattle.abs_domain.specs.declared.operations.Shift.{Shift}
 use Rattle.abs_domain.specs.declared.operations.Shift.TheVariants as shift
-use Rattle.known_bits.specs.BitLaws.{bit, bit_is, bit_small, bit_above, bit_of_and, same_bits, bit_of_low, bit_of_low_above, bit_of_right, bit_of_pair_low, bit_of_pair_high, bit_of_complement}
+use Rattle.known_bits.specs.BitLaws.{bit, bit_is, bit_small, bit_above, bit_of_low, bit_of_low_above, bit_of_right, bit_of_pair_low, bit_of_pair_high, bit_of_complement}
 use Rattle.known_bits.specs.KnownBitsTable.{KnownContains, known_shift, known_conversion}
 use Rattle.known_bits.specs.PlaceLaws.{Place, places, from_places, renamed}
 use lib.Pow.{high_ones, pow_mono}
 
 -- one bit of a function's result: a bit of its argument, or 0
-data Moved (f : ℕ → ℕ) (i : ℕ) : Type 0 where
+pub data Moved (f : ℕ → ℕ) (i : ℕ) : Type 0 where
   taken : (j : ℕ) → ((x : ℕ) → bit (f x) i ≡ bit x j) → Moved f i
   cleared : ((x : ℕ) → bit (f x) i ≡ 0) → Moved f i
 
@@ -35,7 +35,7 @@ moved_place f i a n h (cleared e) =
     let r = e n in
     record { apart = omega arith; from = omega arith; upto = omega arith }
 
-everywhere : (f : ℕ → ℕ) → ((x : ℕ) → f x < 2 ^ 64) → ((i : ℕ) → i < 64 → Moved f i) → (i : ℕ) → (i < 64) ⊎ (64 ≤ i) → Moved f i
+pub everywhere : (f : ℕ → ℕ) → ((x : ℕ) → f x < 2 ^ 64) → ((i : ℕ) → i < 64 → Moved f i) → (i : ℕ) → (i < 64) ⊎ (64 ≤ i) → Moved f i
 everywhere f fits h i (inl p) = h i p
 everywhere f fits h i (inr q) = cleared (λ x. bit_above (f x) 64 i (fits x) q)
 
@@ -117,7 +117,7 @@ arithmetic_moved count i within =
     ∙ signed_right (nat_lt (x % 2 ^ 64 % 2 ^ 64) (2 ^ 63)) (x % 2 ^ 64 % 2 ^ 64) at i (mod_below (x % 2 ^ 64) (2 ^ 64) (pow_pos 64)) refl (cases_lt (at + i) 64) within
     ∙ bit_of_low (x % 2 ^ 64) 64 (min (at + i) 63) place ∙ bit_of_low x 64 (min (at + i) 63) place)
 
-shift_moved : (shift : Shift) (count i : ℕ) → i < 64 → Moved (λ x. word_shift shift x count) i
+pub shift_moved : (shift : Shift) (count i : ℕ) → i < 64 → Moved (λ x. word_shift shift x count) i
 shift_moved shift.Left count i within = left_moved (count % 2 ^ 64 % 64) i within (cases_lt i (count % 2 ^ 64 % 64))
 shift_moved shift.Right count i within = right_moved (count % 2 ^ 64 % 64) i (cases_lt (count % 2 ^ 64 % 64 + i) 64)
 shift_moved shift.ArithmeticRight count i within = arithmetic_moved count i within
@@ -202,7 +202,7 @@ swap_moved size.Word i = byte_moved 24 _ (byte_moved 16 _ (byte_moved 8 _ last_m
 swap_moved size.DoubleWord i =
     byte_moved 56 _ (byte_moved 48 _ (byte_moved 40 _ (byte_moved 32 _ (byte_moved 24 _ (byte_moved 16 _ (byte_moved 8 _ last_moved)))))) i
 
-conversion_moved : (conversion : Conversion) (size : Size) (i : ℕ) → i < 64 → Moved (λ x. word_conversion conversion size x) i
+pub conversion_moved : (conversion : Conversion) (size : Size) (i : ℕ) → i < 64 → Moved (λ x. word_conversion conversion size x) i
 conversion_moved conversion.Low size i within = low_moved (bits_in size) i (cases_lt i (bits_in size))
 conversion_moved conversion.SignExtended size i within = sign_moved size i within
 conversion_moved conversion.Swapped size i within = swap_moved size i
@@ -210,21 +210,3 @@ conversion_moved conversion.Swapped size i within = swap_moved size i
 pub conversion_contained : (conversion : Conversion) (size : Size) (a : Bits) (n : ℕ) → KnownContains a n → KnownContains (known_conversion conversion size a) (word_conversion conversion size n)
 conversion_contained conversion size a n h =
     moved_contained (λ x. word_conversion conversion size x) (λ x. conversion_fits conversion size x) (conversion_moved conversion size) a n h
-
--- bits that are apart are moved to places that are apart
-moved_apart_at : (f : ℕ → ℕ) (v u i : ℕ) → ((j : ℕ) → min (bit v j) (bit u j) ≡ 0) → Moved f i → min (bit (f v) i) (bit (f u) i) ≡ 0
-moved_apart_at f v u i h (taken j e) = (λ k. min (e v k) (e u k)) ∙ h j
-moved_apart_at f v u i h (cleared e) = (λ k. min (e v k) (e u k))
-
-moved_apart : (f : ℕ → ℕ) → ((x : ℕ) → f x < 2 ^ 64) → ((i : ℕ) → i < 64 → Moved f i) → (v u : ℕ) → bit_and v u ≡ 0 → bit_and (f v) (f u) ≡ 0
-moved_apart f fits h v u e =
-    same_bits (bit_and (f v) (f u)) 0 (λ i.
-    bit_of_and (f v) (f u) i
-    ∙ moved_apart_at f v u i (λ j. sym (bit_of_and v u j) ∙ ap (λ x. bit x j) e ∙ bit_above 0 0 j (omega arith) (omega arith)) (everywhere f fits h i (cases_lt i 64))
-    ∙ sym (bit_above 0 0 i (omega arith) (omega arith)))
-
-pub shift_apart : (shift : Shift) (count v u : ℕ) → bit_and v u ≡ 0 → bit_and (word_shift shift v count) (word_shift shift u count) ≡ 0
-shift_apart shift count v u e = moved_apart (λ x. word_shift shift x count) (λ x. shift_fits shift x count) (shift_moved shift count) v u e
-
-pub conversion_apart : (conversion : Conversion) (size : Size) (v u : ℕ) → bit_and v u ≡ 0 → bit_and (word_conversion conversion size v) (word_conversion conversion size u) ≡ 0
-conversion_apart conversion size v u e = moved_apart (λ x. word_conversion conversion size x) (λ x. conversion_fits conversion size x) (conversion_moved conversion size) v u e

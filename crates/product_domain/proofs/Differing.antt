@@ -1,7 +1,7 @@
 -- Ones up to the highest bit in which two words differ.
 use Rattle.std.proofs.Common.{◌≡◌, ℕ, zero, suc, ◌+◌, ◌-◌, ◌*◌, ◌%◌, ◌^◌, ◌<◌, ◌≤◌, arith, refl, sym, ap, ◌∙◌, subst, pow-suc}
 use Rattle.std.proofs.Math.Nat.{mod-eq_of_lt}
-use Rattle.std.proofs.lemmas.Nat.{leading_top, pow_pos, xor_lt}
+use Rattle.std.proofs.lemmas.Nat.{leading_top, pow_pos}
 use Rattle.std.specs.Int.{leading_zeros, w64}
 use Rattle.std.specs.Int.Count.{leading_of_zero}
 use Rattle.std.specs.Prelude.{bit_xor}

@@ -1,1 +1,2 @@
 mod Differing
+mod Sharing

@@ -1,2 +1,3 @@
 pub mod Reduction
+pub mod ProductTable
 pub mod ReductionLaws

@@ -1,6 +1,6 @@
 -- What bounds and known bits of the same words tell of one another.
-use Rattle.std.specs.Prelude.{ℕ, ◌==◌, ◌-◌, ◌^◌, ◌&&◌, nat_le, nat_lt, Bool, min, max, if◌then◌else◌, bit_and, bit_or, bit_xor}
-use Rattle.std.specs.Int.{leading_zeros, bit_not, w64}
+use Rattle.std.specs.Prelude.{ℕ, ◌≡◌, ◌==◌, ◌≤◌, ◌-◌, ◌^◌, ◌&&◌, nat_le, nat_lt, Bool, min, max, if◌then◌else◌, bit_and, bit_or, bit_xor}
+use Rattle.std.specs.Int.{bit_at, leading_zeros, bit_not, w64}
 use Rattle.abs_domain.specs.declared.operations.Bits.{Bits}
 use Rattle.abs_domain.specs.declared.operations.Bounds.{Bounds}
 
@@ -8,7 +8,11 @@ use Rattle.abs_domain.specs.declared.operations.Bounds.{Bounds}
 abbrev pub narrowed : Bounds → Bits → Bounds
 narrowed bounds bits = record { low = max bounds.low bits.value; high = min bounds.high (bit_or bits.value bits.unknown) }
 
--- ones up to the highest bit in which two words differ
+-- a bit is among the leading bits that two words share: it and all higher bits are the same in both
+abbrev pub SharesLeadingBit : ℕ → ℕ → ℕ → Type 0
+SharesLeadingBit a b bit = (i : ℕ) → bit ≤ i → bit_at a i ≡ bit_at b i
+
+-- ones up to the highest bit in which two words differ, so that the bits that are 0 are the leading bits that the two share
 abbrev pub differing : ℕ → ℕ → ℕ
 differing a b = 2 ^ (64 - leading_zeros w64 (bit_xor a b)) - 1
 
@@ -31,10 +35,6 @@ reduced_first clamped x bounds bits = if is_consistent bounds bits then clamped 
 -- a value with the bits, in which the leading bits of the other's bounds are fixed
 abbrev pub reduced_second : {Y : Type 0} → (Y → Bits → Y) → Y → Bounds → Bits → Y
 reduced_second fixed y bounds bits = if is_consistent bounds bits then fixed y (leading (narrowed bounds bits)) else y
-
--- both values, reduced once
-abbrev pub reduced : {X Y P : Type 0} → (X → Y → P) → (X → Bounds) → (X → Bounds → X) → (Y → Bits) → (Y → Bits → Y) → X → Y → P
-reduced make bounds_of clamped bits_of fixed x y = make (reduced_first clamped x (bounds_of x) (bits_of y)) (reduced_second fixed y (bounds_of x) (bits_of y))
 
 -- the bounds that both have, or the first where they cross
 abbrev pub common_bounds : Bounds → Bounds → Bounds

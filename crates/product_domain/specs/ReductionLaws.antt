@@ -1,9 +1,9 @@
 -- A reduction loses no word.
-use Rattle.std.proofs.Common.{◌≡◌, ℕ, zero, suc, ◌+◌, ◌-◌, ◌*◌, ◌/◌, ◌%◌, ◌^◌, ◌<◌, ◌≤◌, ◌⊎◌, inl, inr, min, max, Bool, true, false, cond, arith, refl, sym, ap, ◌∙◌, subst}
+use Rattle.std.proofs.Common.{◌≡◌, ℕ, zero, suc, ◌+◌, ◌-◌, ◌/◌, ◌%◌, ◌^◌, ◌<◌, ◌≤◌, ◌⊎◌, inl, inr, min, max, Bool, true, false, cond, arith, refl, sym, ap, ◌∙◌, subst}
 use lib.Pow.{shr_mono, shr-shr}
 use Rattle.std.proofs.lemmas.Bool.{cases_lt}
 use Rattle.std.proofs.lemmas.Bool.{ltb-true}
-use Rattle.std.proofs.lemmas.Nat.{and_le_l, and_le_r, and_comm, leading_length, pow_pos, xor_lt}
+use Rattle.std.proofs.lemmas.Nat.{and_le_r, leading_length, xor_lt}
 use Rattle.std.proofs.lemmas.Nat.Bits.{bit_at_and, bit_at_or, bit_at_xor, bit_at-lt, bit_at_ones, bit_at_above, same_from_bits}
 use Rattle.std.specs.Int.{bit_at, leading_zeros, w64}
 use Rattle.std.specs.Prelude.{◌&&◌, ◌||◌, nat_le, nat_lt, bit_and, bit_or, bit_xor}
@@ -11,7 +11,7 @@ use Rattle.bpf_profile.specs.Words.{IsWord}
 use Rattle.abs_domain.specs.Agreement.{Agrees}
 use Rattle.abs_domain.specs.declared.operations.Bits.{Bits}
 use Rattle.abs_domain.specs.declared.operations.Bounds.{Bounds}
-use Rattle.product_domain.specs.Reduction.{agree, common_bounds, narrowed, differing, leading, is_consistent, reduced_first, reduced_second}
+use Rattle.product_domain.specs.Reduction.{agree, common_bounds, narrowed, leading, is_consistent, reduced_first, reduced_second}
 
 -- a number whose bits another one has is not above it
 below : (a b : ℕ) → ((i : ℕ) → bit_at a i ≤ bit_at b i) → a ≤ b

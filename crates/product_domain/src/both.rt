@@ -17,13 +17,12 @@ pub struct Both<A, B> {
 }
 
 impl<A: Domain, B: Domain> Both<A, B> {
-    ghost use Rattle.product_domain.specs.Reduction.{reduced_first, reduced_second};
+    ghost use Rattle.product_domain.specs.ProductTable.{reduced};
 
     /// Both values, the first sharpened by the bits of the second, and the second by the bounds of the
     /// first. They stay where no word could be in both.
     fn reduced(first: A, second: B) -> Self
-        ensures first { result.first ≡ reduced_first A.clamped first (A.bounds_of first) (B.bits_of second) }
-        ensures second { result.second ≡ reduced_second B.fixed second (A.bounds_of first) (B.bits_of second) }
+        ensures { result ≡ reduced ⟦<A as Domain>⟧ ⟦<B as Domain>⟧ first second }
     {
         let bounds = first.bounds();
         let bits = second.bits();
@@ -39,37 +38,36 @@ impl<A: Domain, B: Domain> Both<A, B> {
 }
 
 impl<A: Domain, B: Domain> Domain for Both<A, B> {
-    ghost use Rattle.std.specs.Prelude.{◌≡◌, ◌≤◌, ◌||◌};
-    ghost use Rattle.product_domain.specs.Reduction.{reduced, common_bounds};
+    ghost use Rattle.product_domain.specs.ProductTable.{ProductContains, product_word, product_any, product_join, product_operation, product_shift, product_conversion, product_bounds, product_bits, product_low_zero, product_first, product_second, product_clamp, product_fix};
     ghost use Rattle.product_domain.specs.ReductionLaws as laws;
 
-    ghost contains = { λ a n. A.contains a.first n × B.contains a.second n };
+    ghost contains = { ProductContains ⟦<A as Domain>⟧ ⟦<B as Domain>⟧ };
 
-    ghost of_word = { λ n. record { first = A.of_word n; second = B.of_word n } };
+    ghost of_word = { product_word ⟦<A as Domain>⟧ ⟦<B as Domain>⟧ };
 
-    ghost of_any = { record { first = A.of_any; second = B.of_any } };
+    ghost of_any = { product_any ⟦<A as Domain>⟧ ⟦<B as Domain>⟧ };
 
-    ghost joined = { λ a b. record { first = A.joined a.first b.first; second = B.joined a.second b.second } };
+    ghost joined = { product_join ⟦<A as Domain>⟧ ⟦<B as Domain>⟧ };
 
-    ghost computed = { λ operation a b. reduced (λ x y. record { first = x; second = y }) A.bounds_of A.clamped B.bits_of B.fixed (A.computed operation a.first b.first) (B.computed operation a.second b.second) };
+    ghost computed = { product_operation ⟦<A as Domain>⟧ ⟦<B as Domain>⟧ };
 
-    ghost shifted = { λ shift a count. reduced (λ x y. record { first = x; second = y }) A.bounds_of A.clamped B.bits_of B.fixed (A.shifted shift a.first count) (B.shifted shift a.second count) };
+    ghost shifted = { product_shift ⟦<A as Domain>⟧ ⟦<B as Domain>⟧ };
 
-    ghost converted = { λ conversion size a. reduced (λ x y. record { first = x; second = y }) A.bounds_of A.clamped B.bits_of B.fixed (A.converted conversion size a.first) (B.converted conversion size a.second) };
+    ghost converted = { product_conversion ⟦<A as Domain>⟧ ⟦<B as Domain>⟧ };
 
-    ghost bounds_of = { λ a. common_bounds (A.bounds_of a.first) (B.bounds_of a.second) };
+    ghost bounds_of = { product_bounds ⟦<A as Domain>⟧ ⟦<B as Domain>⟧ };
 
-    ghost bits_of = { λ a. B.bits_of a.second };
+    ghost bits_of = { product_bits ⟦<A as Domain>⟧ ⟦<B as Domain>⟧ };
 
-    ghost has_low_zeros = { λ a count. A.has_low_zeros a.first count || B.has_low_zeros a.second count };
+    ghost has_low_zeros = { product_low_zero ⟦<A as Domain>⟧ ⟦<B as Domain>⟧ };
 
-    ghost refined_first = { λ relation a b. reduced (λ x y. record { first = x; second = y }) A.bounds_of A.clamped B.bits_of B.fixed (A.refined_first relation a.first b.first) (B.refined_first relation a.second b.second) };
+    ghost refined_first = { product_first ⟦<A as Domain>⟧ ⟦<B as Domain>⟧ };
 
-    ghost refined_second = { λ relation a b. reduced (λ x y. record { first = x; second = y }) A.bounds_of A.clamped B.bits_of B.fixed (A.refined_second relation a.first b.first) (B.refined_second relation a.second b.second) };
+    ghost refined_second = { product_second ⟦<A as Domain>⟧ ⟦<B as Domain>⟧ };
 
-    ghost clamped = { λ a bounds. record { first = A.clamped a.first bounds; second = a.second } };
+    ghost clamped = { product_clamp ⟦<A as Domain>⟧ ⟦<B as Domain>⟧ };
 
-    ghost fixed = { λ a bits. record { first = a.first; second = B.fixed a.second bits } };
+    ghost fixed = { product_fix ⟦<A as Domain>⟧ ⟦<B as Domain>⟧ };
 
     ghost contained_are_words = { λ a n h. A.contained_are_words a.first n h.0 };
 

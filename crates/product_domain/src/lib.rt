@@ -2,6 +2,7 @@
 #![tactic(auto)]
 
 mod both;
+pub mod laws;
 mod reduction;
 #[cfg(test)]
 mod tests;

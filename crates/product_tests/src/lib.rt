@@ -19,3 +19,5 @@ mod loads;
 mod memory;
 #[cfg(test)]
 mod programs;
+#[cfg(test)]
+mod sizes;

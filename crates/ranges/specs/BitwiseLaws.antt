@@ -1,42 +1,18 @@
 -- What the bitwise operations make of contained words is contained.
-use Rattle.std.proofs.Common.{◌≡◌, ℕ, suc, ◌+◌, ◌-◌, ◌*◌, ◌^◌, ◌<◌, ◌≤◌, ◌⊎◌, inl, inr, max, arith, refl, sym, subst}
-use Rattle.std.proofs.lemmas.Bool.{cases_lt}
-use Rattle.std.proofs.lemmas.Nat.{and_le_l, and_le_r, le_or_l, le_or_r, or_lt, xor_lt, leading_length, leading_le, pow_pos}
+use Rattle.std.proofs.Common.{◌≡◌, ℕ, ◌+◌, ◌-◌, ◌*◌, ◌^◌, ◌<◌, ◌≤◌, max, arith, subst}
+use Rattle.std.proofs.lemmas.Nat.{and_le_l, and_le_r, le_or_l, le_or_r, or_lt, xor_lt, leading_length, leading_le}
 use Rattle.std.specs.Int.{w64, leading_zeros}
 use Rattle.std.specs.Prelude.{bit_and, bit_or, bit_xor}
 use Rattle.bpf_profile.specs.Words.{IsWord}
 use Rattle.abs_domain.specs.declared.operations.Bounds.{Bounds}
-use Rattle.ranges.specs.NumberLaws.{pow_grows}
-use Rattle.ranges.specs.RangeTable.{RangeContains, last_word, IsOnes, ones_over, range_and, range_or, range_xor}
+use Rattle.ranges.specs.RangeTable.{RangeContains, last_word, range_and, range_or, range_xor}
 
 -- how many bits a word has, and what that says of it
-length_of : (n : ℕ) → IsWord n → (leading_zeros w64 n ≤ 64) × (n < 2 ^ (64 - leading_zeros w64 n)) × (2 ^ (64 - leading_zeros w64 n) ≤ 2 * n + 1)
+pub length_of : (n : ℕ) → IsWord n → (leading_zeros w64 n ≤ 64) × (n < 2 ^ (64 - leading_zeros w64 n)) × (2 ^ (64 - leading_zeros w64 n) ≤ 2 * n + 1)
 length_of n h =
     let found = leading_length 64 n h in
     let same : found.0 ≡ 64 - leading_zeros w64 n = omega (arith, found.1) in
     (leading_le 64 n, subst (λ k. n < 2 ^ k) same found.2, subst (λ k. 2 ^ k ≤ 2 * n + 1) same found.3)
-
-pub ones_over_is_ones : (n : ℕ) → IsOnes (ones_over n)
-ones_over_is_ones n = (64 - leading_zeros w64 n, refl)
-
-pub ones_over_is_over : (n : ℕ) → IsWord n → n ≤ ones_over n
-ones_over_is_over n h = omega (arith, (length_of n h).1)
-
-pub ones_over_is_word : (n : ℕ) → IsWord (ones_over n)
-ones_over_is_word n = omega (arith, pow_grows (64 - leading_zeros w64 n) 64 (omega arith), pow_pos (64 - leading_zeros w64 n))
-
-least_by : (n k length : ℕ) → 2 ^ length ≤ 2 * n + 1 → n ≤ 2 ^ k - 1 → (length < suc k) ⊎ (suc k ≤ length) → 2 ^ length - 1 ≤ 2 ^ k - 1
-least_by n k length p q (inl l) = omega (arith, pow_grows length k (omega arith))
-least_by n k length p q (inr g) = absurd (omega (arith, pow_grows (suc k) length g, pow_pos k, twice k))
-  where
-    twice : (k : ℕ) → 2 ^ suc k ≡ 2 * 2 ^ k
-    twice k = omega arith
-
--- no lesser number of ones alone is at least the word
-pub ones_over_is_least : (n m : ℕ) → IsWord n → IsOnes m → n ≤ m → ones_over n ≤ m
-ones_over_is_least n m h (k, e) l =
-    let lengths = cases_lt (64 - leading_zeros w64 n) (suc k) in
-    subst (λ x. ones_over n ≤ x) (sym e) (least_by n k (64 - leading_zeros w64 n) (length_of n h).2 (omega (arith, e, l)) lengths)
 
 pub and_kept : (a b : Bounds) (n m : ℕ) → RangeContains a n → RangeContains b m → RangeContains (range_and a b) (bit_and n m)
 and_kept a b n m h k =

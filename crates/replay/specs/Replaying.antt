@@ -4,6 +4,7 @@ use Rattle.std.specs.Io.KnownBytes.{Appends}
 use Rattle.bpf_profile.specs.Safety.{IsSafe}
 use Rattle.bpf_profile.specs.Spelling.{Spells}
 use Rattle.verifier.specs.Analysis.{context_size}
+use Rattle.verifier.specs.DefaultClassifier.{default_classifier_bytes}
 use Rattle.verifier.specs.Programs.{VerifiedProgram}
 use Rattle.book.specs.declared.configuration.ConfigParts.{ConfigParts}
 use Rattle.book.specs.Books.{first_opening, history_of}
@@ -16,23 +17,10 @@ use Rattle.replay.specs.Answering.{AreAnswered, IsAnswered, answer_line}
 use Rattle.replay.specs.Asking.{asked}
 use Rattle.replay.specs.Lines.{AreTold}
 
--- the program that services begin with: a kind other than response is a failure, and so is a status from 500 on
-abbrev pub classifier : List ℕ
-classifier =
-    0x61 ∷ 0x12 ∷ 0x00 ∷ 0x00 ∷ 0x00 ∷ 0x00 ∷ 0x00 ∷ 0x00
-    ∷ 0x55 ∷ 0x02 ∷ 0x04 ∷ 0x00 ∷ 0x00 ∷ 0x00 ∷ 0x00 ∷ 0x00
-    ∷ 0x61 ∷ 0x12 ∷ 0x04 ∷ 0x00 ∷ 0x00 ∷ 0x00 ∷ 0x00 ∷ 0x00
-    ∷ 0x35 ∷ 0x02 ∷ 0x02 ∷ 0x00 ∷ 0xf4 ∷ 0x01 ∷ 0x00 ∷ 0x00
-    ∷ 0xb7 ∷ 0x00 ∷ 0x00 ∷ 0x00 ∷ 0x00 ∷ 0x00 ∷ 0x00 ∷ 0x00
-    ∷ 0x95 ∷ 0x00 ∷ 0x00 ∷ 0x00 ∷ 0x00 ∷ 0x00 ∷ 0x00 ∷ 0x00
-    ∷ 0xb7 ∷ 0x00 ∷ 0x00 ∷ 0x00 ∷ 0x01 ∷ 0x00 ∷ 0x00 ∷ 0x00
-    ∷ 0x95 ∷ 0x00 ∷ 0x00 ∷ 0x00 ∷ 0x00 ∷ 0x00 ∷ 0x00 ∷ 0x00
-    ∷ []
-
 -- a service that opens with a configuration and the default classifier
 abbrev pub IsOpened : ConfigParts → History → Type 0
 IsOpened parts history =
-    (program : VerifiedProgram) × Spells classifier program.slots × IsSafe context_size program.slots program.budget
+    (program : VerifiedProgram) × Spells default_classifier_bytes program.slots × IsSafe context_size program.slots program.budget
     × (history ≡ history_of (first_opening parts program) [])
 
 -- the lines after a configuration

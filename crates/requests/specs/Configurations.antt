@@ -8,7 +8,7 @@ use Rattle.helpers.specs.Json.{◌>>=◌, if_there}
 use Rattle.book.specs.declared.configuration.ConfigParts.{ConfigParts}
 use Rattle.book.specs.declared.configuration.SlidingWindowType.{SlidingWindowType}
 use Rattle.book.specs.declared.configuration.SlidingWindowType.TheVariants as window
-use Rattle.book.specs.Configuration.{configured}
+use Rattle.book.specs.Configuration.{configured, default_parts}
 use Rattle.requests.specs.Text.{json_of}
 use Rattle.requests.specs.Values.{number_or}
 
@@ -49,22 +49,22 @@ window_named name =
     else None)
 
 abbrev pub window_at : Data → Option SlidingWindowType
-window_at d = if_there window.CountBased (λ v. option_and_then window_named (as_str v)) (get (codes "slidingWindowType") d)
+window_at d = if_there default_parts.sliding_window_type (λ v. option_and_then window_named (as_str v)) (get (codes "slidingWindowType") d)
 
--- the values, key by key; None where one is of the wrong kind
+-- the values, key by key, each by default that of the defaults; None where one is of the wrong kind
 unfoldable pub parts_of : Data → Option ConfigParts
 parts_of d = do
-  failure_rate ← number_or 50 (codes "failureRateThreshold") d
-  slow_rate ← number_or 100 (codes "slowCallRateThreshold") d
-  slow_duration ← number_or 60000 (codes "slowCallDurationThreshold") d
-  permitted ← number_or 10 (codes "permittedNumberOfCallsInHalfOpenState") d
-  half_open ← number_or 0 (codes "maxWaitDurationInHalfOpenState") d
+  failure_rate ← number_or default_parts.failure_rate_threshold (codes "failureRateThreshold") d
+  slow_rate ← number_or default_parts.slow_call_rate_threshold (codes "slowCallRateThreshold") d
+  slow_duration ← number_or default_parts.slow_call_duration_threshold (codes "slowCallDurationThreshold") d
+  permitted ← number_or default_parts.permitted_number_of_calls_in_half_open_state (codes "permittedNumberOfCallsInHalfOpenState") d
+  half_open ← number_or default_parts.max_wait_duration_in_half_open_state (codes "maxWaitDurationInHalfOpenState") d
   window ← window_at d
-  size ← number_or 100 (codes "slidingWindowSize") d
-  least ← number_or 100 (codes "minimumNumberOfCalls") d
-  stay ← number_or 60000 (codes "waitDurationInOpenState") d
-  calls ← number_or 25 (codes "maxConcurrentCalls") d
-  wait ← number_or 0 (codes "maxWaitDuration") d
+  size ← number_or default_parts.sliding_window_size (codes "slidingWindowSize") d
+  least ← number_or default_parts.minimum_number_of_calls (codes "minimumNumberOfCalls") d
+  stay ← number_or default_parts.wait_duration_in_open_state (codes "waitDurationInOpenState") d
+  calls ← number_or default_parts.max_concurrent_calls (codes "maxConcurrentCalls") d
+  wait ← number_or default_parts.max_wait_duration (codes "maxWaitDuration") d
   Some (record { failure_rate_threshold = failure_rate; slow_call_rate_threshold = slow_rate; slow_call_duration_threshold = slow_duration; permitted_number_of_calls_in_half_open_state = permitted; max_wait_duration_in_half_open_state = half_open; sliding_window_type = window; sliding_window_size = size; minimum_number_of_calls = least; wait_duration_in_open_state = stay; max_concurrent_calls = calls; max_wait_duration = wait })
 
 -- ---- the whole

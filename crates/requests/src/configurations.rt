@@ -61,36 +61,57 @@ fn window(value: &Value) -> Option<SlidingWindowType>
     ensures { result ≡ window_at (view value.now) }
 {
     match value.get("slidingWindowType") {
-        None => Some(SlidingWindowType::CountBased),
+        None => Some(ConfigParts::DEFAULT.sliding_window_type),
         Some(found) => window_named(found.as_str()?),
     }
 }
 
-/// The values, whatever their ranges are.
+/// The values, whatever their ranges are. A key that is missing has its default.
 #[tactic(auto, unfolding(crate::specs::Configurations::parts_of))]
 fn parts(value: &Value) -> Option<ConfigParts>
     ensures { result ≡ parts_of (view value.now) }
 {
+    let default = ConfigParts::DEFAULT;
     Some(ConfigParts {
-        failure_rate_threshold: number_or(value, "failureRateThreshold", 50)?,
-        slow_call_rate_threshold: number_or(value, "slowCallRateThreshold", 100)?,
-        slow_call_duration_threshold: number_or(value, "slowCallDurationThreshold", 60_000)?,
+        failure_rate_threshold: number_or(
+            value,
+            "failureRateThreshold",
+            default.failure_rate_threshold,
+        )?,
+        slow_call_rate_threshold: number_or(
+            value,
+            "slowCallRateThreshold",
+            default.slow_call_rate_threshold,
+        )?,
+        slow_call_duration_threshold: number_or(
+            value,
+            "slowCallDurationThreshold",
+            default.slow_call_duration_threshold,
+        )?,
         permitted_number_of_calls_in_half_open_state: number_or(
             value,
             "permittedNumberOfCallsInHalfOpenState",
-            10,
+            default.permitted_number_of_calls_in_half_open_state,
         )?,
         max_wait_duration_in_half_open_state: number_or(
             value,
             "maxWaitDurationInHalfOpenState",
-            0,
+            default.max_wait_duration_in_half_open_state,
         )?,
         sliding_window_type: window(value)?,
-        sliding_window_size: number_or(value, "slidingWindowSize", 100)?,
-        minimum_number_of_calls: number_or(value, "minimumNumberOfCalls", 100)?,
-        wait_duration_in_open_state: number_or(value, "waitDurationInOpenState", 60_000)?,
-        max_concurrent_calls: number_or(value, "maxConcurrentCalls", 25)?,
-        max_wait_duration: number_or(value, "maxWaitDuration", 0)?,
+        sliding_window_size: number_or(value, "slidingWindowSize", default.sliding_window_size)?,
+        minimum_number_of_calls: number_or(
+            value,
+            "minimumNumberOfCalls",
+            default.minimum_number_of_calls,
+        )?,
+        wait_duration_in_open_state: number_or(
+            value,
+            "waitDurationInOpenState",
+            default.wait_duration_in_open_state,
+        )?,
+        max_concurrent_calls: number_or(value, "maxConcurrentCalls", default.max_concurrent_calls)?,
+        max_wait_duration: number_or(value, "maxWaitDuration", default.max_wait_duration)?,
     })
 }
 

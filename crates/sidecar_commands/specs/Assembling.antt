@@ -25,7 +25,7 @@ IsTextAssembled text hex = (slots : List Slot) × Assembles text slots × IsHexa
 
 -- the text's first fault, or no memory
 abbrev pub IsTextFault : List ℕ → Fault → Type 0
-IsTextFault text fault = (fault.number ≡ AssemblerOutOfMemory) ⊎ (assembly_of text ≡ Err (record { line = fault.place; number = fault.number }))
+IsTextFault text fault = (fault.number ≡ AssemblerOutOfMemory) ⊎ (assembly_of text ≡ Err (record { line = fault.place; kind = fault.number }))
 
 abbrev pub IsAssembled : List ℕ → List ℕ → Type 0
 IsAssembled bytes hex = IsUtf8 bytes × IsTextAssembled bytes hex

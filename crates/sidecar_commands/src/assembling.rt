@@ -43,7 +43,7 @@ fn assembled_text(alloc: Global, text: &str) -> Result<String, Fault>
             Err(_) => Err(unplaced(RefusalNumber::AssemblerOutOfMemory)),
         },
         Err(error) => Err(Fault {
-            number: error.number,
+            number: error.kind,
             place: error.line,
         }),
     }

@@ -1,4 +1,6 @@
+pub mod DefaultAccepted
 pub mod Delivered
 pub mod Edges
+pub mod FirstFault
 pub mod Known
 pub mod Sound

@@ -1,4 +1,6 @@
 pub mod Analysis
+pub mod DefaultClassifier
+pub mod Kept
 pub mod Memory
 pub mod Passes
 pub mod Product

@@ -1,24 +1,8 @@
--- Verified programs.
-use Rattle.std.specs.Prelude.{◌≡◌, ℕ, List, length, slice_get, Some}
-use Rattle.bpf_profile.specs.declared.instruction.Instruction.{Instruction}
+-- Verified programs as data.
+use Rattle.std.specs.Prelude.{ℕ, List}
 use Rattle.bpf_profile.specs.declared.slot.Slot.{Slot}
-use Rattle.bpf_profile.specs.Meaning.{instruction_at}
-use Rattle.bpf_profile.specs.Safety.{IsSafe}
-use Rattle.bpf_profile.specs.Spelling.{Spells}
-use Rattle.verifier.specs.Analysis.{context_size}
 
 -- what contracts see of a verified program: its slots, and how many steps it takes at most
 pub record VerifiedProgram : Type 0 where
   pub slots : List Slot
   pub budget : ℕ
-
--- a list that has at each slot of an instruction that instruction
-pub record IsDecoded (slots : List Slot) (code : List Instruction) : Type 0 where
-  pub same : length code ≡ length slots
-  pub each : (place : ℕ) (i : Instruction) → instruction_at slots place ≡ Some i → slice_get code place ≡ Some i
-
--- what each verified program keeps
-pub record IsVerified (slots : List Slot) (bytes : List ℕ) (code : List Instruction) (budget : ℕ) : Type 0 where
-  pub spelled : Spells bytes slots
-  pub safe : IsSafe context_size slots budget
-  pub decoded : IsDecoded slots code

@@ -2,10 +2,11 @@
 use Rattle.std.specs.Prelude.{◌≡◌, ◌⊎◌, ℕ, ◌<◌, List, length, slice_get, Some, None}
 use Rattle.refusals.specs.declared.RefusalNumber.TheVariants.{ProgramOutOfMemory}
 use Rattle.bpf_profile.specs.declared.slot.Slot.{Slot}
-use Rattle.bpf_profile.specs.Flow.{flow_fault, successors}
+use Rattle.bpf_profile.specs.Flow.{flow_fault, successors, IsBudget}
 use Rattle.bpf_profile.specs.Spelling.{Spells, Fault, first_fault}
 use Rattle.verifier.specs.Analysis.{analysis_fault, context_size}
 use Rattle.verifier.specs.Product.{product}
+use Rattle.verifier.specs.Programs.{VerifiedProgram}
 use Rattle.verifier.specs.declared.refusal.Refusal.{Refusal}
 
 -- the refusal that says that memory ran out
@@ -18,6 +19,12 @@ fault_of e = record { slot = e.slot; number = e.number }
 -- flow and analysis find no fault
 abbrev pub IsAccepted : List Slot → Type 0
 IsAccepted slots = (flow_fault slots ≡ None) × (analysis_fault product context_size slots ≡ None)
+
+-- the bytes spell a program that flow and analysis accept, with its budget
+pub record IsVerification (bytes : List ℕ) (program : VerifiedProgram) : Type 0 where
+  pub spelled : Spells bytes program.slots
+  pub accepted : IsAccepted program.slots
+  pub budget : IsBudget program.slots program.budget
 
 -- the fault that a program is refused for: the first of its flow, or else the first of the analysis
 abbrev pub IsProgramRefused : List Slot → Fault → Type 0

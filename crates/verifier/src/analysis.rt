@@ -75,6 +75,7 @@ pub fn analyse<D: Domain>(
     ensures accepted { OnOk result (analysis_fault ⟦<D as Domain>⟧ context_size program.now ≡ None) }
     ensures safe { OnOk result ((budget : ℕ) → IsBudget program.now budget → IsSafe context_size program.now budget) }
     ensures refused { IfErr result (λ e. (e ≡ out_of_memory) ⊎ (analysis_fault ⟦<D as Domain>⟧ context_size program.now ≡ Some (fault_of e))) }
+    ensures slot { IfErr result (λ e. e.slot < 4096) }
 {
     let slots = program.slots();
     let mut states = entry_states(alloc, slots)?;

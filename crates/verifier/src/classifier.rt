@@ -1,8 +1,10 @@
 //! The classifier that a service has before another one is installed.
-ghost use Rattle.std.specs.Prelude.{IfOk};
+ghost use Rattle.std.specs.Prelude.{◌≡◌, IfOk, IfErr};
 ghost use Rattle.bpf_profile.specs.Safety.{IsSafe};
 ghost use Rattle.bpf_profile.specs.Spelling.{Spells};
 ghost use Rattle.verifier.specs.Analysis.{context_size};
+ghost use Rattle.verifier.specs.DefaultClassifier.{default_classifier_bytes};
+ghost use Rattle.verifier.specs.Verifying.{IsVerification, out_of_memory};
 
 use crate::refusal::Refusal;
 use crate::verified::{Verified, verify};
@@ -23,8 +25,10 @@ const DEFAULT_CLASSIFIER: [u8; 64] = [
 /// The classifier that services begin with: a failure is an outcome that is no response, or one with
 /// a status from 500 on. The only error is want of memory.
 pub fn default_classifier(alloc: Global) -> Result<Verified, Refusal>
-    ensures spelled { IfOk result (λ v. Spells DEFAULT_CLASSIFIER v.slots) }
+    ensures spelled { IfOk result (λ v. Spells default_classifier_bytes v.slots) }
     ensures safe { IfOk result (λ v. IsSafe context_size v.slots v.budget) }
+    ensures verified { IfOk result (λ v. IsVerification default_classifier_bytes v) }
+    ensures refused { IfErr result (λ e. e ≡ out_of_memory) }
 {
     verify(alloc, &DEFAULT_CLASSIFIER)
 }

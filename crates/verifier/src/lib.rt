@@ -5,6 +5,7 @@
 mod analysis;
 mod classifier;
 mod decoded;
+pub mod laws;
 mod passes;
 mod refusal;
 #[cfg(test)]

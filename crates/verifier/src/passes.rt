@@ -114,6 +114,7 @@ pub(crate) fn pass_all<D: Domain>(
     ensures passed { OnOk result (analysis_fault ⟦<D as Domain>⟧ context_size slots.now ≡ None) }
     ensures known { OnOk result (AreKnown ⟦<D as Domain>⟧ context_size slots.now states.new) }
     ensures fault { IfErr result (λ e. analysis_fault ⟦<D as Domain>⟧ context_size slots.now ≡ Some (fault_of e)) }
+    ensures slot { IfErr result (λ e. e.slot < 4096) }
 {
     for place in 0..slots.len() {
         if let Err(number) = pass(states, slots, flow, place) {

@@ -1,13 +1,14 @@
 //! Why bytes are no verified program.
 use bpf_decode::DecodeError;
+use bpf_profile::FaultText;
 use flow_check::FlowError;
 use refusals::RefusalNumber;
 use std::alloc::AllocError;
+use std::fmt;
 use thiserror::Error;
 
 /// The first fault of bytes that are refused, in the order decoding, flow, analysis.
 #[derive(Clone, Copy, Debug, PartialEq, Eq, Error)]
-#[error("{} {} at slot {slot}", .number.number(), .number.name())]
 pub struct Refusal {
     /// The slot of the fault, from 0 to 4,095. It is 0 where the length is wrong and where memory
     /// runs out.
@@ -28,6 +29,22 @@ impl Refusal {
             slot: 0,
             number: RefusalNumber::ProgramOutOfMemory,
         }
+    }
+}
+
+impl fmt::Display for Refusal {
+    ghost use Rattle.std.specs.Prelude.{Some};
+    ghost use Rattle.bpf_profile.specs.FaultTexts.{fault_text};
+    ghost use Rattle.verifier.specs.Verifying.{fault_of};
+
+    ghost output = { λ refusal. Some (fault_text (fault_of refusal)) };
+
+    fn fmt<W: fmt::Write>(&self, f: &mut fmt::Formatter<W>) -> fmt::Result {
+        let shown = FaultText {
+            slot: self.slot,
+            number: self.number,
+        };
+        write!(f, "{shown}")
     }
 }
 

@@ -327,3 +327,17 @@ fn flows_are_refused(rt: HostRuntime) {
         Some((RefusalNumber::FallsOff, 0))
     );
 }
+
+#[test]
+fn refusals_in_words(rt: HostRuntime) -> Result<(), Fail> {
+    let refusal = Refusal {
+        slot: 1,
+        number: RefusalNumber::AnswerRange,
+    };
+    let text = format!(in rt.alloc(); "{refusal}")?;
+    assert_eq!(rt; text.as_str(), "refused 22 AnswerRange slot 1");
+    let memory = Refusal::from(AllocError);
+    let text = format!(in rt.alloc(); "{memory}")?;
+    assert_eq!(rt; text.as_str(), "refused 23 OutOfMemory");
+    Ok(())
+}

@@ -1,12 +1,12 @@
 //! Verified programs.
-ghost use Rattle.std.specs.Prelude.{◌≡◌, ◌⊎◌, ℕ, ◌≤◌, List, length, IsSome, IsOk, Some, None, IfOk, IfErr, OnOk};
+ghost use Rattle.std.specs.Prelude.{◌≡◌, ◌⊎◌, ℕ, ◌<◌, ◌≤◌, List, length, IsSome, IsOk, Some, None, IfOk, IfErr, OnOk};
 ghost use Rattle.bpf_profile.specs.declared.slot.Slot.{Slot};
 ghost use Rattle.bpf_profile.specs.Meaning.{instruction_at};
 ghost use Rattle.bpf_profile.specs.Safety.{IsSafe};
 ghost use Rattle.bpf_profile.specs.Spelling.{Spells};
 ghost use Rattle.bpf_profile.specs.Flow.{flow_fault, IsBudget};
 ghost use Rattle.verifier.specs.Analysis.{context_size, analysis_fault};
-ghost use Rattle.verifier.specs.Verifying.{out_of_memory, fault_of, IsAccepted, IsProgramRefused, IsRefused};
+ghost use Rattle.verifier.specs.Verifying.{out_of_memory, fault_of, IsAccepted, IsProgramRefused, IsRefused, IsVerification};
 
 use crate::analysis::analyse;
 use crate::decoded::decoded;
@@ -31,9 +31,11 @@ pub struct Verified {
 }
 
 impl Model for Verified {
-    ghost use Rattle.verifier.specs.Programs.{VerifiedProgram, IsVerified};
+    ghost use Rattle.verifier.specs.Programs.{VerifiedProgram};
 
     ghost Value = { VerifiedProgram };
+
+    ghost use Rattle.verifier.specs.Kept.{IsVerified};
 
     ghost view = { λ v. record { slots = v.program; budget = v.budget } };
 
@@ -44,8 +46,12 @@ impl Verified {
     /// How many instructions a run executes at most, from 1 to 4,096.
     pub fn budget(&self) -> u32
         ensures budget { result ≡ self.now.budget }
+        ensures some { 1 ≤ result }
+        ensures most { result ≤ 4096 }
         ensures safe { IsSafe context_size self.now.slots self.now.budget }
         ensures few { length self.now.slots ≤ 4096 }
+        // Decoding, flow and the analysis accepted some bytes as this program.
+        ensures verified { (bytes : List ℕ) × IsVerification bytes self.now }
     {
         self.budget
     }
@@ -76,9 +82,12 @@ impl Verified {
 /// The budget of a program that passes flow and analysis, or the first fault.
 fn checked(alloc: Global, program: &Program) -> Result<u32, Refusal>
     ensures budget { IfOk result (λ budget. IsBudget program.now budget) }
+    ensures some { IfOk result (λ budget. 1 ≤ budget) }
+    ensures most { IfOk result (λ budget. budget ≤ 4096) }
     ensures safe { IfOk result (λ budget. IsSafe context_size program.now budget) }
     ensures accepted { OnOk result (IsAccepted program.now) }
     ensures refused { IfErr result (λ e. (e ≡ out_of_memory) ⊎ IsProgramRefused program.now (fault_of e)) }
+    ensures slot { IfErr result (λ e. e.slot < 4096) }
 {
     let flow = match check(alloc, program) {
         Ok(flow) => flow,
@@ -92,8 +101,10 @@ fn checked(alloc: Global, program: &Program) -> Result<u32, Refusal>
 
 /// What is kept of a program that was checked.
 fn kept(alloc: Global, program: Program, bytes: &[u8], budget: u32) -> Result<Verified, AllocError>
-    requires spelled { Spells bytes.now program }
+    requires verified { IsVerification bytes.now (record { slots = program; budget = budget }) }
     requires safe { IsSafe context_size program budget }
+    requires some { 1 ≤ budget }
+    requires most { budget ≤ 4096 }
     ensures program { IfOk result (λ v. v.slots ≡ program) }
     ensures budget { IfOk result (λ v. v.budget ≡ budget) }
 {
@@ -115,8 +126,12 @@ pub fn verify(alloc: Global, bytes: &[u8]) -> Result<Verified, Refusal>
     ensures spelled { IfOk result (λ v. Spells bytes.now v.slots) }
     ensures accepted { IfOk result (λ v. IsAccepted v.slots) }
     ensures safe { IfOk result (λ v. IsSafe context_size v.slots v.budget) }
+    // It has the budget of its flow.
+    ensures verified { IfOk result (λ v. IsVerification bytes.now v) }
     // A refusal is the first fault, unless memory ran out.
     ensures refused { IfErr result (λ e. (e ≡ out_of_memory) ⊎ IsRefused bytes.now (fault_of e)) }
+    // Its slot is one that a program may have.
+    ensures slot { IfErr result (λ e. e.slot < 4096) }
 {
     let program = match Program::decode(alloc, bytes) {
         Ok(program) => program,

@@ -1,5 +1,5 @@
-use Rattle.bpf_asm.proofs.Printed.{text_assembles}
+use Rattle.bpf_asm.proofs.Returning.{canonical_text_returns}
 use Rattle.bpf_asm.proofs.laws.canonical_text_returns.Goals as goal
 
 pub returns : goal.returns
-returns c = text_assembles
+returns c = canonical_text_returns

@@ -1,7 +1,4 @@
-use Rattle.std.proofs.Common.{◌≡◌, length, refl, ◌∙◌, ap, List, Bool, arith}
-use Rattle.std.proofs.lemmas.List.{take_at}
-use Rattle.bpf_profile.specs.Flow.{successors}
-use Rattle.flow_check.specs.Passes.{marked_all}
+use Rattle.std.proofs.Common.{refl}
 use Rattle.flow_check.proofs.Marks.{entered_step}
 use Rattle.flow_check.proofs.entered.mark_entered.Goals as goal
 

@@ -1,4 +1,4 @@
-use Rattle.known_bits.specs.BitLaws.{without_is}
+use Rattle.known_bits.proofs.Without.{without_is}
 use Rattle.known_bits.proofs.bitwise.without.Goals as goal
 
 pub returns : goal.returns

@@ -1,4 +1,3 @@
-use Rattle.std.proofs.Common.{◌≡◌, ℕ, ◌^◌, ◌<◌, arith}
 use Rattle.std.proofs.lemmas.Nat.{xor_lt}
 use Rattle.std.specs.Prelude.{bit_xor}
 use Rattle.product_domain.proofs.Differing.{positive, same, has_highest, different}

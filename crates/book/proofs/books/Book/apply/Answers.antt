@@ -4,11 +4,12 @@ use Rattle.book.specs.Books.{opening_of, history_of, IsBook}
 use Rattle.book.specs.Events.{Line, History}
 use Rattle.book.specs.Answers.{IsApplied}
 use Rattle.book.specs.Following.{notes_after, tickets_after, one_where_some, refused_after}
-use Rattle.book.specs.Histories.{IsLegal, note_by, end_by, issue_by, install_by}
+use Rattle.book.specs.Histories.{IsLegal, past_of, note_by, end_by, issue_by, install_by}
 use Rattle.book.specs.Machine.{decision}
 use Rattle.book.specs.Seen.{seen, line}
 use Rattle.book.specs.Situations.{situation}
-use Rattle.book.proofs.Applying.{roomy, line_fits, refused_fits, situation_by, book_step, word_there, follows_there, applied_there, legal_step}
+use Rattle.book.specs.Sound.{IsSound}
+use Rattle.book.proofs.Applying.{roomy, line_fits, refused_fits, situation_by, book_step, word_there, follows_there, applied_there, legal_step, sound_there}
 use Rattle.book.proofs.books.Book.apply.Goals as goal
 
 pub decide-decision-requires-clause-roomy : goal.decide-decision-requires-clause-roomy
@@ -45,7 +46,7 @@ invariant_of-self-2 c =
     let situated = situation_by c.self.inside.config c.self.inside.breaker c.follow.new.self c.self.inside.registry c.follow-2.new.self (length c.self.inside.entries.items) (length c.push_reserved.new.self.items) number c.args.seat c.max-moment.result c.args.event c.decide-decision.result
     c.follow.ensures.standing notes (c.follow-2.ensures.first ∙ c.make_room.ensures.numbers.0) programs tickets next count in
     let book = book_step _ _ (situation c.self.inside.config c.follow.new.self c.follow-2.new.self (length c.push_reserved.new.self.items)) _ _ c.follow.new.self.refused _ number c.args.seat c.args.moment c.max-moment.result c.args.event c.decide-decision.result
-    c.self.invariant numbered c.max-moment.ensures decided entered word c.know_program.ensures situated later in
+    c.self.invariant numbered c.max-moment.ensures decided entered word c.ranges.seat.fits c.know_event.ensures situated later in
     subst (λ (ls : List Line). IsBook (opening_of c.self.inside.config c.self.inside.start) (situation c.self.inside.config c.follow.new.self c.follow-2.new.self (length c.push_reserved.new.self.items)) c.follow.new.self.refused c.max-moment.result ls) (sym items) book
 
 pub returns-clause-applied : goal.returns-clause-applied
@@ -74,3 +75,16 @@ returns-clause-legal_after c =
     let follows = follows_there _ _ _ _ _ number c.args.seat c.args.moment c.max-moment.result c.args.event c.decide-decision.result c.self.invariant numbered c.max-moment.ensures decided entered in
     let legal = legal_step (opening_of c.self.inside.config c.self.inside.start) c.self.inside.entries.items _ c.self.invariant.legal follows in
     subst (λ (ls : List Line). IsLegal (history_of (opening_of c.self.inside.config c.self.inside.start) ls)) (sym items) legal
+
+pub returns-clause-sound_after : goal.returns-clause-sound_after
+returns-clause-sound_after c =
+    let number : ℕ = c.self.inside.start.line + c.len-2.result in
+    let items : c.push_reserved.new.self.items ≡ c.self.inside.entries.items ++ line number c.args.seat (seen c.args.event) c.max-moment.result c.decide-decision.result.reply ∷ [] =
+    rw (c.push_reserved.ensures.items, c.make_room.ensures.entries, c.new-entry.ensures) refl in
+    let numbered : number ≡ c.self.inside.start.line + length c.self.inside.entries.items = ap (λ (n : ℕ). c.self.inside.start.line + n) (c.len-2.ensures ∙ c.make_room.new.entries.ok.0 ∙ ap length c.make_room.ensures.entries) in
+    let decided = c.decide-decision.ensures ∙ ap (λ (n : ℕ). decision (situation c.self.inside.config c.self.inside.breaker c.self.inside.registry n) c.max-moment.result (seen c.args.event)) (c.len.ensures ∙ c.self.inside.entries.ok.0) in
+    let entered = sym c.if-not-is_entered.ensures in
+    let word = word_there _ _ _ _ _ c.args.moment c.max-moment.result c.self.invariant c.ranges.moment.fits c.max-moment.ensures in
+    let follows = follows_there _ _ _ _ _ number c.args.seat c.args.moment c.max-moment.result c.args.event c.decide-decision.result c.self.invariant numbered c.max-moment.ensures decided entered in
+    let sound = sound_there (opening_of c.self.inside.config c.self.inside.start) _ _ _ c.self.inside.entries.items _ c.self.invariant follows (record { word = word; seat = c.ranges.seat.fits; event = c.know_event.ensures }) in
+    subst (λ (ls : List Line). IsSound (past_of (history_of (opening_of c.self.inside.config c.self.inside.start) ls))) (sym items) sound

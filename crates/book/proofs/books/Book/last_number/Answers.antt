@@ -1,4 +1,4 @@
-use Rattle.std.proofs.Common.{ℕ, ◌+◌, ◌-◌, arith, ap, ◌∙◌}
+use Rattle.std.proofs.Common.{◌≡◌, suc, ◌+◌, ◌-◌, length, arith, ap, ◌∙◌}
 use Rattle.book.specs.Events.{History}
 use Rattle.book.specs.Histories.{past_of, next_line}
 use Rattle.book.proofs.Applying.{line_fits}
@@ -13,6 +13,5 @@ overflow_sub-result c = omega (arith, line_least _ _ _ _ _ c.self.invariant)
 
 pub returns-clause-number : goal.returns-clause-number
 returns-clause-number c =
-    ap (λ (n : ℕ). c.self.inside.start.line + n - 1) (c.len.ensures ∙ c.self.inside.entries.ok.0)
-    ∙ ap (λ (n : ℕ). n - 1) (next_line_is _ c.self.inside.entries.items)
-    ∙ ap (λ (h : History). next_line (past_of h) - 1) c.self.view_is
+    let here : suc (c.self.inside.start.line + c.len.result - 1) ≡ c.self.inside.start.line + length c.self.inside.entries.items = omega (arith, line_least _ _ _ _ _ c.self.invariant, c.len.ensures, c.self.inside.entries.ok.0) in
+    here ∙ next_line_is _ c.self.inside.entries.items ∙ ap (λ (h : History). next_line (past_of h)) c.self.view_is

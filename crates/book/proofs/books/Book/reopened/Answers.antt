@@ -7,16 +7,18 @@ use Rattle.book.specs.Events.{History, Opening}
 use Rattle.book.specs.Histories.{past_of}
 use Rattle.book.specs.Machine.{Situation}
 use Rattle.book.specs.Situations.{situation}
+use Rattle.book.specs.Safe.{IsSafeProgram}
 use Rattle.book.specs.Sound.{IsOpening}
 use Rattle.book.proofs.Applying.{line_fits}
 use Rattle.book.proofs.Cuts.{current_is, made_so, reopened_is, reopens_well}
+use Rattle.book.proofs.Worlds.{current_safe}
 use Rattle.book.proofs.books.Book.reopened.Goals as goal
 
 pub overflow_add-start-2 : goal.overflow_add-start-2
 overflow_add-start-2 c = omega (arith, line_fits _ _ _ _ _ c.self.invariant, c.len.ensures, c.self.inside.entries.ok.0)
 
-pub begin-requires : goal.begin-requires
-begin-requires c =
+pub begin-requires-clause-opening : goal.begin-requires-clause-opening
+begin-requires-clause-opening c =
     let program : arc_value c.in_ok-try_clone.field-0 ≡ current_program (past_of (history_of (opening_of c.self.inside.config c.self.inside.start) c.self.inside.entries.items)) =
     c.in_ok-try_clone.ensures ∙ ap arc_value c.index.ensures
     ∙ ap (λ (n : ℕ). arc_value (slice_index_or c.self.inside.registry.programs.items (n - 1) c.index.result.now)) (c.len-last.ensures ∙ c.self.inside.registry.programs.ok.0)
@@ -27,6 +29,14 @@ begin-requires c =
     ∙ reopened_is _ _ _ _ c.self.inside.entries.items _ c.self.invariant program in
     let fresh = ap (λ (h : History). is_worn_out (past_of h)) c.self.view_is ∙ c.requires in
     subst (λ (o : Opening). IsOpening o) (sym same) (reopens_well _ _ _ _ c.self.inside.entries.items c.self.invariant fresh)
+
+pub begin-requires-clause-program : goal.begin-requires-clause-program
+begin-requires-clause-program c =
+    let program : arc_value c.in_ok-try_clone.field-0 ≡ current_program (past_of (history_of (opening_of c.self.inside.config c.self.inside.start) c.self.inside.entries.items)) =
+    c.in_ok-try_clone.ensures ∙ ap arc_value c.index.ensures
+    ∙ ap (λ (n : ℕ). arc_value (slice_index_or c.self.inside.registry.programs.items (n - 1) c.index.result.now)) (c.len-last.ensures ∙ c.self.inside.registry.programs.ok.0)
+    ∙ current_is arc_value c.self.inside.registry.programs.items c.index.result.now (past_of (history_of (opening_of c.self.inside.config c.self.inside.start) c.self.inside.entries.items)) (ap (λ (s : Situation). s.programs) c.self.invariant.situated) in
+    subst IsSafeProgram (sym program) (current_safe (past_of (history_of (opening_of c.self.inside.config c.self.inside.start) c.self.inside.entries.items)) c.self.invariant.sound)
 
 pub returns-clause-opened : goal.returns-clause-opened
 returns-clause-opened c =

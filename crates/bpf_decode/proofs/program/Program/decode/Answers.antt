@@ -15,12 +15,12 @@ check_slots-requires c =
 pub returns-in_err-check_slots-clause-complete : goal.returns-in_err-check_slots-clause-complete
 returns-in_err-check_slots-clause-complete c = λ slots spells.
     absurd (faulty_unspelled c.args.bytes.now c.in_ok-slots.slots.items slots (fault_of c.in_err-check_slots.field-0.0) c.in_ok-slots.ensures
-    (c.in_err-check_slots.ensures ∙ ap (fault_from 0 false) c.deref.ensures.value) spells)
+    (c.in_err-check_slots.ensures.fault ∙ ap (fault_from 0 false) c.deref.ensures.value) spells)
 
 pub returns-clause-program : goal.returns-clause-program
 returns-clause-program c =
     read_spelled c.args.bytes.now c.in_ok-slots.slots.items (λ i. omega (arith, c.type_inv.bytes i)) (sym c.has_bad_length.ensures ∙ c.if-has_bad_length.false) c.in_ok-slots.ensures
-    (ap (fault_from 0 false) (sym c.deref.ensures.value) ∙ sym c.in_ok-check_slots.ensures)
+    (ap (fault_from 0 false) (sym c.deref.ensures.value) ∙ sym c.in_ok-check_slots.ensures.fault)
 
 pub invariant_of-result : goal.invariant_of-result
 invariant_of-result c = (returns-clause-program c).program

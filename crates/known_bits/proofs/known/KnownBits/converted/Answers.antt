@@ -1,4 +1,4 @@
-use Rattle.known_bits.specs.MoveLaws.{conversion_apart}
+use Rattle.known_bits.proofs.Moves.{conversion_apart}
 use Rattle.known_bits.proofs.known.KnownBits.converted.Goals as goal
 
 pub invariant_of-result : goal.invariant_of-result

@@ -1,4 +1,4 @@
-use Rattle.known_bits.specs.MoveLaws.{shift_apart}
+use Rattle.known_bits.proofs.Moves.{shift_apart}
 use Rattle.known_bits.proofs.known.KnownBits.shifted.Goals as goal
 
 pub invariant_of-result : goal.invariant_of-result

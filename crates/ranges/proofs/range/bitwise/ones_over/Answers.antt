@@ -3,7 +3,7 @@ use Rattle.std.proofs.lemmas.Nat.{leading_le}
 use Rattle.std.proofs.lemmas.Nat.Bits.{ones_shr}
 use Rattle.std.specs.Int.{w64, leading_zeros}
 use Rattle.std.specs.Int.Count.{leading_of_zero}
-use Rattle.ranges.specs.BitwiseLaws.{ones_over_is_ones, ones_over_is_over, ones_over_is_least}
+use Rattle.ranges.proofs.OnesOver.{ones_over_is_ones, ones_over_is_over, ones_over_is_least}
 use Rattle.ranges.specs.RangeTable.{IsOnes, ones_over}
 use Rattle.ranges.proofs.range.bitwise.ones_over.Goals as goal
 

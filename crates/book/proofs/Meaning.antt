@@ -1,0 +1,103 @@
+-- The verdict of a finished call is the meaning's for the version that its ticket names.
+use Rattle.std.proofs.Common.{◌≡◌, ℕ, ◌-◌, nat_le, ◌==◌, Bool, true, false, cond, if◌then◌else◌, List, [], ◌∷◌, ◌++◌, slice_get, Option, Some, None, arith, refl, ap, sym, ◌∙◌, subst}
+use Rattle.std.specs.Prelude.{Contains}
+use Rattle.std.specs.List.{filter}
+use Rattle.std.proofs.lemmas.Bool.Decides.{Decides-eqb}
+use Rattle.std.proofs.lemmas.List.Elements.{Contains-append_left, Contains-append_right}
+use Rattle.bpf_profile.specs.declared.machine.Verdict.{Verdict}
+use Rattle.bpf_profile.specs.Meaning.{Judges}
+use Rattle.bpf_run.specs.JudgedWork.{Work}
+use Rattle.verifier.specs.Analysis.{context_size}
+use Rattle.verifier.specs.Programs.{VerifiedProgram}
+use Rattle.book.specs.declared.machine.Decision.{Decision}
+use Rattle.book.specs.declared.registry.OpenTicket.{OpenTicket}
+use Rattle.book.specs.declared.replies.Fate.{Fate}
+use Rattle.book.specs.declared.replies.Reply.{Reply}
+use Rattle.book.specs.declared.replies.Reply.TheVariants as reply
+use Rattle.book.specs.declared.states.State.{State}
+use Rattle.book.specs.Events.{Happening, finishes, Line}
+use Rattle.book.specs.Histories.{Past, issued, open_of, programs_of, situation_of}
+use Rattle.book.specs.Machine.{Situation, open_ticket, program_from}
+use Rattle.book.specs.Safe.{IsSafeProgram, AreSafePrograms, IsJudged}
+use Rattle.book.specs.Sound.{IsMeant, IsMeantLine}
+use Rattle.book.specs.Verdicts.{judgement}
+use Rattle.book.proofs.Deciding.{Shape, refuses, permits, concludes, lets_go, takes_in, turns, IsByVersion}
+use Rattle.book.proofs.Judging.{judgement_judges, program_safe}
+use Rattle.book.proofs.Lists.{still_there}
+
+-- ---- an open ticket was issued under its number
+
+kept_head : (t u : OpenTicket) (keep : Bool) (tickets kept : List OpenTicket) (number : ℕ) (here : Bool) → (t.number == number) ≡ here
+    → (open_ticket kept number ≡ Some u → Contains tickets u × (u.number ≡ number))
+    → open_ticket (cond keep (t ∷ kept) kept) number ≡ Some u → Contains (t ∷ tickets) u × (u.number ≡ number)
+kept_head t u false tickets kept number here e on found = let rest = on found in (Contains-append_right (t ∷ []) tickets u rest.0, rest.1)
+kept_head t u true tickets kept number true e on found =
+    let first : ◌≡◌ {A = Option OpenTicket} (Some t) (Some u) = sym (ap (λ (b : Bool). if b then Some t else open_ticket kept number) e) ∙ found in
+    let is : t ≡ u = cc in
+    (subst (λ (v : OpenTicket). Contains (t ∷ tickets) v) is (Contains-append_left (t ∷ []) tickets t (0, omega arith, refl)), ap (λ (v : OpenTicket). v.number) (sym is) ∙ (Decides-eqb t.number number).0 e)
+kept_head t u true tickets kept number false e on found =
+    let later : open_ticket kept number ≡ Some u = sym (ap (λ (b : Bool). if b then Some t else open_ticket kept number) e) ∙ found in
+    let rest = on later in (Contains-append_right (t ∷ []) tickets u rest.0, rest.1)
+
+pub found_there : (keep : OpenTicket → Bool) (tickets : List OpenTicket) (number : ℕ) (u : OpenTicket) → open_ticket (filter keep tickets) number ≡ Some u → Contains tickets u × (u.number ≡ number)
+found_there keep [] number u e = let bad : ◌≡◌ {A = Option OpenTicket} None (Some u) = e in cc
+found_there keep (t ∷ tickets) number u e = kept_head t u (keep t) tickets (filter keep tickets) number (t.number == number) refl (found_there keep tickets number u) e
+
+-- ---- later versions and tickets change nothing
+
+later_held : (test : Bool) (programs more : List VerifiedProgram) (place : ℕ) (program : VerifiedProgram) → (if test then slice_get programs place else None) ≡ Some program → (if test then slice_get (programs ++ more) place else None) ≡ Some program
+later_held true programs more place program e = still_there programs more place program e
+later_held false programs more place program e = e
+
+pub still_meant : (first : ℕ) (programs more : List VerifiedProgram) (tickets others : List OpenTicket) (work : Work) (ticket : ℕ) (v : Verdict) (steps version : ℕ)
+    → IsMeant first programs tickets work ticket v steps version → IsMeant first (programs ++ more) (tickets ++ others) work ticket v steps version
+still_meant first programs more tickets others work ticket v steps version meant_ = record {
+  issued = meant_.issued;
+  listed = Contains-append_left tickets others meant_.issued meant_.listed;
+  number = meant_.number;
+  of_version = meant_.of_version;
+  program = meant_.program;
+  held = later_held (nat_le first version) programs more (version - first) meant_.program meant_.held;
+  meant = meant_.meant;
+}
+
+-- ---- the line that comes
+
+by_version : (past : Past) (work : Work) (ticket : ℕ) (v : Verdict) (steps version : ℕ) → AreSafePrograms (programs_of past) → IsJudged work → IsByVersion (situation_of past) work ticket v steps version
+    → IsMeant past.opening.version (programs_of past) (issued past.stages) work ticket v steps version
+by_version past work ticket v steps version safe_ judged_ is =
+    let there = found_there _ (issued past.stages) ticket is.opened is.found in
+    let good = program_safe past.opening.version (programs_of past) version is.program safe_ is.held in
+    let judges = judgement_judges is.program work.outcome good judged_.outcome in
+    record {
+      issued = is.opened;
+      listed = there.0;
+      number = there.1;
+      of_version = is.of_version;
+      program = is.program;
+      held = is.held;
+      meant = subst (λ (w : Verdict). Judges context_size is.program.slots work.outcome w steps) is.verdict_is (subst (λ (k : ℕ). Judges context_size is.program.slots work.outcome (judgement is.program work.outcome).verdict k) is.steps_are judges);
+    }
+
+pub meant_by : (past : Past) (event : Happening) (d : Decision) (work : Work) (ticket : ℕ) (f : Fate) (v : Verdict) (steps version : ℕ) (st : State)
+    → AreSafePrograms (programs_of past) → IsJudged work → Shape (situation_of past) event d → event ≡ finishes work ticket → d.reply ≡ reply.Finished f v steps version st
+    → IsMeant past.opening.version (programs_of past) (issued past.stages) work ticket v steps version
+meant_by past event d work ticket f v steps version st safe_ judged_ (refuses number e room) same r = let bad : ◌≡◌ {A = Reply} (reply.Refused number) (reply.Finished f v steps version st) = sym e ∙ r in cc
+meant_by past event d work ticket f v steps version st safe_ judged_ (permits w s e p room free given) same r = let bad : ◌≡◌ {A = Reply} (reply.Permitted (situation_of past).next_ticket w s) (reply.Finished f v steps version st) = sym p ∙ r in cc
+meant_by past event d work ticket f v steps version st safe_ judged_ (concludes other number g w k n s e p there present counted is) same r =
+    let events : ◌≡◌ {A = Happening} (finishes other number) (finishes work ticket) = sym e ∙ same in
+    let works : other ≡ work = cc in
+    let numbers : number ≡ ticket = cc in
+    let replies : ◌≡◌ {A = Reply} (reply.Finished g w k n s) (reply.Finished f v steps version st) = sym p ∙ r in
+    let verdicts : w ≡ v = cc in
+    let counts : k ≡ steps = cc in
+    let versions : n ≡ version = cc in
+    by_version past work ticket v steps version safe_ judged_
+    (subst (λ (x : Work). IsByVersion (situation_of past) x ticket v steps version) works
+    (subst (λ (x : ℕ). IsByVersion (situation_of past) other x v steps version) numbers
+    (subst (λ (x : Verdict). IsByVersion (situation_of past) other number x steps version) verdicts
+    (subst (λ (x : ℕ). IsByVersion (situation_of past) other number w x version) counts
+    (subst (λ (x : ℕ). IsByVersion (situation_of past) other number w k x) versions is)))))
+meant_by past event d work ticket f v steps version st safe_ judged_ (lets_go number s e p there) same r = let bad : ◌≡◌ {A = Reply} (reply.Released s) (reply.Finished f v steps version st) = sym p ∙ r in cc
+meant_by past event d work ticket f v steps version st safe_ judged_ (takes_in program w budget e p less room) same r = let bad : ◌≡◌ {A = Reply} (reply.Installed w budget) (reply.Finished f v steps version st) = sym p ∙ r in cc
+meant_by past event d work ticket f v steps version st safe_ judged_ (turns s q p room) same r = let bad : ◌≡◌ {A = Reply} (reply.Moved s q) (reply.Finished f v steps version st) = sym p ∙ r in cc

@@ -1,0 +1,7 @@
+use Rattle.book.specs.Books.{first_opening}
+use Rattle.book.specs.Configuration.{default_parts}
+use Rattle.worked_examples.proofs.Exists.{zero_bytes, zero_program, zero_verified, zero_opening}
+use Rattle.worked_examples.proofs.openings.a_good_opening_exists.Goals as goal
+
+pub returns : goal.returns
+returns c = (first_opening default_parts zero_program, zero_opening, (zero_bytes, zero_verified))

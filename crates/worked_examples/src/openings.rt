@@ -1,0 +1,9 @@
+//! That the premises of the laws can be met.
+ghost use Rattle.book.specs.Events.{Opening};
+ghost use Rattle.book.specs.Safe.{IsVerifiedProgram};
+ghost use Rattle.book.specs.Sound.{IsOpening};
+
+/// A good opening exists, with a program that decoding, flow and the analysis accept.
+pub fn a_good_opening_exists()
+    ensures { (opening : Opening) × IsOpening opening × IsVerifiedProgram opening.program }
+{}
