@@ -1,12 +1,11 @@
 -- What the ranges of a configuration say.
-use Rattle.std.proofs.Common.{◌≡◌, ℕ, ◌≤◌, ◌==◌, nat_le, nat_lt, ◌&&◌, ◌^◌, Bool, true, false, if◌then◌else◌, Option, Some, None, arith, refl, ap}
+use Rattle.std.proofs.Common.{◌≡◌, ℕ, ◌≤◌, nat_le, nat_lt, ◌&&◌, ◌^◌, Bool, true, false, if◌then◌else◌, Option, Some, None, arith, refl, ap}
 use Rattle.book.specs.declared.configuration.ConfigField.{ConfigField}
 use Rattle.book.specs.declared.configuration.ConfigParts.{ConfigParts}
 use Rattle.book.specs.declared.configuration.SlidingWindowType.{SlidingWindowType}
 use Rattle.book.specs.declared.configuration.SlidingWindowType.TheVariants as window
 use Rattle.book.specs.Configuration.{checked, bad_field_up_to, bad_field, IsInRange, bad_limit, is_within, most_size}
 use Rattle.std.proofs.lemmas.Bool.{leb-true, le-leb}
-use Rattle.std.proofs.lemmas.Bool.Decides.{Decides-eqb}
 use Rattle.book.specs.declared.configuration.ConfigField.TheVariants as field
 use Rattle.book.specs.declared.states.State.TheVariants as state
 use Rattle.book.specs.Machine.{Situation, at_moment, in_state}

@@ -1,5 +1,5 @@
 -- What every legal history keeps.
-use Rattle.std.proofs.Common.{◌≡◌, ℕ, zero, suc, ◌+◌, ◌≤◌, ◌==◌, not, Bool, true, false, cond, List, [], ◌∷◌, length, slice_get, Option, Some, None, Result, Ok, arith, refl, ap, sym, ◌∙◌, length-append}
+use Rattle.std.proofs.Common.{◌≡◌, ℕ, zero, suc, ◌+◌, ◌≤◌, ◌==◌, not, Bool, true, false, cond, List, [], ◌∷◌, length, slice_get, Option, Some, None, Ok, arith, refl, ap, sym, ◌∙◌, length-append}
 use Rattle.std.specs.List.{filter, fold, AllByRecursion}
 use Rattle.bpf_profile.specs.declared.machine.Verdict.TheVariants as verdict
 use Rattle.std.proofs.lemmas.Bool.Decides.{Decides-eqb}

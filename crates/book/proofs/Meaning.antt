@@ -15,11 +15,11 @@ use Rattle.book.specs.declared.replies.Fate.{Fate}
 use Rattle.book.specs.declared.replies.Reply.{Reply}
 use Rattle.book.specs.declared.replies.Reply.TheVariants as reply
 use Rattle.book.specs.declared.states.State.{State}
-use Rattle.book.specs.Events.{Happening, finishes, Line}
-use Rattle.book.specs.Histories.{Past, issued, open_of, programs_of, situation_of}
-use Rattle.book.specs.Machine.{Situation, open_ticket, program_from}
-use Rattle.book.specs.Safe.{IsSafeProgram, AreSafePrograms, IsJudged}
-use Rattle.book.specs.Sound.{IsMeant, IsMeantLine}
+use Rattle.book.specs.Events.{Happening, finishes}
+use Rattle.book.specs.Histories.{Past, issued, programs_of, situation_of}
+use Rattle.book.specs.Machine.{open_ticket}
+use Rattle.book.specs.Safe.{AreSafePrograms, IsJudged}
+use Rattle.book.specs.Sound.{IsMeant}
 use Rattle.book.specs.Verdicts.{judgement}
 use Rattle.book.proofs.Deciding.{Shape, refuses, permits, concludes, lets_go, takes_in, turns, IsByVersion}
 use Rattle.book.proofs.Judging.{judgement_judges, program_safe}

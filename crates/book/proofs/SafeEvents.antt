@@ -1,5 +1,5 @@
 -- From what operators can meet to what is safe: programs, events and lines.
-use Rattle.std.proofs.Common.{◌≡◌, ℕ, List, refl, subst}
+use Rattle.std.proofs.Common.{◌≡◌, ℕ, List, subst}
 use Rattle.bpf_profile.specs.Safety.{IsSafe}
 use Rattle.bpf_run.specs.JudgedWork.{Work}
 use Rattle.verifier.specs.Analysis.{context_size}

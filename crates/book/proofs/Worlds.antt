@@ -1,19 +1,16 @@
 -- Whatever steps are taken, in any order, each answer is the documented machine's on the meaning's verdicts, and the history stays legal.
-use Rattle.std.proofs.Common.{◌≡◌, ℕ, zero, suc, ◌-◌, ◌^◌, ◌≤◌, ◌<◌, ◌==◌, nat_le, ◌||◌, Bool, true, false, if◌then◌else◌, List, [], ◌∷◌, slice_get, Option, Some, None, Result, Ok, Err, arith, refl, ap, sym, ◌∙◌, subst}
-use Rattle.std.specs.List.{filter_map, AllByRecursion}
+use Rattle.std.proofs.Common.{◌≡◌, ℕ, suc, ◌^◌, ◌≤◌, ◌<◌, ◌==◌, ◌||◌, Bool, true, false, if◌then◌else◌, List, [], ◌∷◌, slice_get, Option, Some, None, Result, Ok, Err, arith, refl, ap, sym, ◌∙◌, subst}
+use Rattle.std.specs.List.{filter_map}
 use Rattle.std.proofs.Math.Nat.{le-max_right, max-le}
 use Rattle.std.proofs.lemmas.Bool.{ltb-false}
 use Rattle.std.proofs.lemmas.Slice.Eq.{bytes_eq-Decides}
-use Rattle.bpf_profile.specs.Meaning.{Ends, Judges}
 use Rattle.bpf_profile.specs.Outcomes.{Outcome, IsOutcome}
-use Rattle.bpf_profile.proofs.Runs.{named_answer}
 use Rattle.bpf_run.specs.JudgedWork.{Work}
 use Rattle.refusals.specs.declared.RefusalNumber.{RefusalNumber}
 use Rattle.refusals.specs.declared.RefusalNumber.TheVariants as refusal
 use Rattle.verifier.specs.Analysis.{context_size}
 use Rattle.verifier.specs.Programs.{VerifiedProgram}
 use Rattle.book.specs.declared.machine.Decision.{Decision}
-use Rattle.book.specs.declared.machine.Judgement.{Judgement}
 use Rattle.book.specs.declared.registry.OpenTicket.{OpenTicket}
 use Rattle.book.specs.declared.states.State.TheVariants as state
 use Rattle.book.specs.Answers.{looked_up, looked_under, looked, last_of, current_program, is_past_the_limit, is_worn_out, is_some_open, reopened, cut}

@@ -15,7 +15,7 @@ use Rattle.book.specs.Events.{finishes, Line, Opening}
 use Rattle.book.specs.Histories.{Past, ended, issued, notes_of, open_of, programs_of, greatest}
 use Rattle.book.specs.Machine.{permissions_held, program_from}
 use Rattle.book.specs.Standings.{is_half_open}
-use Rattle.book.specs.Safe.{IsSafeProgram, AreSafePrograms, IsSafeLine}
+use Rattle.book.specs.Safe.{AreSafePrograms, IsSafeLine}
 
 -- an opening whose configuration is in range, and whose numbers begin at 1 or later and leave room
 pub record IsOpening (opening : Opening) : Type 0 where
