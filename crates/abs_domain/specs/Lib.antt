@@ -1,6 +1,11 @@
 pub mod Agreement
 pub mod AgreementLaws
+pub mod Arithmetic
+pub mod Branches
 pub mod FlatLaws
 pub mod FlatTable
 pub mod OperationLaws
 pub mod Operations
+pub mod ProductTable
+pub mod Reduction
+pub mod ReductionLaws

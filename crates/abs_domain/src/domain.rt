@@ -1,4 +1,4 @@
-//! What an analysis needs of a domain.
+//! The interface of an abstract domain, with the laws that make it sound.
 ghost use Rattle.std.specs.Prelude.{◌≡◌, ℕ, ◌<◌, ◌≤◌, ◌%◌, ◌^◌, Bool, true, bit_and};
 ghost use Rattle.bpf_profile.specs.Words.{IsWord};
 ghost use Rattle.bpf_profile.specs.declared.instruction.Size.{Size as ASize};
@@ -14,12 +14,13 @@ ghost use Rattle.abs_domain.specs.declared.operations.Shift.{Shift as AShift};
 use crate::operations::{Binary, Bits, Bounds, Conversion, Relation, Shift};
 use bpf_profile::Size;
 
-/// Values that stand for sets of words. No call takes memory, and none fails.
+/// An abstract domain, whose values stand for sets of words. No method takes memory, and none fails.
 ///
-/// Each call's answer is a function of its arguments, which the ghost member beside it names; the laws
-/// say that no word is lost.
+/// The clause of each method says that its result is a function of its arguments, a ghost member of the
+/// trait (`joined` for `join`). The laws, which are the ghost members below the methods, say that these
+/// functions are sound: no word is lost.
 pub trait Domain: Copy {
-    /// Which words a value contains.
+    /// Whether a value contains a word.
     ghost contains: { Self → ℕ → Type 0 };
 
     ghost of_word: { ℕ → Self };
@@ -48,61 +49,63 @@ pub trait Domain: Copy {
 
     ghost fixed: { Self → ABits → Self };
 
-    /// The value that contains one word.
+    /// The abstract value of a constant. It contains this word.
     fn constant(word: u64) -> Self
         ensures { result ≡ of_word word };
 
-    /// The value that contains every word.
+    /// The greatest value: it contains every word.
     fn top() -> Self
         ensures { result ≡ of_any };
 
-    /// A value that contains what either contains.
+    /// The join: it contains every word that either value contains.
     fn join(self, other: Self) -> Self
         ensures { result ≡ joined self other };
 
-    /// What an operation makes of a word of this value and one of the other.
+    /// The result of an operation. It contains what the operation makes of any word of this value and any
+    /// word of the other.
     fn operate(self, operation: Binary, other: Self) -> Self
         ensures { result ≡ computed operation self other };
 
-    /// What a shift by a count, from 0 to 63, makes of this value's words.
+    /// The result of a shift by a known count, from 0 to 63. It contains each word of this value, shifted.
     fn shift(self, shift: Shift, count: u32) -> Self
         requires { count < 64 }
         ensures { result ≡ shifted shift self count };
 
-    /// What is made of the low bytes of this value's words.
+    /// The result of a conversion of the low bytes. It contains each word of this value, converted.
     fn convert(self, conversion: Conversion, size: Size) -> Self
         ensures { result ≡ converted conversion size self };
 
-    /// Bounds of this value's words.
+    /// An unsigned lower and an unsigned upper bound of the contained words.
     fn bounds(self) -> Bounds
         ensures bounds { result ≡ bounds_of self }
         ensures ordered { result.low ≤ result.high };
 
-    /// The bits that all of this value's words have.
+    /// The bits that the domain knows to be the same in all contained words.
     fn bits(self) -> Bits
         ensures { result ≡ bits_of self };
 
-    /// Whether the lowest bits of this value's words, so many, are known to be 0. The count is from 0
-    /// to 63.
+    /// Whether the lowest `count` bits of all contained words are known to be 0. The count is from 0 to 63.
     fn low_zeros(self, count: u32) -> bool
         requires { count < 64 }
         ensures { result ≡ has_low_zeros self count };
 
-    /// This value and the other, without words of which no two are related so. What isn't learnt stays.
+    /// Both values, refined by the fact that the relation holds between a word of this value and a word of
+    /// the other. Words for which it can hold are kept; of the others a domain drops what it can.
     fn refine(self, relation: Relation, other: Self) -> (Self, Self)
         ensures first { result.0 ≡ refined_first relation self other }
         ensures second { result.1 ≡ refined_second relation self other };
 
-    /// This value, without words out of the bounds where the domain can say so.
+    /// This value, refined by bounds: words within them are kept; of the others a domain drops what it can.
     fn clamp(self, bounds: Bounds) -> Self
         requires { bounds.low ≤ bounds.high }
         ensures { result ≡ clamped self bounds };
 
-    /// This value, without words that don't agree with the bits where the domain can say so.
+    /// This value, refined by known bits: words that agree with them are kept; of the others a domain drops
+    /// what it can.
     fn fix(self, bits: Bits) -> Self
         ensures { result ≡ fixed self bits };
 
-    /// What is contained is a word.
+    /// A value contains words alone, numbers below 2^64.
     ghost contained_are_words: { (a : Self) (n : ℕ) → contains a n → IsWord n };
 
     ghost words_are_contained: { (n : ℕ) → IsWord n → contains (of_word n) n };
@@ -125,7 +128,7 @@ pub trait Domain: Copy {
 
     ghost bounds_hold: { (a : Self) (n : ℕ) → contains a n → ((bounds_of a).low ≤ n) × (n ≤ (bounds_of a).high) };
 
-    /// A bit that is unknown is 0 in the value.
+    /// An unknown bit is 0 in the answer's `value`.
     ghost unknown_bits_are_clear: { (a : Self) (n : ℕ) → contains a n → bit_and (bits_of a).value (bits_of a).unknown ≡ 0 };
 
     ghost bits_hold: { (a : Self) (n : ℕ) → contains a n → Agrees (bits_of a).value (bits_of a).unknown n };

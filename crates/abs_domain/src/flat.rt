@@ -1,4 +1,4 @@
-//! The flat domain: one word, or any.
+//! The flat domain (constant propagation): one known word, or any word.
 ghost use Rattle.std.specs.Prelude.{◌≡◌, ◌<◌, ◌≤◌};
 
 use crate::domain::Domain;
@@ -6,7 +6,7 @@ use crate::operations::{Binary, Bits, Bounds, Conversion, Relation, Shift};
 use crate::words::{operated, resized, shifted};
 use bpf_profile::Size;
 
-/// One word, or any. It is the least that an analysis can know of numbers.
+/// One known word, or any word. It is the simplest domain that knows anything of numbers.
 #[derive(Clone, Copy, Debug, PartialEq, Eq)]
 pub enum Flat {
     /// This word alone.

@@ -1,13 +1,18 @@
-//! Abstract domains: what an analysis knows of a word, of all runs at once.
+//! Abstract domains over 64-bit words, for an analysis that covers all runs of a program at once.
 //!
-//! A value of a domain stands for a set of words below 2^64, those that it contains. Each operation
-//! answers a value that contains whatever the same operation of RFC 9669 makes of contained words;
-//! which one, each domain's own table says.
+//! A value of a domain (an abstract value) stands for a set of words below 2^64, those that it contains.
+//! Each operation is sound: its result contains whatever the same operation of RFC 9669 makes of contained
+//! words. How precise the result is, the table of each domain in its `specs/` says.
 #![tactic(auto)]
 
+pub mod arithmetic;
+pub mod branches;
 mod domain;
 mod flat;
+pub mod laws;
 mod operations;
+mod product;
+mod reduction;
 #[cfg(test)]
 mod tests;
 pub mod words;
@@ -15,3 +20,4 @@ pub mod words;
 pub use domain::Domain;
 pub use flat::Flat;
 pub use operations::{Binary, Bits, Bounds, Conversion, Relation, Shift};
+pub use product::Both;

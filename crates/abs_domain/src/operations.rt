@@ -1,6 +1,6 @@
-//! What an analysis asks of a domain.
+//! The operations, the relations and the answers of a domain, as plain types.
 
-/// An operation on two words that is no shift (RFC 9669, section 4.1).
+/// A binary operation other than a shift (RFC 9669, section 4.1).
 #[derive(Clone, Copy, Debug, PartialEq, Eq)]
 pub enum Binary {
     Add,
@@ -23,25 +23,25 @@ pub enum Shift {
     ArithmeticRight,
 }
 
-/// What is made of the low bytes of a word (RFC 9669, sections 4.1 and 4.2).
+/// A conversion of the low bytes of a word, as many as a size says (RFC 9669, sections 4.1 and 4.2).
 #[derive(Clone, Copy, Debug, PartialEq, Eq)]
 pub enum Conversion {
-    /// The bytes above them become 0.
+    /// Zero extension: the bytes above them become 0.
     Low,
-    /// The bytes above them become copies of their highest bit.
+    /// Sign extension: the bits above them become copies of their highest bit.
     SignExtended,
-    /// They are reversed, and the bytes above them become 0.
+    /// Byte swap: they are reversed, and the bytes above them become 0.
     Swapped,
 }
 
-/// What a comparison tells of two words (RFC 9669, section 4.3).
+/// A relation between two words, which a comparison establishes (RFC 9669, section 4.3).
 #[derive(Clone, Copy, Debug, PartialEq, Eq)]
 pub enum Relation {
     Equal,
     NotEqual,
-    /// The first is greater, both without a sign.
+    /// The first is greater, as an unsigned number.
     Greater,
-    /// The first is greater or they are equal, both without a sign.
+    /// The first is greater, as an unsigned number, or they are equal.
     GreaterOrEqual,
     /// The bitwise and is 0.
     Disjoint,
@@ -49,14 +49,15 @@ pub enum Relation {
     Overlapping,
 }
 
-/// Bounds of words without a sign, both included.
+/// Unsigned bounds of words, both inclusive.
 #[derive(Clone, Copy, Debug, PartialEq, Eq)]
 pub struct Bounds {
     pub low: u64,
     pub high: u64,
 }
 
-/// What is known of the bits of words: they are those of `value`, but where a bit of `unknown` is 1.
+/// Known bits of words: where a bit of `unknown` is 0, each word has the bit of `value`; where it is 1,
+/// nothing is known of that bit.
 #[derive(Clone, Copy, Debug, PartialEq, Eq)]
 pub struct Bits {
     pub value: u64,

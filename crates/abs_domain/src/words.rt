@@ -1,4 +1,4 @@
-//! What the operations make of words themselves.
+//! The operations of a domain on words themselves.
 ghost use Rattle.std.specs.Prelude.{◌≡◌, ◌<◌};
 ghost use Rattle.abs_domain.specs.Operations.{word_operation, word_shift, word_conversion};
 
@@ -6,7 +6,7 @@ use crate::operations::{Binary, Conversion, Shift};
 use bpf_profile::{ByteOrder, Extension, Operation, Size, Width};
 use bpf_words::{arithmetic, converted, extended};
 
-/// What an operation makes of two words.
+/// The result of an operation on two words.
 pub fn operated(operation: Binary, a: u64, b: u64) -> u64
     ensures { result ≡ word_operation operation a b }
 {
@@ -38,7 +38,7 @@ pub fn shifted(shift: Shift, a: u64, count: u32) -> u64
     arithmetic(operation, Width::Bits64, a, u64::from(count))
 }
 
-/// What is made of the low bytes of a word.
+/// The result of a conversion of the low bytes of a word.
 pub fn resized(conversion: Conversion, size: Size, a: u64) -> u64
     ensures { result ≡ word_conversion conversion size a }
 {

@@ -5,8 +5,8 @@ use Rattle.std.proofs.lemmas.Nat.{pow_pos, mod_below}
 use Rattle.std.specs.Prelude.{slice_set, if◌then◌else◌}
 use Rattle.refusals.specs.declared.RefusalNumber.{RefusalNumber}
 use Rattle.refusals.specs.declared.RefusalNumber.TheVariants as refusal
-use Rattle.abs_arithmetic.specs.Branches.{branch_first, branch_second}
-use Rattle.abs_arithmetic.proofs.Branched.{first_kept, second_kept}
+use Rattle.abs_domain.specs.Branches.{branch_first, branch_second}
+use Rattle.abs_domain.proofs.Branched.{first_kept, second_kept}
 use Rattle.abs_domain.specs.declared.domain.Domain.{Ghosts}
 use Rattle.abs_regs.specs.declared.address.Address.{Address}
 use Rattle.abs_regs.specs.declared.value.AbsVal.{AbsVal}

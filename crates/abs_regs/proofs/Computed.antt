@@ -4,8 +4,8 @@ use Rattle.std.proofs.Math.Nat.{mod-eq_of_lt}
 use Rattle.std.proofs.lemmas.Bool.{eqb-true}
 use Rattle.refusals.specs.declared.RefusalNumber.{RefusalNumber}
 use Rattle.refusals.specs.declared.RefusalNumber.TheVariants as refusal
-use Rattle.abs_arithmetic.specs.Arithmetic.{move_in}
-use Rattle.abs_arithmetic.proofs.Contained.{arithmetic_kept, negation_kept, signed_move_kept, byte_order_kept}
+use Rattle.abs_domain.specs.Arithmetic.{move_in}
+use Rattle.abs_domain.proofs.Contained.{arithmetic_kept, negation_kept, signed_move_kept, byte_order_kept}
 use Rattle.abs_domain.specs.declared.domain.Domain.{Ghosts}
 use Rattle.abs_domain.specs.declared.operations.Binary.TheVariants as binary
 use Rattle.abs_domain.specs.Operations.{word_operation}

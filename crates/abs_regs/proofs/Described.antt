@@ -3,8 +3,8 @@ use Rattle.std.proofs.Common.{◌≡◌, ℕ, zero, suc, ◌≤◌, ◌==◌, Bo
 use Rattle.std.proofs.lemmas.Bool.{eqb-true}
 use Rattle.std.specs.Prelude.{slice_set}
 use Rattle.refusals.specs.declared.RefusalNumber.TheVariants as refusal
-use Rattle.abs_arithmetic.proofs.Branched.{Refines}
-use Rattle.abs_arithmetic.proofs.Contained.{Sound}
+use Rattle.abs_domain.proofs.Branched.{Refines}
+use Rattle.abs_domain.proofs.Contained.{Sound}
 use Rattle.abs_domain.specs.declared.domain.Domain.{Ghosts}
 use Rattle.abs_regs.specs.declared.value.AbsVal.{AbsVal}
 use Rattle.abs_regs.specs.declared.value.AbsVal.TheVariants as known

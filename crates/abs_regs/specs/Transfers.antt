@@ -2,8 +2,8 @@
 use Rattle.std.specs.Prelude.{ℕ, ◌-◌, ◌^◌, ◌==◌, Bool, if◌then◌else◌, List, slice_set, Result, Ok, Err}
 use Rattle.refusals.specs.declared.RefusalNumber.{RefusalNumber}
 use Rattle.refusals.specs.declared.RefusalNumber.TheVariants as refusal
-use Rattle.abs_arithmetic.specs.Arithmetic.{move_in, arithmetic_in, negation_in, signed_move_in, byte_order_in}
-use Rattle.abs_arithmetic.specs.Branches.{branch_first, branch_second}
+use Rattle.abs_domain.specs.Arithmetic.{move_in, arithmetic_in, negation_in, signed_move_in, byte_order_in}
+use Rattle.abs_domain.specs.Branches.{branch_first, branch_second}
 use Rattle.abs_domain.specs.declared.domain.Domain.{Ghosts}
 use Rattle.abs_domain.specs.declared.operations.Binary.TheVariants as binary
 use Rattle.abs_regs.specs.declared.address.Address.{Address}

@@ -1,14 +1,14 @@
-//! Arithmetic on values (RFC 9669, sections 4.1 and 4.2).
+//! Arithmetic instructions on abstract values (RFC 9669, sections 4.1 and 4.2).
 ghost use Rattle.std.specs.Prelude.{◌≡◌};
 ghost use Rattle.abs_regs.specs.Transfers.{moved_stack, moved_context, combined_in, moved_in, result_in, negated_in, extended_in, reordered_in};
 
 use crate::value::AbsVal;
-use abs_arithmetic::{arithmetic, converted, moved_signed, negation};
+use abs_domain::arithmetic::{arithmetic, converted, moved_signed, negation};
 use abs_domain::{Binary, Domain};
 use bpf_profile::{ByteOrder, Operation, Size, Width};
 use refusals::RefusalNumber;
 
-/// A pointer into the stack plus or minus a number, which has to be known.
+/// A pointer into the stack plus or minus a number, which has to be a known constant.
 fn moved_stack<D: Domain>(
     operation: Operation,
     width: Width,
@@ -52,7 +52,7 @@ fn moved_context<D: Domain>(
     }
 }
 
-/// An operation that is no move.
+/// An operation other than a move.
 fn combined<D: Domain>(
     operation: Operation,
     width: Width,
@@ -80,7 +80,7 @@ fn combined<D: Domain>(
     }
 }
 
-/// A move: in class ALU64 of any value, in class ALU of the low half of a number.
+/// A move: in class ALU64 of any value that is set, in class ALU of the low 32 bits of a number.
 fn moved<D: Domain>(width: Width, b: AbsVal<D>) -> Result<AbsVal<D>, RefusalNumber>
     ensures { result ≡ moved_in ⟦<D as Domain>⟧ width b }
 {
@@ -94,11 +94,14 @@ fn moved<D: Domain>(width: Width, b: AbsVal<D>) -> Result<AbsVal<D>, RefusalNumb
 }
 
 impl<D: Domain> AbsVal<D> {
-    /// The operation on this value and the operand. A move alone doesn't read this value. It is refused
-    /// with `UnsetRegister` where a value that is read may be unset; with `PointerUsed` where a pointer is
-    /// read, but by a 64-bit move, a 64-bit sum of a pointer and a number, and a 64-bit difference of a
-    /// pointer and a number; and with `BadPointerSum` where a pointer into the stack would be moved by a
-    /// number that isn't known.
+    /// The result of the operation on this value, the destination's, and the operand. Every operation but a
+    /// move reads both values; a move reads the operand alone. It is refused
+    ///
+    /// - with `UnsetRegister` where a value that is read may be unset,
+    /// - with `PointerUsed` where a pointer is read, except by a 64-bit move, a 64-bit sum of a pointer and
+    ///   a number, and a 64-bit difference, a pointer minus a number,
+    /// - with `BadPointerSum` where the number that is added to a pointer into the stack, or subtracted
+    ///   from it, isn't a known constant.
     pub fn arithmetic(
         self,
         operation: Operation,
@@ -113,7 +116,7 @@ impl<D: Domain> AbsVal<D> {
         }
     }
 
-    /// 0 less this number; refused as `number`.
+    /// 0 minus this number. It is refused as `number` is.
     pub fn negated(self, width: Width) -> Result<Self, RefusalNumber>
         ensures { result ≡ negated_in ⟦<D as Domain>⟧ width self }
     {
@@ -121,7 +124,7 @@ impl<D: Domain> AbsVal<D> {
         Ok(AbsVal::Number(negation(width, number)))
     }
 
-    /// The low bytes of this number, sign-extended to the width; refused as `number`.
+    /// The low bytes of this number, sign-extended to the width. It is refused as `number` is.
     pub fn moved_signed(self, width: Width, size: Size) -> Result<Self, RefusalNumber>
         ensures { result ≡ extended_in ⟦<D as Domain>⟧ width size self }
     {
@@ -129,7 +132,7 @@ impl<D: Domain> AbsVal<D> {
         Ok(AbsVal::Number(moved_signed(width, size, number)))
     }
 
-    /// The low bytes of this number in another order; refused as `number`.
+    /// The low bytes of this number in another byte order. It is refused as `number` is.
     pub fn converted(self, order: ByteOrder, size: Size) -> Result<Self, RefusalNumber>
         ensures { result ≡ reordered_in ⟦<D as Domain>⟧ order size self }
     {

@@ -1,16 +1,16 @@
-//! What conditional jumps tell of the registers (RFC 9669, section 4.3).
+//! Refinement of the registers by conditional jumps (RFC 9669, section 4.3).
 ghost use Rattle.std.specs.Prelude.{◌≡◌};
 ghost use Rattle.abs_regs.specs.Transfers.{compared_in, learnt_in, branched_in};
 
 use crate::operands::numbers;
 use crate::registers::RegFile;
 use crate::value::AbsVal;
-use abs_arithmetic::refined;
 use abs_domain::Domain;
+use abs_domain::branches::refined;
 use bpf_profile::{Comparison, Operand, Register, Width};
 use refusals::RefusalNumber;
 
-/// What is known of the number that is compared with.
+/// The abstract value of the right operand. Of an immediate a comparison of 32 bits reads the low half.
 fn compared<D: Domain>(registers: &RegFile<D>, width: Width, right: &Operand) -> AbsVal<D>
     ensures { result ≡ compared_in ⟦<D as Domain>⟧ width registers.now right.now }
 {
@@ -24,9 +24,9 @@ fn compared<D: Domain>(registers: &RegFile<D>, width: Width, right: &Operand) ->
 }
 
 impl<D: Domain> RegFile<D> {
-    /// What is left of the registers where a comparison of a width holds, or where it doesn't. It is
-    /// refused with `UnsetRegister` where either side may be unset, else with `PointerUsed` where either is
-    /// a pointer.
+    /// The registers, refined by the fact that a comparison holds (`holds`), or doesn't. It is refused with
+    /// `UnsetRegister` where either operand may be unset, else with `PointerUsed` where either is a
+    /// pointer.
     pub fn branched(
         &self,
         comparison: Comparison,

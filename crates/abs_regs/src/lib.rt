@@ -1,5 +1,5 @@
-//! What an analysis knows of the eleven registers, over any domain: values, what the instructions make of
-//! them, and what conditional jumps tell of them.
+//! The abstract state of the eleven registers, over any domain: abstract values, the effect of arithmetic
+//! instructions on them, and their refinement by conditional jumps.
 #![tactic(auto)]
 
 mod address;

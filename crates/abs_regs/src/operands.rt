@@ -1,4 +1,4 @@
-//! Values that an instruction reads.
+//! The abstract values of an instruction's operands.
 ghost use Rattle.std.specs.Prelude.{◌≡◌};
 ghost use Rattle.abs_regs.specs.Transfers.{set_in, number_in, numbers_in, operand_in};
 
@@ -9,7 +9,7 @@ use bpf_profile::Operand;
 use refusals::RefusalNumber;
 
 impl<D: Domain> AbsVal<D> {
-    /// The value, where it is set; else `UnsetRegister`.
+    /// The value. It is refused with `UnsetRegister` where it may be unset.
     pub fn set(self) -> Result<Self, RefusalNumber>
         ensures { result ≡ set_in self }
     {
@@ -19,8 +19,8 @@ impl<D: Domain> AbsVal<D> {
         }
     }
 
-    /// The number. It is refused with `UnsetRegister` where it may be unset, and with `PointerUsed` where
-    /// it is a pointer.
+    /// The number. It is refused with `UnsetRegister` where the value may be unset, and with `PointerUsed`
+    /// where it is a pointer.
     pub fn number(self) -> Result<D, RefusalNumber>
         ensures { result ≡ number_in self }
     {
@@ -32,7 +32,8 @@ impl<D: Domain> AbsVal<D> {
     }
 }
 
-/// Both numbers: `UnsetRegister` where either may be unset, else `PointerUsed` where either is a pointer.
+/// Both numbers. They are refused with `UnsetRegister` where either value may be unset, else with
+/// `PointerUsed` where either is a pointer.
 pub(crate) fn numbers<D: Domain>(a: AbsVal<D>, b: AbsVal<D>) -> Result<(D, D), RefusalNumber>
     ensures { result ≡ numbers_in a b }
 {
@@ -44,7 +45,7 @@ pub(crate) fn numbers<D: Domain>(a: AbsVal<D>, b: AbsVal<D>) -> Result<(D, D), R
 }
 
 impl<D: Domain> RegFile<D> {
-    /// What is known of an operand.
+    /// The abstract value of the second operand, a register or an immediate.
     pub fn operand(&self, operand: Operand) -> AbsVal<D>
         ensures { result ≡ operand_in ⟦<D as Domain>⟧ self.now operand }
     {

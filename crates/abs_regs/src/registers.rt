@@ -1,4 +1,4 @@
-//! What an analysis knows of the registers at a slot.
+//! The abstract state of the registers before an instruction.
 ghost use Rattle.std.specs.Prelude.{◌≡◌, slice_index_or, slice_set};
 ghost use Rattle.abs_regs.specs.Values.{entry_values, joined_values, value_in};
 
@@ -8,7 +8,7 @@ use bpf_profile::Register;
 use std::alloc::AllocError;
 use std::marker::Model;
 
-/// What is known of R0 to R10. Contracts see the list.
+/// The abstract values of R0 to R10. Contracts see the list of them.
 #[derive(Copy, Debug)]
 pub struct RegFile<D> {
     values: [AbsVal<D>; 11],
@@ -17,7 +17,7 @@ pub struct RegFile<D> {
 impl<D: Copy> Clone for RegFile<D> {
     ghost use Rattle.std.specs.Prelude.{◌≡◌, ⊤};
 
-    /// A copy is the same, and takes no memory.
+    /// A clone equals its original, and takes no memory.
     ghost is_clone = { λ registers copy. copy ≡ registers };
 
     ghost is_infallible = { λ _. ⊤ };
@@ -39,8 +39,8 @@ impl<D> Model for RegFile<D> {
 }
 
 impl<D: Domain> RegFile<D> {
-    /// Before the first instruction: R1 is the context, R10 the end of the stack, and nothing is known of
-    /// the others.
+    /// The state before the first instruction: R1 points to the start of the context, R10 to the end of the
+    /// stack, and nothing is known of the others.
     pub fn entry() -> Self
         ensures { result ≡ entry_values ⟦<D as Domain>⟧ }
     {
@@ -50,14 +50,14 @@ impl<D: Domain> RegFile<D> {
         RegFile { values }
     }
 
-    /// What is known of a register.
+    /// The abstract value of a register.
     pub fn get(&self, register: Register) -> AbsVal<D>
         ensures { result ≡ value_in self.now register }
     {
         self.values[register.index()]
     }
 
-    /// The same, but for one register.
+    /// This state, with the value of one register replaced.
     pub fn with(mut self, register: Register, value: AbsVal<D>) -> Self
         ensures { result ≡ slice_set self register value }
     {
@@ -65,7 +65,7 @@ impl<D: Domain> RegFile<D> {
         self
     }
 
-    /// Register by register, what is known where either of two paths was taken.
+    /// The join, register by register: what is known where two paths meet.
     pub fn join(self, other: Self) -> Self
         ensures { result ≡ joined_values ⟦<D as Domain>⟧ self other }
     {
@@ -75,7 +75,7 @@ impl<D: Domain> RegFile<D> {
     }
 }
 
-/// Value by value, what is known where either of two paths was taken.
+/// The join of two arrays, value by value.
 fn joined_arrays<D: Domain>(one: [AbsVal<D>; 11], other: [AbsVal<D>; 11]) -> [AbsVal<D>; 11]
     ensures { result ≡ joined_values ⟦<D as Domain>⟧ one other }
 {

@@ -1,24 +1,25 @@
-//! What an analysis knows of a value of the machine.
+//! Abstract values of registers.
 ghost use Rattle.std.specs.Prelude.{◌≡◌};
 ghost use Rattle.abs_regs.specs.Values.{joined_value};
 
 use abs_domain::Domain;
 
-/// What is known of a value. The numbers of a domain stand for words below 2^64.
+/// An abstract value: what is known of a register's value on all paths. `D` is the domain of numbers.
 #[derive(Clone, Copy, Debug, PartialEq, Eq)]
 pub enum AbsVal<D> {
-    /// It may be unset, or anything.
+    /// Nothing is known: it may be unset, a number or a pointer.
     Unset,
     /// A number that the domain's value contains.
     Number(D),
-    /// The pointer into the stack with this offset in bytes, a word that is read as signed.
+    /// The pointer into the stack at this offset in bytes from the stack's end, a word that is read as
+    /// signed.
     Stack(u64),
-    /// A pointer into the context, with an offset in bytes that the domain's value contains.
+    /// A pointer into the context, at an offset in bytes that the domain's value contains.
     Context(D),
 }
 
 impl<D: Domain> AbsVal<D> {
-    /// What is known where either of two paths was taken.
+    /// The join: what is known where two paths meet.
     pub fn join(self, other: Self) -> Self
         ensures { result ≡ joined_value ⟦<D as Domain>⟧ self other }
     {

@@ -12,26 +12,26 @@ use stack_track::StackState;
 /// The size of the stack in bytes.
 const STACK: u64 = 512;
 
-/// Where the body's front begins in the context.
+/// The offset of the body's front in the context, in bytes.
 const FRONT: u64 = 64;
 
 /// How many facts there are.
 const FACTS: u64 = 16;
 
-/// So many bytes of the stack, with as many before them.
+/// A byte range of the stack: the index of its first byte, from 0 at the lowest offset on, and its length.
 #[derive(Clone, Copy, Debug)]
 pub struct Stretch {
     pub place: u64,
     pub count: u64,
 }
 
-/// What is known of a helper's answer, and the bytes of the stack that it writes.
+/// The abstract answer of a helper function, and the byte range of the stack that it writes.
 pub struct Answered<D> {
     pub answer: D,
     pub written: Option<Stretch>,
 }
 
-/// An argument that is a number.
+/// An argument that has to be a number.
 fn number_argument<D: Domain>(value: AbsVal<D>) -> Result<D, RefusalNumber>
     ensures { result ≡ argument_in value }
 {
@@ -42,7 +42,7 @@ fn number_argument<D: Domain>(value: AbsVal<D>) -> Result<D, RefusalNumber>
     }
 }
 
-/// An argument that points into the stack.
+/// An argument that has to be a pointer into the stack. The answer is its offset.
 fn stack_argument<D: Domain>(value: AbsVal<D>) -> Result<u64, RefusalNumber>
     ensures { result ≡ pointer_argument value }
 {
@@ -53,7 +53,7 @@ fn stack_argument<D: Domain>(value: AbsVal<D>) -> Result<u64, RefusalNumber>
     }
 }
 
-/// How many bytes, a number that is known, from 1 to 32.
+/// A length in bytes, which has to be a known constant from 1 to 32.
 fn known_count<D: Domain>(number: D) -> Result<u64, RefusalNumber>
     ensures count { result ≡ count_in ⟦<D as Domain>⟧ number }
     ensures few { IfOk result (λ count. count ≤ 32) }
@@ -66,7 +66,7 @@ fn known_count<D: Domain>(number: D) -> Result<u64, RefusalNumber>
     }
 }
 
-/// So many bytes from an offset on, which have to lie in the stack.
+/// The byte range of a length from an offset on, which has to lie in the stack.
 fn stretch_at(offset: u64, count: u64) -> Result<Stretch, RefusalNumber>
     requires { count ≤ 32 }
     ensures stretch { result ≡ placed_in offset count }
@@ -80,7 +80,7 @@ fn stretch_at(offset: u64, count: u64) -> Result<Stretch, RefusalNumber>
     }
 }
 
-/// The bytes that R1 and R2 say.
+/// The byte range that the arguments give: R1 points to it, and R2 is its length.
 fn bytes_argument<D: Domain>(registers: &RegFile<D>) -> Result<Stretch, RefusalNumber>
     ensures stretch { result ≡ stretch_in ⟦<D as Domain>⟧ registers.now }
     ensures inside { IfOk result (λ bytes. bytes.place + bytes.count ≤ 512) }
@@ -91,7 +91,7 @@ fn bytes_argument<D: Domain>(registers: &RegFile<D>) -> Result<Stretch, RefusalN
     stretch_at(offset, count)
 }
 
-/// Any number of at most so much.
+/// Any number of at most `most`.
 fn up_to<D: Domain>(most: u64) -> D
     ensures { result ≡ up_to ⟦<D as Domain>⟧ most }
 {
@@ -100,7 +100,7 @@ fn up_to<D: Domain>(most: u64) -> D
 }
 
 impl<D: Domain> AbsState<D> {
-    /// Helper 1: the fact of this number.
+    /// Helper 1: the fact with the index R1.
     fn fact(&self) -> Result<Answered<D>, RefusalNumber>
         ensures { result ≡ fact_in ⟦<D as Domain>⟧ self.now }
     {
@@ -115,7 +115,7 @@ impl<D: Domain> AbsState<D> {
         }
     }
 
-    /// Helper 2: the byte of this number of the body's front.
+    /// Helper 2: the byte of the body's front with the index R1.
     fn front_byte(&self, context_size: u64) -> Result<Answered<D>, RefusalNumber>
         ensures { result ≡ front_byte_in ⟦<D as Domain>⟧ context_size self.now }
     {
@@ -130,7 +130,7 @@ impl<D: Domain> AbsState<D> {
         }
     }
 
-    /// Helper 3: the tag's front is written to the stack.
+    /// Helper 3: the front of the tag is copied to the stack.
     fn copy_tag(&self) -> Result<Answered<D>, RefusalNumber>
         ensures answer { result ≡ copy_tag_in ⟦<D as Domain>⟧ self.now }
         ensures inside { IfOk result (λ a. IfSome a.written (λ bytes. bytes.place + bytes.count ≤ 512)) }
@@ -142,7 +142,7 @@ impl<D: Domain> AbsState<D> {
         })
     }
 
-    /// Helper 4: the tag is compared with bytes of the stack, which have to be set.
+    /// Helper 4: the front of the tag is compared with a byte range of the stack, which has to be set.
     fn tag_starts(&self) -> Result<Answered<D>, RefusalNumber>
         ensures { result ≡ tag_starts_in ⟦<D as Domain>⟧ self.now }
     {
@@ -157,7 +157,7 @@ impl<D: Domain> AbsState<D> {
         }
     }
 
-    /// What a helper answers, and the bytes that it writes.
+    /// The answer of the helper function with this number, and the byte range that it writes.
     pub(crate) fn answered(
         &self,
         context_size: u64,
@@ -190,7 +190,7 @@ pub(crate) fn stack_after<D: Domain>(
     }
 }
 
-/// The registers with nothing known of the arguments, R1 to R5.
+/// The registers once R1 to R5, the arguments, are forgotten.
 fn without_arguments<D: Domain>(registers: RegFile<D>) -> RegFile<D>
     ensures { result ≡ without_arguments registers }
 {

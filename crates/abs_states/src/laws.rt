@@ -1,4 +1,5 @@
-//! What the transfers lose: no step of the machine (RFC 9669, sections 4 and 5).
+//! Soundness of the transfer function: where it refuses nothing, the tagged machine doesn't trap, and the
+//! abstract state on the edge that it takes describes it (RFC 9669, sections 4 and 5).
 ghost use Rattle.std.specs.Prelude.{◌≡◌, ◌⊎◌, ℕ, Bool, false, Ok};
 ghost use Rattle.abs_states.specs.declared.state.AbsState.{AbsState};
 ghost use Rattle.abs_states.specs.States.{IsKnown, entry_state, joined_state};
@@ -11,24 +12,25 @@ ghost use Rattle.bpf_profile.specs.Outcomes.{Outcome, IsOutcome};
 use abs_domain::Domain;
 use bpf_profile::Instruction;
 
-/// The machine before its first step is as known.
+/// The entry state describes the machine before its first step.
 pub fn entry_is_known<D: Domain>()
     ensures { IsKnown ⟦<D as Domain>⟧ (entry_state ⟦<D as Domain>⟧) entry }
 {}
 
-/// What is so on either of two paths is so by their join.
+/// The join of two states describes every machine that either of them describes.
 pub fn joins_keep_states<D: Domain>()
     ensures first { (a b : AbsState D) (s : State) → IsKnown ⟦<D as Domain>⟧ a s → IsKnown ⟦<D as Domain>⟧ (joined_state ⟦<D as Domain>⟧ a b) s }
     ensures second { (a b : AbsState D) (s : State) → IsKnown ⟦<D as Domain>⟧ b s → IsKnown ⟦<D as Domain>⟧ (joined_state ⟦<D as Domain>⟧ a b) s }
 {}
 
-/// An instruction that passes on the way to the next slot passes on that to its jump's target.
+/// An instruction that isn't refused on the fall-through edge isn't refused on its jump edge either.
 pub fn ways_pass_alike<D: Domain>()
     ensures { (context : ℕ) (a after : AbsState D) (taken : Bool) (i : Instruction) → transfer_in ⟦<D as Domain>⟧ context a false i ≡ Ok after → (b : AbsState D) × (transfer_in ⟦<D as Domain>⟧ context a taken i ≡ Ok b) }
 {}
 
-/// On every outcome's record a step at an instruction that passes doesn't trap: it answers at most 2, or
-/// goes to the next slot or its jump's target, and what is known on that way is so.
+/// On every outcome's record, a step at an instruction that isn't refused doesn't trap: it answers at
+/// most 2, or goes along one of the instruction's edges, and the abstract state on that edge describes
+/// the machine after it.
 pub fn steps_follow<D: Domain>()
     ensures { (context : ℕ) (outcome : Outcome) (s : State) (a after : AbsState D) (i : Instruction) → IsKnown ⟦<D as Domain>⟧ a s → IsOutcome context outcome → HasWords i → transfer_in ⟦<D as Domain>⟧ context a false i ≡ Ok after → Answers (effect_of context outcome s i) ⊎ Goes ⟦<D as Domain>⟧ context s.slot i a (effect_of context outcome s i) }
 {}

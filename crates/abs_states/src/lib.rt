@@ -1,4 +1,5 @@
-//! What an analysis knows before an instruction, over any domain, and what the instruction makes of it.
+//! The abstract state of the machine before an instruction, over any domain, and the transfer function that
+//! says what the instruction makes of it.
 #![tactic(auto)]
 
 mod calls;

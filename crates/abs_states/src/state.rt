@@ -1,4 +1,4 @@
-//! What is known of the machine before an instruction.
+//! The abstract state of the machine before an instruction.
 ghost use Rattle.std.specs.Prelude.{◌≡◌};
 ghost use Rattle.abs_states.specs.States.{entry_state, joined_state};
 
@@ -7,7 +7,7 @@ use abs_regs::RegFile;
 use stack_track::StackState;
 use std::alloc::AllocError;
 
-/// What is known of the registers and of the stack.
+/// An abstract state: what is known of the registers and of the stack on all paths to an instruction.
 #[derive(Copy, Debug)]
 pub struct AbsState<D> {
     pub registers: RegFile<D>,
@@ -17,7 +17,7 @@ pub struct AbsState<D> {
 impl<D: Copy> Clone for AbsState<D> {
     ghost use Rattle.std.specs.Prelude.{◌≡◌, ⊤};
 
-    /// A copy is the same, and takes no memory.
+    /// A clone equals its original, and takes no memory.
     ghost is_clone = { λ state copy. copy ≡ state };
 
     ghost is_infallible = { λ _. ⊤ };
@@ -28,7 +28,7 @@ impl<D: Copy> Clone for AbsState<D> {
 }
 
 impl<D: Domain> AbsState<D> {
-    /// Before the first instruction.
+    /// The state before the first instruction.
     pub fn entry() -> Self
         ensures { result ≡ entry_state ⟦<D as Domain>⟧ }
     {
@@ -38,7 +38,7 @@ impl<D: Domain> AbsState<D> {
         }
     }
 
-    /// What is known where either of two paths was taken.
+    /// The join: what is known where two paths meet.
     pub fn join(self, other: Self) -> Self
         ensures { result ≡ joined_state ⟦<D as Domain>⟧ self other }
     {

@@ -1,4 +1,4 @@
-//! What an instruction makes of what is known before it.
+//! The transfer function: the abstract state after an instruction.
 ghost use Rattle.std.specs.Prelude.{◌≡◌, slice_set};
 ghost use Rattle.abs_states.specs.Transfers.{stores_in, branches_in, calls_in, exits_in, transfer_in};
 
@@ -10,7 +10,7 @@ use bpf_profile::{Comparison, Instruction, Operand, Register, Size, Width};
 use refusals::RefusalNumber;
 
 impl<D: Domain> AbsState<D> {
-    /// The same, but for one register.
+    /// This state, with the value of one register replaced.
     fn with(&self, register: Register, value: AbsVal<D>) -> Self
         ensures { result ≡ record { registers = slice_set self.now.registers register value; stack = self.now.stack } }
     {
@@ -20,7 +20,7 @@ impl<D: Domain> AbsState<D> {
         }
     }
 
-    /// A store of an operand's low bytes.
+    /// The state after a store of an operand's low bytes.
     fn storing(
         &self,
         size: Size,
@@ -40,7 +40,8 @@ impl<D: Domain> AbsState<D> {
         })
     }
 
-    /// A conditional jump, whose comparison holds where it is taken.
+    /// The state on one outgoing edge of a conditional jump: the jump edge, on which its comparison
+    /// holds, if `taken`, else fall-through.
     fn branching(
         &self,
         taken: bool,
@@ -60,7 +61,7 @@ impl<D: Domain> AbsState<D> {
         })
     }
 
-    /// A call of a helper function.
+    /// The state after a call of a helper function.
     fn calling(&self, context_size: u64, helper: u32) -> Result<Self, RefusalNumber>
         ensures { result ≡ calls_in ⟦<D as Domain>⟧ context_size self.now helper }
     {
@@ -71,7 +72,8 @@ impl<D: Domain> AbsState<D> {
         })
     }
 
-    /// The end of the program.
+    /// The end of the program. It is refused where R0 is no number, and with `AnswerRange` where it may
+    /// be over 2.
     fn exiting(&self) -> Result<Self, RefusalNumber>
         ensures { result ≡ exits_in ⟦<D as Domain>⟧ self.now }
     {
@@ -82,10 +84,11 @@ impl<D: Domain> AbsState<D> {
         Ok(*self)
     }
 
-    /// What is known after an instruction, on the way to its jump's target where it is taken, else to the
-    /// next slot, where the context has so many bytes; or the first of its faults, the same on both ways:
-    /// `UnsetRegister`, `PointerUsed`, `BadPointerSum`, `NotPointer`, `ContextWrite`, `Misaligned`,
-    /// `OutOfBounds`, `UnsetStack`, `HelperUnknown`, `HelperArgument` or `AnswerRange`.
+    /// The abstract state on one outgoing edge of an instruction: the jump edge if `taken`, else
+    /// fall-through. The context has `context_size` bytes. An error is the first fault of the instruction,
+    /// the same on both edges: `UnsetRegister`, `PointerUsed`, `BadPointerSum`, `NotPointer`,
+    /// `ContextWrite`, `Misaligned`, `OutOfBounds`, `UnsetStack`, `HelperUnknown`, `HelperArgument` or
+    /// `AnswerRange`.
     #[tactic(auto, unfolding(crate::specs::Transfers::transfer_in))]
     pub fn transfer(
         &self,

@@ -1,17 +1,17 @@
 -- Every refusal that the machine replies with has an HTTP status.
 use Rattle.std.proofs.Common.{◌≡◌, ℕ, ◌+◌, nat_le, true, false, cond, length, Some, None, refl}
 use Rattle.refusals.specs.declared.RefusalNumber.TheVariants as refusal
-use Rattle.bpf_run.specs.JudgedWork.{Work}
-use Rattle.verifier.specs.Programs.{VerifiedProgram}
-use Rattle.book.specs.declared.replies.Reply.TheVariants as reply
-use Rattle.book.specs.Events.{Happening, acquires, finishes, releases, installs, moves, resets}
-use Rattle.book.specs.Machine.{Situation, decision, decided, is_full, at_moment, acquired, placed, permission_in, refused, finished, finished_under, finished_by, concluded, same_program, is_issued, open_ticket, program_from, released, released_under, installed, current_version}
-use Rattle.book.specs.Verdicts.{judgement}
+use Rattle.bpf_profile.specs.JudgedWork.{JudgedData}
+use Rattle.bpf_profile.specs.Programs.{VerifiedProgram}
+use Rattle.service_profile.specs.declared.replies.Reply.TheVariants as reply
+use Rattle.service_profile.specs.Events.{EventData, acquires, finishes, releases, installs, moves, resets}
+use Rattle.service_profile.specs.Machine.{Situation, decision, decided, is_full, at_moment, acquired, placed, permission_in, permissions_held, refused, finished, finished_under, finished_by, concluded, same_program, is_issued, open_ticket, program_from, released, released_under, installed, current_version}
+use Rattle.service_profile.specs.Verdicts.{judgement}
 use Rattle.answers.specs.Answered.{has_status}
 
 acquired_has : (s : Situation) (moment : ℕ) → has_status (acquired s moment).reply ≡ true
 acquired_has s moment =
-    let p = permission_in s.standing.state s.config s.standing s.notes s.open_tickets moment in
+    let p = permission_in s.standing.state s.config s.standing (length s.notes) (permissions_held s.standing.period s.open_tickets) moment in
     elim p.given as (λ b. has_status (cond b (placed s p.standing) (refused p.standing refusal.CallNotPermitted)).reply ≡ true) [
       | true ↦ elim (nat_le s.config.max_concurrent_calls (length s.open_tickets))
           as (λ b. has_status (cond b (refused p.standing refusal.BulkheadFull) (record { reply = reply.Permitted s.next_ticket (current_version s) p.standing.state; next = p.standing })).reply ≡ true)
@@ -19,7 +19,7 @@ acquired_has s moment =
       | false ↦ refl
     ]
 
-finished_has : (s : Situation) (moment : ℕ) (work : Work) (ticket : ℕ) → has_status (finished s moment work ticket).reply ≡ true
+finished_has : (s : Situation) (moment : ℕ) (work : JudgedData) (ticket : ℕ) → has_status (finished s moment work ticket).reply ≡ true
 finished_has s moment work ticket =
     elim (is_issued s ticket) as (λ b. has_status (cond b (finished_under s moment work (open_ticket s.open_tickets ticket)) (refused s.standing refusal.NoTicket)).reply ≡ true) [
       | true ↦ elim (open_ticket s.open_tickets ticket) as (λ t. has_status (finished_under s moment work t).reply ≡ true) [
@@ -47,7 +47,7 @@ installed_has s program =
     as (λ b. has_status (cond b (refused s.standing refusal.VersionsFull) (record { reply = reply.Installed (s.first_version + length s.programs) program.budget; next = s.standing })).reply ≡ true)
     [ true ↦ refl | false ↦ refl ]
 
-decided_has : (s : Situation) (moment : ℕ) (event : Happening) → has_status (decided s moment event).reply ≡ true
+decided_has : (s : Situation) (moment : ℕ) (event : EventData) → has_status (decided s moment event).reply ≡ true
 decided_has s moment acquires = acquired_has s moment
 decided_has s moment (finishes work ticket) = finished_has s moment work ticket
 decided_has s moment (releases ticket) = released_has s ticket
@@ -55,7 +55,7 @@ decided_has s moment (installs program) = installed_has s program
 decided_has s moment (moves state) = refl
 decided_has s moment resets = refl
 
-pub decision_has : (s : Situation) (moment : ℕ) (event : Happening) → has_status (decision s moment event).reply ≡ true
+pub decision_has : (s : Situation) (moment : ℕ) (event : EventData) → has_status (decision s moment event).reply ≡ true
 unfolding decision
 decision_has s moment event =
     elim (is_full s event) as (λ b. has_status (cond b (refused s.standing refusal.JournalFull) (decided (at_moment s moment) moment event)).reply ≡ true)

@@ -7,13 +7,13 @@ use Rattle.bpf_profile.specs.declared.machine.Verdict.TheVariants as verdict
 use Rattle.refusals.specs.declared.RefusalNumber.{RefusalNumber}
 use Rattle.refusals.specs.Table.{number_of, name_of, status_of}
 use Rattle.verifier.specs.declared.refusal.Refusal.{Refusal}
-use Rattle.book.specs.declared.readings.Reading.{Reading}
-use Rattle.book.specs.declared.replies.Fate.{Fate}
-use Rattle.book.specs.declared.replies.Fate.TheVariants as fate
-use Rattle.book.specs.declared.replies.Reply.{Reply}
-use Rattle.book.specs.declared.replies.Reply.TheVariants as reply
-use Rattle.book.specs.declared.states.State.{State}
-use Rattle.book.specs.declared.states.State.TheVariants as state
+use Rattle.service_profile.specs.declared.readings.Reading.{Reading}
+use Rattle.service_profile.specs.declared.replies.Fate.{Fate}
+use Rattle.service_profile.specs.declared.replies.Fate.TheVariants as fate
+use Rattle.service_profile.specs.declared.replies.Reply.{Reply}
+use Rattle.service_profile.specs.declared.replies.Reply.TheVariants as reply
+use Rattle.service_profile.specs.declared.states.State.{State}
+use Rattle.service_profile.specs.declared.states.State.TheVariants as state
 use Rattle.answers.specs.declared.answer.Answer.{Answer}
 use Rattle.answers.specs.declared.answer.Answer.TheVariants as answer
 

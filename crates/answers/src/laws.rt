@@ -2,12 +2,12 @@
 ghost use Rattle.std.specs.Prelude.{◌≡◌, ℕ, None, true, codes};
 ghost use Rattle.bpf_profile.specs.declared.machine.Verdict.TheVariants as verdict;
 ghost use Rattle.refusals.specs.declared.RefusalNumber.TheVariants as refusal;
-ghost use Rattle.book.specs.declared.replies.Fate.TheVariants as fate;
-ghost use Rattle.book.specs.declared.replies.Reply.TheVariants as reply;
-ghost use Rattle.book.specs.declared.states.State.TheVariants as state;
+ghost use Rattle.service_profile.specs.declared.replies.Fate.TheVariants as fate;
+ghost use Rattle.service_profile.specs.declared.replies.Reply.TheVariants as reply;
+ghost use Rattle.service_profile.specs.declared.states.State.TheVariants as state;
 ghost use Rattle.answers.specs.declared.answer.Answer.TheVariants as answer;
-ghost use Rattle.book.specs.Events.{Happening};
-ghost use Rattle.book.specs.Machine.{Situation, decision};
+ghost use Rattle.service_profile.specs.Events.{EventData};
+ghost use Rattle.service_profile.specs.Machine.{Situation, decision};
 ghost use Rattle.answers.specs.Answered.{has_status};
 ghost use Rattle.answers.specs.Texts.{body};
 
@@ -34,5 +34,5 @@ pub fn reading_is_written_so()
 /// Whatever the documented machine replies, HTTP has a status for it.
 #[tactic(auto, using(crate::proofs::Statuses::decision_has))]
 pub fn replies_have_statuses()
-    ensures { (situation : Situation) (moment : ℕ) (event : Happening) → has_status (decision situation moment event).reply ≡ true }
+    ensures { (situation : Situation) (moment : ℕ) (event : EventData) → has_status (decision situation moment event).reply ≡ true }
 {}

@@ -12,3 +12,4 @@ mod values;
 
 pub use answer::Answer;
 pub use entries::entry_text;
+pub use names::verdict_name;

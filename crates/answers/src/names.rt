@@ -31,8 +31,8 @@ pub(crate) fn fate_name(fate: Fate) -> &'static str
     }
 }
 
-/// The word for a verdict.
-pub(crate) fn verdict_name(verdict: Verdict) -> &'static str
+/// The word for a verdict: `success`, `failure` or `ignored`.
+pub fn verdict_name(verdict: Verdict) -> &'static str
     ensures { result.now ≡ verdict_name verdict }
 {
     match verdict {

@@ -7,19 +7,22 @@ use Rattle.std.proofs.Math.Nat.{le-max_right, max-le}
 use Rattle.std.proofs.lemmas.List.Sums.{fold-append}
 use Rattle.book.specs.declared.books.Start.{Start}
 use Rattle.book.specs.declared.breaker.Breaker.{Breaker}
-use Rattle.book.specs.declared.breaker.Standing.{Standing}
-use Rattle.book.specs.declared.configuration.ConfigParts.{ConfigParts}
+use Rattle.service_profile.specs.declared.standings.Standing.{Standing}
+use Rattle.service_profile.specs.declared.configuration.ConfigParts.{ConfigParts}
 use Rattle.book.specs.declared.events.Event.{Event}
-use Rattle.book.specs.declared.machine.Decision.{Decision}
+use Rattle.service_profile.specs.declared.decisions.Decision.{Decision}
 use Rattle.book.specs.declared.registry.Registry.{Registry}
-use Rattle.book.specs.Answers.{answer, line_of, with_line, IsApplied, as_documented}
-use Rattle.book.specs.Books.{opening_of, history_of, IsBook}
-use Rattle.book.specs.Events.{Line, Opening}
-use Rattle.book.specs.Following.{notes_after, tickets_after, one_where_some, is_refused_call, refused_after}
-use Rattle.book.specs.Histories.{Stage, Past, note_by, note_at, taken_in, notes_of, end_by, issue_by, install_by, situation_of, situation_after, machine, opened, passed, past_of, greatest, raised, next_line, refused_of, Follows, AreLegal, IsLegal}
-use Rattle.book.specs.Machine.{Situation, decision, is_entered}
+use Rattle.service_profile.specs.Answers.{answer, line_of, with_line, IsApplied, as_documented}
+use Rattle.service_profile.specs.Events.{EventData, history_of, EntryData, Opening}
+use Rattle.book.specs.Books.{opening_of, IsBook}
+use Rattle.service_profile.specs.Machine.{is_refused_call, Situation, decision, is_entered}
+use Rattle.book.specs.Following.{notes_after, tickets_after, one_where_some, refused_after, situation_after}
+use Rattle.service_profile.specs.Histories.{Stage, Past, note_by, note_at, taken_in, notes_of, end_by, issue_by, install_by, situation_of, machine, opened, passed, past_of, greatest, raised, next_line, refused_of, Follows, AreLegal, IsLegal}
 use Rattle.book.specs.Safe.{IsSafeEvent, IsSafeLine}
-use Rattle.book.specs.Seen.{seen, line}
+use Rattle.service_profile.specs.Events.{line}
+use Rattle.book.specs.declared.machine.Plan.{Plan}
+use Rattle.book.specs.Effects.{effects_of, planned}
+use Rattle.book.specs.Seen.{seen}
 use Rattle.book.specs.Situations.{situation, IsRoomy}
 use Rattle.book.specs.Sound.{IsSound}
 use Rattle.book.proofs.Deciding.{decision_near}
@@ -29,28 +32,28 @@ use Rattle.book.proofs.Passing.{refused_step, greatest_step}
 
 -- ---- lines and stages
 
-stages_of : (past : Past) (lines : List Line) → length (fold passed past lines).stages ≡ length past.stages + length lines
+stages_of : (past : Past) (lines : List EntryData) → length (fold passed past lines).stages ≡ length past.stages + length lines
 stages_of past [] = omega arith
 stages_of past (l ∷ lines) = let rest = stages_of (passed past l) lines in let here : length (passed past l).stages ≡ length past.stages + 1 = length-append past.stages (record { line = l; before = past.standing; after = (machine past l.moment l.event).next } ∷ []) in omega (arith, rest, here)
 
-opening_kept : (past : Past) (lines : List Line) → (fold passed past lines).opening ≡ past.opening
+opening_kept : (past : Past) (lines : List EntryData) → (fold passed past lines).opening ≡ past.opening
 opening_kept past [] = refl
 opening_kept past (l ∷ lines) = opening_kept (passed past l) lines
 
-pub stage_count : (opening : Opening) (lines : List Line) → length (past_of (history_of opening lines)).stages ≡ length lines
+pub stage_count : (opening : Opening) (lines : List EntryData) → length (past_of (history_of opening lines)).stages ≡ length lines
 stage_count opening lines = let all = stages_of (opened opening) lines in omega (arith, all)
 
-pub same_opening : (opening : Opening) (lines : List Line) → (past_of (history_of opening lines)).opening ≡ opening
+pub same_opening : (opening : Opening) (lines : List EntryData) → (past_of (history_of opening lines)).opening ≡ opening
 same_opening opening lines = opening_kept (opened opening) lines
 
-pub past_with : (opening : Opening) (lines : List Line) (l : Line) → past_of (history_of opening (lines ++ l ∷ [])) ≡ passed (past_of (history_of opening lines)) l
+pub past_with : (opening : Opening) (lines : List EntryData) (l : EntryData) → past_of (history_of opening (lines ++ l ∷ [])) ≡ passed (past_of (history_of opening lines)) l
 past_with opening lines l = fold-append passed (opened opening) lines (l ∷ [])
 
-legal_with : (past : Past) (lines : List Line) (l : Line) → AreLegal past lines → Follows (fold passed past lines) l → AreLegal past (lines ++ l ∷ [])
+legal_with : (past : Past) (lines : List EntryData) (l : EntryData) → AreLegal past lines → Follows (fold passed past lines) l → AreLegal past (lines ++ l ∷ [])
 legal_with past [] l legal follows = (follows, tt)
 legal_with past (m ∷ lines) l legal follows = (legal.0, legal_with (passed past m) lines l legal.1 follows)
 
-pub legal_step : (opening : Opening) (lines : List Line) (l : Line) → IsLegal (history_of opening lines) → Follows (past_of (history_of opening lines)) l → IsLegal (history_of opening (lines ++ l ∷ []))
+pub legal_step : (opening : Opening) (lines : List EntryData) (l : EntryData) → IsLegal (history_of opening lines) → Follows (past_of (history_of opening lines)) l → IsLegal (history_of opening (lines ++ l ∷ []))
 unfolding IsLegal
 legal_step opening lines l legal follows = legal_with (opened opening) lines l legal follows
 
@@ -64,7 +67,7 @@ fewer_mapped f (x ∷ xs) = fewer_head (f x) (filter_map f xs) (length xs) (fewe
 
 -- ---- room
 
-pub roomy : (config : ConfigParts) (start : Start) (breaker : Breaker) (registry : Registry) (held refused moment : ℕ) (lines : List Line)
+pub roomy : (config : ConfigParts) (start : Start) (breaker : Breaker) (registry : Registry) (held refused moment : ℕ) (lines : List EntryData)
     → IsBook (opening_of config start) (situation config breaker registry held) refused moment lines → IsRoomy breaker registry
 roomy config start breaker registry held refused moment lines book =
     let past : Past = past_of (history_of (opening_of config start) lines) in
@@ -98,10 +101,18 @@ pub situation_by : (config : ConfigParts) (breaker after : Breaker) (registry la
 situation_by config breaker after registry later held more number seat moment e d standing notes first programs tickets next count =
     cc
 
+-- ---- what is planned
+
+pub decided_so : (config : ConfigParts) (moment : ℕ) (event : EventData) (d : Decision) (plan : Plan) → plan ≡ planned config moment event d → plan.decision ≡ d
+decided_so config moment event d plan e = ap (λ (p : Plan). p.decision) e
+
+pub effects_so : (config : ConfigParts) (moment : ℕ) (event : EventData) (d : Decision) (plan : Plan) → plan ≡ planned config moment event d → plan.effects ≡ effects_of config moment event plan.decision
+effects_so config moment event d plan e = ap (λ (p : Plan). p.effects) e ∙ ap (effects_of config moment event) (sym (decided_so config moment event d plan e))
+
 -- ---- the book after a line
 
 -- the line that the code writes is the one that follows
-pub follows_there : (opening : Opening) (s : Situation) (refused moment : ℕ) (lines : List Line) (number seat raw now : ℕ) (e : Event) (d : Decision)
+pub follows_there : (opening : Opening) (s : Situation) (refused moment : ℕ) (lines : List EntryData) (number seat raw now : ℕ) (e : Event) (d : Decision)
     → IsBook opening s refused moment lines → number ≡ opening.line + length lines → now ≡ max raw moment → d ≡ decision s now (seen e) → is_entered d.reply ≡ true
     → Follows (past_of (history_of opening lines)) (line number seat (seen e) now d.reply)
 follows_there opening s refused moment lines number seat raw now e d book numbered raised_ decided entered =
@@ -113,13 +124,13 @@ follows_there opening s refused moment lines number seat raw now e d book number
       entered = entered;
     }
 
-pub book_step : (opening : Opening) (s t : Situation) (refused moment later : ℕ) (lines : List Line) (number seat raw now : ℕ) (e : Event) (d : Decision)
+pub book_step : (opening : Opening) (s t : Situation) (refused moment later : ℕ) (lines : List EntryData) (number seat raw now : ℕ) (e : Event) (d : Decision)
     → IsBook opening s refused moment lines → number ≡ opening.line + length lines → now ≡ max raw moment → d ≡ decision s now (seen e) → is_entered d.reply ≡ true → now < 2 ^ 64 → seat < 2 ^ 32
-    → IsSafeEvent (seen e) → t ≡ situation_after s (line number seat (seen e) now d.reply) d.next → later ≡ refused_after s.standing d.next refused d.reply
+    → IsSafeEvent (seen e) → t ≡ situation_after s (line number seat (seen e) now d.reply) d.next → later ≡ refused_after s.standing d.next refused (is_refused_call d.reply)
     → IsBook opening t later now (lines ++ line number seat (seen e) now d.reply ∷ [])
 book_step opening s t refused moment later lines number seat raw now e d book numbered raised_ decided entered word bits safe_ situated_ refused_ =
     let past : Past = past_of (history_of opening lines) in
-    let l : Line = line number seat (seen e) now d.reply in
+    let l : EntryData = line number seat (seen e) now d.reply in
     let follows = follows_there opening s refused moment lines number seat raw now e d book numbered raised_ decided entered in
     let same : d ≡ machine past now (seen e) = decided ∙ ap (λ (u : Situation). decision u now (seen e)) book.situated in
     let next : d.next ≡ (machine past now (seen e)).next = ap (λ (x : Decision). x.next) same in
@@ -130,12 +141,12 @@ book_step opening s t refused moment later lines number seat raw now e d book nu
       legal = legal_step opening lines l book.legal follows;
       sound = subst (λ (p : Past). IsSound p) (sym with_) (sound_step past l book.sound follows (record { word = word; seat = bits; event = safe_ }));
       situated = situated_ ∙ ap (λ (u : Situation). situation_after u l d.next) book.situated ∙ ap (λ (n : Standing). situation_after (situation_of past) l n) next ∙ sym (situated_step past l book.sound follows) ∙ ap situation_of (sym with_);
-      refused_calls = refused_ ∙ ap (λ (u : Situation). refused_after u.standing d.next refused d.reply) book.situated ∙ ap (λ (n : Standing). refused_after past.standing n refused d.reply) next ∙ ap (λ (n : ℕ). refused_after past.standing (machine past now (seen e)).next n d.reply) book.refused_calls ∙ sym (refused_step past.stages stage book.sound.periods near.least) ∙ ap refused_of (sym with_);
+      refused_calls = refused_ ∙ ap (λ (u : Situation). refused_after u.standing d.next refused (is_refused_call d.reply)) book.situated ∙ ap (λ (n : Standing). refused_after past.standing n refused (is_refused_call d.reply)) next ∙ ap (λ (n : ℕ). refused_after past.standing (machine past now (seen e)).next n (is_refused_call d.reply)) book.refused_calls ∙ sym (refused_step past.stages stage book.sound.periods near.least) ∙ ap refused_of (sym with_);
       greatest_moment = sym (greatest_step past.opening.moment past.stages stage follows.raises) ∙ ap greatest (sym with_);
     }
 
 -- the history stays sound with the line that follows
-pub sound_there : (opening : Opening) (s : Situation) (refused moment : ℕ) (lines : List Line) (l : Line) → IsBook opening s refused moment lines → Follows (past_of (history_of opening lines)) l → IsSafeLine l
+pub sound_there : (opening : Opening) (s : Situation) (refused moment : ℕ) (lines : List EntryData) (l : EntryData) → IsBook opening s refused moment lines → Follows (past_of (history_of opening lines)) l → IsSafeLine l
     → IsSound (past_of (history_of opening (lines ++ l ∷ [])))
 sound_there opening s refused moment lines l book follows safe_ =
     subst (λ (p : Past). IsSound p) (sym (past_with opening lines l)) (sound_step (past_of (history_of opening lines)) l book.sound follows safe_)
@@ -145,7 +156,7 @@ chosen_true true x y e = refl
 chosen_true false x y e = let bad : ◌≡◌ {A = Bool} false true = e in cc
 
 -- the history after is the documented one
-pub applied_there : (opening : Opening) (s : Situation) (refused moment : ℕ) (lines : List Line) (number seat raw now : ℕ) (e : Event) (d : Decision)
+pub applied_there : (opening : Opening) (s : Situation) (refused moment : ℕ) (lines : List EntryData) (number seat raw now : ℕ) (e : Event) (d : Decision)
     → IsBook opening s refused moment lines → number ≡ opening.line + length lines → now ≡ max raw moment → d ≡ decision s now (seen e) → is_entered d.reply ≡ true
     → IsApplied (history_of opening lines) seat raw (seen e) d.reply (history_of opening (lines ++ line number seat (seen e) now d.reply ∷ []))
 applied_there opening s refused moment lines number seat raw now e d book numbered raised_ decided entered =
@@ -157,25 +168,25 @@ applied_there opening s refused moment lines number seat raw now e d book number
     let written : line number seat (seen e) now d.reply ≡ line_of (history_of opening lines) seat raw (seen e) = rw (counted, when, replied) refl in
     let enters : is_entered (answer (history_of opening lines) raw (seen e)).reply ≡ true = ap is_entered (sym replied) ∙ entered in
     as_documented replied
-    (ap (λ (l : Line). history_of opening (lines ++ l ∷ [])) written
+    (ap (λ (l : EntryData). history_of opening (lines ++ l ∷ [])) written
     ∙ sym (chosen_true (is_entered (answer (history_of opening lines) raw (seen e)).reply) (with_line (history_of opening lines) (line_of (history_of opening lines) seat raw (seen e))) (history_of opening lines) enters))
 
 -- ---- numbers that fit
 
-pub line_fits : (opening : Opening) (s : Situation) (refused moment : ℕ) (lines : List Line) → IsBook opening s refused moment lines → opening.line + length lines < 2 ^ 64
+pub line_fits : (opening : Opening) (s : Situation) (refused moment : ℕ) (lines : List EntryData) → IsBook opening s refused moment lines → opening.line + length lines < 2 ^ 64
 line_fits opening s refused moment lines book =
     omega (arith, stage_count opening lines, book.sound.used, book.sound.opening.line, ap (λ (o : Opening). o.line) (same_opening opening lines))
 
-pub refused_fits : (opening : Opening) (s : Situation) (refused moment : ℕ) (lines : List Line) → IsBook opening s refused moment lines → refused + 1 < 2 ^ 64
+pub refused_fits : (opening : Opening) (s : Situation) (refused moment : ℕ) (lines : List EntryData) → IsBook opening s refused moment lines → refused + 1 < 2 ^ 64
 refused_fits opening s refused moment lines book =
     let past : Past = past_of (history_of opening lines) in
     let fewer = length_filter_le (λ (stage : Stage). (stage.after.period == past.standing.period) && is_refused_call stage.line.reply) past.stages in
     omega (arith, book.refused_calls, fewer, book.sound.used)
 
-pub held_fits : (opening : Opening) (s : Situation) (refused moment : ℕ) (lines : List Line) → IsBook opening s refused moment lines → length lines ≤ 65536
+pub held_fits : (opening : Opening) (s : Situation) (refused moment : ℕ) (lines : List EntryData) → IsBook opening s refused moment lines → length lines ≤ 65536
 held_fits opening s refused moment lines book = omega (arith, stage_count opening lines, book.sound.used)
 
-pub word_there : (opening : Opening) (s : Situation) (refused moment : ℕ) (lines : List Line) (raw now : ℕ) → IsBook opening s refused moment lines → raw < 2 ^ 64 → now ≡ max raw moment → now < 2 ^ 64
+pub word_there : (opening : Opening) (s : Situation) (refused moment : ℕ) (lines : List EntryData) (raw now : ℕ) → IsBook opening s refused moment lines → raw < 2 ^ 64 → now ≡ max raw moment → now < 2 ^ 64
 word_there opening s refused moment lines raw now book word is =
     let bound : max raw moment ≤ 18446744073709551615 = max-le (omega (arith, word)) (omega (arith, book.greatest_moment, book.sound.moment)) in
     omega (arith, is, bound)

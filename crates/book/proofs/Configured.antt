@@ -1,14 +1,14 @@
 -- What the ranges of a configuration say.
 use Rattle.std.proofs.Common.{◌≡◌, ℕ, ◌≤◌, nat_le, nat_lt, ◌&&◌, ◌^◌, Bool, true, false, if◌then◌else◌, Option, Some, None, arith, refl, ap}
-use Rattle.book.specs.declared.configuration.ConfigField.{ConfigField}
-use Rattle.book.specs.declared.configuration.ConfigParts.{ConfigParts}
-use Rattle.book.specs.declared.configuration.SlidingWindowType.{SlidingWindowType}
-use Rattle.book.specs.declared.configuration.SlidingWindowType.TheVariants as window
-use Rattle.book.specs.Configuration.{checked, bad_field_up_to, bad_field, IsInRange, bad_limit, is_within, most_size}
+use Rattle.service_profile.specs.declared.configuration.ConfigField.{ConfigField}
+use Rattle.service_profile.specs.declared.configuration.ConfigParts.{ConfigParts}
+use Rattle.service_profile.specs.declared.configuration.SlidingWindowType.{SlidingWindowType}
+use Rattle.service_profile.specs.declared.configuration.SlidingWindowType.TheVariants as window
+use Rattle.service_profile.specs.Configuration.{checked, bad_field_up_to, bad_field, IsInRange, bad_limit, is_within, most_size}
 use Rattle.std.proofs.lemmas.Bool.{leb-true, le-leb}
-use Rattle.book.specs.declared.configuration.ConfigField.TheVariants as field
-use Rattle.book.specs.declared.states.State.TheVariants as state
-use Rattle.book.specs.Machine.{Situation, at_moment, in_state}
+use Rattle.service_profile.specs.declared.configuration.ConfigField.TheVariants as field
+use Rattle.service_profile.specs.declared.states.State.TheVariants as state
+use Rattle.service_profile.specs.Machine.{Situation, at_moment, in_state}
 
 -- where nothing is bad, neither this field nor a later one is
 good_field : (good : Bool) (field : ConfigField) (later : Option ConfigField) → checked good field later ≡ None → (good ≡ true) × (later ≡ None)

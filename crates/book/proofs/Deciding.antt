@@ -4,28 +4,28 @@ use Rattle.std.proofs.lemmas.Bool.{ltb-false, ltb-true, leb-false}
 use Rattle.std.proofs.lemmas.Bool.Decides.{Decides-eqb}
 use Rattle.bpf_profile.specs.declared.machine.Verdict.{Verdict}
 use Rattle.bpf_profile.specs.declared.machine.Verdict.TheVariants as verdict
-use Rattle.bpf_run.specs.JudgedWork.{Work}
+use Rattle.bpf_profile.specs.JudgedWork.{JudgedData}
 use Rattle.refusals.specs.declared.RefusalNumber.{RefusalNumber}
 use Rattle.refusals.specs.declared.RefusalNumber.TheVariants as refusal
-use Rattle.verifier.specs.Programs.{VerifiedProgram}
-use Rattle.book.specs.declared.breaker.Permission.{Permission}
-use Rattle.book.specs.declared.breaker.Standing.{Standing}
-use Rattle.book.specs.declared.configuration.ConfigParts.{ConfigParts}
-use Rattle.book.specs.declared.machine.Decision.{Decision}
-use Rattle.book.specs.declared.machine.Judgement.{Judgement}
-use Rattle.book.specs.declared.registry.OpenTicket.{OpenTicket}
-use Rattle.book.specs.declared.replies.Fate.{Fate}
-use Rattle.book.specs.declared.replies.Fate.TheVariants as fate
-use Rattle.book.specs.declared.replies.Reply.TheVariants as reply
-use Rattle.book.specs.declared.states.State.{State}
-use Rattle.book.specs.declared.states.State.TheVariants as state
-use Rattle.book.specs.declared.windows.Note.{Note}
-use Rattle.book.specs.declared.windows.Totals.{Totals}
-use Rattle.book.specs.Events.{Happening, acquires, finishes, releases, installs, moves, resets}
-use Rattle.book.specs.Machine.{Situation, refused, in_state, overstays, at_moment, permissions_held, half_open_permission, permission_in, placed, admitted, acquired, current_version, open_ticket, is_open, is_issued, program_from, same_program, is_ignored, fate_of, next_by, concluded, finished_by, finished_under, finished, released_under, released, installed, decided, used, is_full, decision, is_entered_refusal}
-use Rattle.book.specs.Rates.{after_totals, either_reaches, minimum}
-use Rattle.book.specs.Standings.{moved, is_half_open, is_disabled}
-use Rattle.book.specs.Verdicts.{judgement}
+use Rattle.bpf_profile.specs.Programs.{VerifiedProgram}
+use Rattle.service_profile.specs.declared.decisions.Permission.{Permission}
+use Rattle.service_profile.specs.declared.standings.Standing.{Standing}
+use Rattle.service_profile.specs.declared.configuration.ConfigParts.{ConfigParts}
+use Rattle.service_profile.specs.declared.decisions.Decision.{Decision}
+use Rattle.service_profile.specs.declared.decisions.Judgement.{Judgement}
+use Rattle.service_profile.specs.declared.tickets.OpenTicket.{OpenTicket}
+use Rattle.service_profile.specs.declared.replies.Fate.{Fate}
+use Rattle.service_profile.specs.declared.replies.Fate.TheVariants as fate
+use Rattle.service_profile.specs.declared.replies.Reply.TheVariants as reply
+use Rattle.service_profile.specs.declared.states.State.{State}
+use Rattle.service_profile.specs.declared.states.State.TheVariants as state
+use Rattle.service_profile.specs.declared.notes.Note.{Note}
+use Rattle.service_profile.specs.declared.notes.Totals.{Totals}
+use Rattle.service_profile.specs.Events.{EventData, acquires, finishes, releases, installs, moves, resets}
+use Rattle.service_profile.specs.Machine.{Situation, refused, in_state, overstays, at_moment, permissions_held, half_open_permission, permission_in, placed, admitted, acquired, current_version, open_ticket, is_open, is_issued, program_from, same_program, is_ignored, fate_of, next_by, concluded, finished_by, finished_under, finished, released_under, released, installed, decided, used, is_full, decision, is_entered_refusal}
+use Rattle.service_profile.specs.Rates.{after_totals, either_reaches, minimum}
+use Rattle.service_profile.specs.Standings.{moved, is_half_open, is_disabled}
+use Rattle.service_profile.specs.Verdicts.{judgement}
 
 -- ---- where the breaker stands: just as before, or some periods later
 
@@ -73,16 +73,16 @@ open_permission_near : (test : Bool) (standing : Standing) (a b : Permission) �
 open_permission_near true standing a b p q = p
 open_permission_near false standing a b p q = q
 
-permission_near : (s : State) (config : ConfigParts) (standing : Standing) (notes : List Note) (tickets : List OpenTicket) (moment : ℕ) → IsNear standing (permission_in s config standing notes tickets moment).standing 1
-permission_near state.Closed config standing notes tickets moment = near_none standing 1
-permission_near state.MetricsOnly config standing notes tickets moment = near_none standing 1
-permission_near state.Disabled config standing notes tickets moment = near_none standing 1
-permission_near state.ForcedOpen config standing notes tickets moment = near_none standing 1
-permission_near state.Open config standing notes tickets moment =
+permission_near : (s : State) (config : ConfigParts) (standing : Standing) (noted held : ℕ) (moment : ℕ) → IsNear standing (permission_in s config standing noted held moment).standing 1
+permission_near state.Closed config standing noted held moment = near_none standing 1
+permission_near state.MetricsOnly config standing noted held moment = near_none standing 1
+permission_near state.Disabled config standing noted held moment = near_none standing 1
+permission_near state.ForcedOpen config standing noted held moment = near_none standing 1
+permission_near state.Open config standing noted held moment =
     open_permission_near (nat_le config.wait_duration_in_open_state (moment - standing.since)) standing
-    (half_open_permission config (moved state.HalfOpen moment standing) [] tickets) (record { given = false; standing = standing })
+    (half_open_permission config (moved state.HalfOpen moment standing) 0 0) (record { given = false; standing = standing })
     (near_one state.HalfOpen moment standing) (near_none standing 1)
-permission_near state.HalfOpen config standing notes tickets moment = near_none standing 1
+permission_near state.HalfOpen config standing noted held moment = near_none standing 1
 
 placed_near : (s : Situation) (before : Standing) (standing : Standing) → IsNear before standing 1 → DecidesNear before (placed s standing)
 placed_near s before standing near =
@@ -97,16 +97,16 @@ admitted_near s before permission near =
     (placed_near s before permission.standing near) near
 
 acquired_near : (s : Situation) (moment : ℕ) → DecidesNear s.standing (acquired s moment)
-acquired_near s moment = admitted_near s s.standing _ (permission_near s.standing.state s.config s.standing s.notes s.open_tickets moment)
+acquired_near s moment = admitted_near s s.standing _ (permission_near s.standing.state s.config s.standing (length s.notes) (permissions_held s.standing.period s.open_tickets) moment)
 
-finished_by_near : (s : Situation) (moment : ℕ) (ticket : OpenTicket) (work : Work) (program : Option VerifiedProgram) → DecidesNear s.standing (finished_by s moment ticket work program)
+finished_by_near : (s : Situation) (moment : ℕ) (ticket : OpenTicket) (work : JudgedData) (program : Option VerifiedProgram) → DecidesNear s.standing (finished_by s moment ticket work program)
 finished_by_near s moment ticket work None = near_none s.standing 1
 finished_by_near s moment ticket work (Some program) =
     either_near (same_program work.program program) s.standing (concluded s moment ticket work.outcome (judgement program work.outcome)) (refused s.standing refusal.Stranger)
-    (next_by_near (fate_of s.standing ticket (judgement program work.outcome).verdict) s.config moment s.standing s.notes _)
+    (next_by_near (fate_of s.standing ticket.period (judgement program work.outcome).verdict) s.config moment s.standing s.notes _)
     (near_none s.standing 1)
 
-finished_under_near : (s : Situation) (moment : ℕ) (work : Work) (ticket : Option OpenTicket) → DecidesNear s.standing (finished_under s moment work ticket)
+finished_under_near : (s : Situation) (moment : ℕ) (work : JudgedData) (ticket : Option OpenTicket) → DecidesNear s.standing (finished_under s moment work ticket)
 finished_under_near s moment work None = near_none s.standing 1
 finished_under_near s moment work (Some ticket) = finished_by_near s moment ticket work (program_from s.first_version s.programs ticket.version)
 
@@ -114,7 +114,7 @@ released_under_near : (s : Situation) (ticket : Option OpenTicket) → DecidesNe
 released_under_near s None = near_none s.standing 1
 released_under_near s (Some ticket) = near_none s.standing 1
 
-decided_near : (s : Situation) (moment : ℕ) (event : Happening) → DecidesNear s.standing (decided s moment event)
+decided_near : (s : Situation) (moment : ℕ) (event : EventData) → DecidesNear s.standing (decided s moment event)
 decided_near s moment acquires = acquired_near s moment
 decided_near s moment (finishes work ticket) =
     either_near (is_issued s ticket) s.standing (finished_under s moment work (open_ticket s.open_tickets ticket)) (refused s.standing refusal.NoTicket)
@@ -128,7 +128,7 @@ decided_near s moment (installs program) =
 decided_near s moment (moves to) = near_one to moment s.standing
 decided_near s moment resets = near_one state.Closed moment s.standing
 
-at_moment_near : (test : Bool) (s : Situation) (moment : ℕ) (event : Happening) → IsNear s.standing (decided (if test then in_state state.Open moment s else s) moment event).next 2
+at_moment_near : (test : Bool) (s : Situation) (moment : ℕ) (event : EventData) → IsNear s.standing (decided (if test then in_state state.Open moment s else s) moment event).next 2
 at_moment_near true s moment event =
     let near = decided_near (in_state state.Open moment s) moment event in
     record { least = omega (arith, near.least); most = omega (arith, near.most); same = λ e. absurd (omega (arith, e, near.least)) }
@@ -136,11 +136,11 @@ at_moment_near false s moment event =
     let near = decided_near s moment event in
     record { least = omega (arith, near.least); most = omega (arith, near.most); same = near.same }
 
-full_near : (test : Bool) (s : Situation) (moment : ℕ) (event : Happening) → IsNear s.standing (if test then refused s.standing refusal.JournalFull else decided (at_moment s moment) moment event).next 2
+full_near : (test : Bool) (s : Situation) (moment : ℕ) (event : EventData) → IsNear s.standing (if test then refused s.standing refusal.JournalFull else decided (at_moment s moment) moment event).next 2
 full_near true s moment event = near_none s.standing 2
 full_near false s moment event = at_moment_near (overstays s moment) s moment event
 
-pub decision_near : (s : Situation) (moment : ℕ) (event : Happening) → IsNear s.standing (decision s moment event).next 2
+pub decision_near : (s : Situation) (moment : ℕ) (event : EventData) → IsNear s.standing (decision s moment event).next 2
 unfolding decision
 decision_near s moment event = full_near (is_full s event) s moment event
 
@@ -160,7 +160,7 @@ abbrev pub IsCounted : Fate → Verdict → Type 0
 IsCounted f v = f ≡ fate.Recorded → is_ignored v ≡ false
 
 -- the verdict is that of the program of the version with which the open ticket was issued
-pub record IsByVersion (s : Situation) (work : Work) (ticket : ℕ) (v : Verdict) (steps version : ℕ) : Type 0 where
+pub record IsByVersion (s : Situation) (work : JudgedData) (ticket : ℕ) (v : Verdict) (steps version : ℕ) : Type 0 where
   pub opened : OpenTicket
   pub found : open_ticket s.open_tickets ticket ≡ Some opened
   pub of_version : opened.version ≡ version
@@ -169,32 +169,32 @@ pub record IsByVersion (s : Situation) (work : Work) (ticket : ℕ) (v : Verdict
   pub verdict_is : (judgement program work.outcome).verdict ≡ v
   pub steps_are : (judgement program work.outcome).steps ≡ steps
 
-pub data Shape (s : Situation) (event : Happening) (d : Decision) : Type 0 where
+pub data Shape (s : Situation) (event : EventData) (d : Decision) : Type 0 where
   refuses : (number : RefusalNumber) → d.reply ≡ reply.Refused number → (is_entered_refusal number ≡ true → used s ≤ 65535) → Shape s event d
   permits : (version : ℕ) (st : State) → event ≡ acquires → d.reply ≡ reply.Permitted s.next_ticket version st → used s ≤ 65534 → length s.open_tickets < s.config.max_concurrent_calls → HasPermission s d.next → Shape s event d
-  concludes : (work : Work) (ticket : ℕ) (f : Fate) (v : Verdict) (steps version : ℕ) (st : State) → event ≡ finishes work ticket → d.reply ≡ reply.Finished f v steps version st → is_open s.open_tickets ticket ≡ true → IsPresent s d.next ticket f → IsCounted f v → IsByVersion s work ticket v steps version → Shape s event d
+  concludes : (work : JudgedData) (ticket : ℕ) (f : Fate) (v : Verdict) (steps version : ℕ) (st : State) → event ≡ finishes work ticket → d.reply ≡ reply.Finished f v steps version st → is_open s.open_tickets ticket ≡ true → IsPresent s d.next ticket f → IsCounted f v → IsByVersion s work ticket v steps version → Shape s event d
   lets_go : (ticket : ℕ) (st : State) → event ≡ releases ticket → d.reply ≡ reply.Released st → is_open s.open_tickets ticket ≡ true → Shape s event d
   takes_in : (program : VerifiedProgram) (version budget : ℕ) → event ≡ installs program → d.reply ≡ reply.Installed version budget → length s.programs < 256 → used s ≤ 65535 → Shape s event d
   turns : (st : State) (period : ℕ) → d.reply ≡ reply.Moved st period → used s ≤ 65535 → Shape s event d
 
-either_shape : (test : Bool) (s : Situation) (event : Happening) (a b : Decision) → (test ≡ true → Shape s event a) → (test ≡ false → Shape s event b) → Shape s event (if test then a else b)
+either_shape : (test : Bool) (s : Situation) (event : EventData) (a b : Decision) → (test ≡ true → Shape s event a) → (test ≡ false → Shape s event b) → Shape s event (if test then a else b)
 either_shape true s event a b p q = p refl
 either_shape false s event a b p q = q refl
 
 -- an entered refusal where the journal has room
-refused_shape : (s : Situation) (event : Happening) (standing : Standing) (number : RefusalNumber) → used s ≤ 65535 → Shape s event (refused standing number)
+refused_shape : (s : Situation) (event : EventData) (standing : Standing) (number : RefusalNumber) → used s ≤ 65535 → Shape s event (refused standing number)
 refused_shape s event standing number room = refuses number refl (λ e. room)
 
 not_half_open : (s : Situation) (next : Standing) → is_half_open next.state ≡ false → HasPermission s next
 not_half_open s next none = λ h e. let bad : ◌≡◌ {A = Bool} true false = sym h ∙ none in cc
 
-open_given : (s : Situation) (moment : ℕ) (test : Bool) → (if test then half_open_permission s.config (moved state.HalfOpen moment s.standing) [] s.open_tickets else record { given = false; standing = s.standing }).given ≡ true
-    → HasPermission s (if test then half_open_permission s.config (moved state.HalfOpen moment s.standing) [] s.open_tickets else record { given = false; standing = s.standing }).standing
+open_given : (s : Situation) (moment : ℕ) (test : Bool) → (if test then half_open_permission s.config (moved state.HalfOpen moment s.standing) 0 0 else record { given = false; standing = s.standing }).given ≡ true
+    → HasPermission s (if test then half_open_permission s.config (moved state.HalfOpen moment s.standing) 0 0 else record { given = false; standing = s.standing }).standing
 open_given s moment true g = λ h e. absurd (omega (arith, e))
 open_given s moment false g = let bad : ◌≡◌ {A = Bool} false true = g in cc
 
-permission_given : (s : Situation) (moment : ℕ) (st : State) → s.standing.state ≡ st → (permission_in st s.config s.standing s.notes s.open_tickets moment).given ≡ true
-    → HasPermission s (permission_in st s.config s.standing s.notes s.open_tickets moment).standing
+permission_given : (s : Situation) (moment : ℕ) (st : State) → s.standing.state ≡ st → (permission_in st s.config s.standing (length s.notes) (permissions_held s.standing.period s.open_tickets) moment).given ≡ true
+    → HasPermission s (permission_in st s.config s.standing (length s.notes) (permissions_held s.standing.period s.open_tickets) moment).standing
 permission_given s moment state.Closed e g = not_half_open s s.standing (ap is_half_open e)
 permission_given s moment state.MetricsOnly e g = not_half_open s s.standing (ap is_half_open e)
 permission_given s moment state.Disabled e g = not_half_open s s.standing (ap is_half_open e)
@@ -204,7 +204,7 @@ permission_given s moment state.HalfOpen e g = λ h same. ltb-true _ _ g
 
 acquired_shape : (s : Situation) (moment : ℕ) → used s ≤ 65534 → Shape s acquires (acquired s moment)
 acquired_shape s moment room =
-    let permission : Permission = permission_in s.standing.state s.config s.standing s.notes s.open_tickets moment in
+    let permission : Permission = permission_in s.standing.state s.config s.standing (length s.notes) (permissions_held s.standing.period s.open_tickets) moment in
     either_shape permission.given s acquires (placed s permission.standing) (refused permission.standing refusal.CallNotPermitted)
     (λ g. either_shape (nat_le s.config.max_concurrent_calls (length s.open_tickets)) s acquires
     (refused permission.standing refusal.BulkheadFull)
@@ -241,7 +241,7 @@ closed_room : (s : Situation) (ticket : ℕ) → (nat_lt 65535 (used s) && not (
 closed_room s ticket full closed = ltb-false 65535 (used s) (both_false (is_open s.open_tickets ticket) (nat_lt 65535 (used s)) closed full)
 
 -- a refusal that isn't entered
-unentered_shape : (s : Situation) (event : Happening) (standing : Standing) (number : RefusalNumber) → is_entered_refusal number ≡ false → Shape s event (refused standing number)
+unentered_shape : (s : Situation) (event : EventData) (standing : Standing) (number : RefusalNumber) → is_entered_refusal number ≡ false → Shape s event (refused standing number)
 unentered_shape s event standing number h = refuses number refl (λ e. let bad : ◌≡◌ {A = Bool} true false = sym e ∙ h in cc)
 
 abbrev pub OpenAreIssued : Situation → Type 0
@@ -255,10 +255,10 @@ unissued_closed s number issued none = by_open (is_open s.open_tickets number) r
     by_open true h = let bad : ◌≡◌ {A = Bool} true false = sym (issued number h) ∙ none in cc
     by_open false h = refl
 
-recorded_fate : (standing : Standing) (t : OpenTicket) (v : Verdict) (same : Bool) → (t.period == standing.period) ≡ same → fate_of standing t v ≡ fate.Recorded → t.period ≡ standing.period
-recorded_fate standing t v true e r = (Decides-eqb t.period standing.period).0 e
-recorded_fate standing t v false e r =
-    let stale : fate_of standing t v ≡ fate.Stale = rw e refl in
+recorded_fate : (standing : Standing) (period : ℕ) (v : Verdict) (same : Bool) → (period == standing.period) ≡ same → fate_of standing period v ≡ fate.Recorded → period ≡ standing.period
+recorded_fate standing period v true e r = (Decides-eqb period standing.period).0 e
+recorded_fate standing period v false e r =
+    let stale : fate_of standing period v ≡ fate.Stale = rw e refl in
     let bad : ◌≡◌ {A = Fate} fate.Stale fate.Recorded = sym stale ∙ r in cc
 
 not_recorded : (f : Fate) → f ≡ fate.Recorded → f ≡ fate.Stale ⊎ ((f ≡ fate.Off) ⊎ (f ≡ fate.Ignored)) → ⊥
@@ -273,24 +273,24 @@ unignored true false verdict.Ignored e = absurd (not_recorded fate.Ignored e (in
 unignored true false verdict.Success e = refl
 unignored true false verdict.Failure e = refl
 
-finished_by_shape : (s : Situation) (moment : ℕ) (t : OpenTicket) (work : Work) (ticket : ℕ) (program : Option VerifiedProgram) → program_from s.first_version s.programs t.version ≡ program → is_open s.open_tickets ticket ≡ true → open_ticket s.open_tickets ticket ≡ Some t → Shape s (finishes work ticket) (finished_by s moment t work program)
+finished_by_shape : (s : Situation) (moment : ℕ) (t : OpenTicket) (work : JudgedData) (ticket : ℕ) (program : Option VerifiedProgram) → program_from s.first_version s.programs t.version ≡ program → is_open s.open_tickets ticket ≡ true → open_ticket s.open_tickets ticket ≡ Some t → Shape s (finishes work ticket) (finished_by s moment t work program)
 finished_by_shape s moment t work ticket None held there found = unentered_shape s (finishes work ticket) s.standing refusal.Stranger refl
 finished_by_shape s moment t work ticket (Some program) held there found =
     let j : Judgement = judgement program work.outcome in
     let d : Decision = concluded s moment t work.outcome j in
     either_shape (same_program work.program program) s (finishes work ticket) d (refused s.standing refusal.Stranger)
-    (λ e. concludes work ticket (fate_of s.standing t j.verdict) j.verdict j.steps t.version d.next.state refl refl there
-    (λ r same. (t, found, recorded_fate s.standing t j.verdict (t.period == s.standing.period) refl r))
+    (λ e. concludes work ticket (fate_of s.standing t.period j.verdict) j.verdict j.steps t.version d.next.state refl refl there
+    (λ r same. (t, found, recorded_fate s.standing t.period j.verdict (t.period == s.standing.period) refl r))
     (λ r. unignored (t.period == s.standing.period) (is_disabled s.standing.state) j.verdict r)
     (record { opened = t; found = found; of_version = refl; program = program; held = held; verdict_is = refl; steps_are = refl }))
     (λ e. unentered_shape s (finishes work ticket) s.standing refusal.Stranger refl)
 
-finished_under_shape : (s : Situation) (moment : ℕ) (work : Work) (ticket : ℕ) (found : Option OpenTicket)
+finished_under_shape : (s : Situation) (moment : ℕ) (work : JudgedData) (ticket : ℕ) (found : Option OpenTicket)
     → (nat_lt 65535 (used s) && not (is_open s.open_tickets ticket)) ≡ false → open_ticket s.open_tickets ticket ≡ found → Shape s (finishes work ticket) (finished_under s moment work found)
 finished_under_shape s moment work ticket None full e = refused_shape s (finishes work ticket) s.standing refusal.TicketSpent (closed_room s ticket full (lost_closed s.open_tickets ticket e))
 finished_under_shape s moment work ticket (Some t) full e = finished_by_shape s moment t work ticket (program_from s.first_version s.programs t.version) refl (found_open s.open_tickets ticket t e) e
 
-finished_shape : (s : Situation) (moment : ℕ) (work : Work) (ticket : ℕ) → (nat_lt 65535 (used s) && not (is_open s.open_tickets ticket)) ≡ false → OpenAreIssued s → Shape s (finishes work ticket) (finished s moment work ticket)
+finished_shape : (s : Situation) (moment : ℕ) (work : JudgedData) (ticket : ℕ) → (nat_lt 65535 (used s) && not (is_open s.open_tickets ticket)) ≡ false → OpenAreIssued s → Shape s (finishes work ticket) (finished s moment work ticket)
 finished_shape s moment work ticket full issued =
     either_shape (is_issued s ticket) s (finishes work ticket) (finished_under s moment work (open_ticket s.open_tickets ticket)) (refused s.standing refusal.NoTicket)
     (λ e. finished_under_shape s moment work ticket (open_ticket s.open_tickets ticket) full refl)
@@ -314,7 +314,7 @@ installed_shape s program room =
     (λ e. unentered_shape s (installs program) s.standing refusal.VersionsFull refl)
     (λ e. takes_in program (s.first_version + length s.programs) program.budget refl refl (leb-false 256 (length s.programs) e) room)
 
-decided_shape : (s : Situation) (moment : ℕ) (event : Happening) → is_full s event ≡ false → OpenAreIssued s → Shape s event (decided s moment event)
+decided_shape : (s : Situation) (moment : ℕ) (event : EventData) → is_full s event ≡ false → OpenAreIssued s → Shape s event (decided s moment event)
 decided_shape s moment acquires full issued = acquired_shape s moment (ltb-false 65534 (used s) full)
 decided_shape s moment (finishes work ticket) full issued = finished_shape s moment work ticket full issued
 decided_shape s moment (releases ticket) full issued = released_shape s ticket full issued
@@ -325,7 +325,7 @@ decided_shape s moment resets full issued = turns state.Closed (suc s.standing.p
 -- ---- where a stay in HALF_OPEN has lasted too long, the event is taken in OPEN
 
 -- whether the journal is full doesn't depend on where the breaker stands
-full_in_open : (s : Situation) (moment : ℕ) (event : Happening) → is_full s event ≡ false → is_full (in_state state.Open moment s) event ≡ false
+full_in_open : (s : Situation) (moment : ℕ) (event : EventData) → is_full s event ≡ false → is_full (in_state state.Open moment s) event ≡ false
 full_in_open s moment acquires full = full
 full_in_open s moment (finishes work ticket) full = full
 full_in_open s moment (releases ticket) full = full
@@ -334,7 +334,7 @@ full_in_open s moment (moves to) full = full
 full_in_open s moment resets full = full
 
 -- an event that is taken after a transition has the shape that it has in the situation before
-after_expiry : (s : Situation) (moment : ℕ) (event : Happening) (d : Decision) → IsNear (in_state state.Open moment s).standing d.next 1 → Shape (in_state state.Open moment s) event d → Shape s event d
+after_expiry : (s : Situation) (moment : ℕ) (event : EventData) (d : Decision) → IsNear (in_state state.Open moment s).standing d.next 1 → Shape (in_state state.Open moment s) event d → Shape s event d
 after_expiry s moment event d near (refuses number e room) = refuses number e room
 after_expiry s moment event d near (permits version st e r room free given) = permits version st e r room free (λ h same. absurd (omega (arith, same, near.least)))
 after_expiry s moment event d near (concludes work ticket f v steps version st e r there present counted version_is) =
@@ -344,13 +344,13 @@ after_expiry s moment event d near (lets_go ticket st e r there) = lets_go ticke
 after_expiry s moment event d near (takes_in program version budget e r less room) = takes_in program version budget e r less room
 after_expiry s moment event d near (turns st period e room) = turns st period e room
 
-by_stay : (test : Bool) (s : Situation) (moment : ℕ) (event : Happening) → is_full s event ≡ false → OpenAreIssued s → Shape s event (decided (if test then in_state state.Open moment s else s) moment event)
+by_stay : (test : Bool) (s : Situation) (moment : ℕ) (event : EventData) → is_full s event ≡ false → OpenAreIssued s → Shape s event (decided (if test then in_state state.Open moment s else s) moment event)
 by_stay true s moment event full issued =
     after_expiry s moment event (decided (in_state state.Open moment s) moment event) (decided_near (in_state state.Open moment s) moment event)
     (decided_shape (in_state state.Open moment s) moment event (full_in_open s moment event full) issued)
 by_stay false s moment event full issued = decided_shape s moment event full issued
 
-pub decision_shape : (s : Situation) (moment : ℕ) (event : Happening) → OpenAreIssued s → Shape s event (decision s moment event)
+pub decision_shape : (s : Situation) (moment : ℕ) (event : EventData) → OpenAreIssued s → Shape s event (decision s moment event)
 unfolding decision
 decision_shape s moment event issued =
     either_shape (is_full s event) s event (refused s.standing refusal.JournalFull) (decided (at_moment s moment) moment event)

@@ -6,19 +6,17 @@ use Rattle.bpf_profile.specs.declared.machine.Verdict.TheVariants as verdict
 use Rattle.bpf_profile.specs.declared.slot.Slot.{Slot}
 use Rattle.bpf_profile.specs.Machine.{State, answers}
 use Rattle.bpf_profile.specs.Meaning.{step, entry, Reaches, Ends, Judges, answer_of}
-use Rattle.bpf_profile.specs.Outcomes.{Outcome, IsOutcome}
+use Rattle.bpf_profile.specs.Outcomes.{Outcome, IsOutcome, context_size}
 use Rattle.bpf_profile.specs.Safety.{IsSafe}
 use Rattle.bpf_profile.specs.Spelling.{Spells}
-use Rattle.bpf_profile.proofs.Runs.{ends_agree}
+use Rattle.bpf_profile.proofs.Runs.{ends_agree, named_answer}
 use Rattle.bpf_decode.proofs.Spelled.{same_slots}
-use Rattle.verifier.specs.Analysis.{context_size}
-use Rattle.verifier.specs.Programs.{VerifiedProgram}
-use Rattle.bpf_profile.proofs.Runs.{named_answer}
-use Rattle.book.specs.declared.machine.Judgement.{Judgement}
-use Rattle.book.specs.Machine.{program_from}
+use Rattle.bpf_profile.specs.Programs.{VerifiedProgram}
+use Rattle.service_profile.specs.declared.decisions.Judgement.{Judgement}
+use Rattle.service_profile.specs.Machine.{program_from}
 use Rattle.book.specs.Safe.{IsSafeProgram, AreSafePrograms}
 use Rattle.book.proofs.Lists.{got}
-use Rattle.book.specs.Verdicts.{Ending, one_later, ending_of, ending_within, verdict_of, judged_as, judgement}
+use Rattle.service_profile.specs.Verdicts.{Ending, one_later, ending_of, ending_within, verdict_of, judged_as, judgement}
 
 pub ending_of_run : (slots : List Slot) (outcome : Outcome) (count left : ℕ) (s t : State) (n : ℕ)
     → Reaches context_size slots outcome s count t → step context_size slots outcome t ≡ Ok (answers n) → count < left

@@ -3,30 +3,29 @@ use Rattle.std.proofs.Common.{◌≡◌, ℕ, ◌+◌, ◌^◌, ◌≤◌, ◌<�
 use Rattle.std.specs.List.{filter, AllByRecursion}
 use Rattle.std.proofs.lemmas.Bool.{le-leb, lt-ltb}
 use Rattle.std.proofs.lemmas.Bool.Decides.{Decides-eqb}
-use Rattle.verifier.specs.Programs.{VerifiedProgram}
+use Rattle.bpf_profile.specs.Programs.{VerifiedProgram}
 use Rattle.refusals.specs.declared.RefusalNumber.{RefusalNumber}
-use Rattle.book.specs.declared.breaker.Standing.{Standing}
-use Rattle.book.specs.declared.machine.Decision.{Decision}
-use Rattle.book.specs.declared.registry.OpenTicket.{OpenTicket}
-use Rattle.book.specs.declared.replies.Reply.{Reply}
-use Rattle.book.specs.declared.replies.Reply.TheVariants as reply
-use Rattle.book.specs.Events.{Happening, acquires, finishes, releases, installs, moves, resets, Line}
-use Rattle.book.specs.Following.{is_number, tickets_after, one_where_some, notes_after}
-use Rattle.book.specs.Histories.{Stage, Past, issue_by, issue_at, issued, end_by, end_at, ended, open_of, install_by, install_at, programs_of, notes_of, situation_of, situation_after, machine, passed, Follows}
-use Rattle.book.specs.Machine.{Situation, used, is_open, is_entered}
+use Rattle.service_profile.specs.declared.standings.Standing.{Standing}
+use Rattle.service_profile.specs.declared.decisions.Decision.{Decision}
+use Rattle.service_profile.specs.declared.tickets.OpenTicket.{OpenTicket}
+use Rattle.service_profile.specs.declared.replies.Reply.{Reply}
+use Rattle.service_profile.specs.declared.replies.Reply.TheVariants as reply
+use Rattle.service_profile.specs.Events.{EventData, acquires, finishes, releases, installs, moves, resets, EntryData}
+use Rattle.book.specs.Following.{is_number, tickets_after, one_where_some, notes_after, situation_after}
+use Rattle.service_profile.specs.Histories.{Stage, Past, issue_by, issue_at, issued, end_by, end_at, ended, open_of, install_by, install_at, programs_of, notes_of, situation_of, machine, passed, Follows, note_by}
+use Rattle.service_profile.specs.Machine.{Situation, used, is_open, is_entered, permissions_held}
 use Rattle.book.specs.Safe.{IsSafeProgram, AreSafePrograms, IsSafeEvent, IsSafeLine}
-use Rattle.book.specs.Sound.{IsMeantLine, IsSound, next_ticket}
+use Rattle.service_profile.specs.MeantVerdicts.{IsMeantLine}
+use Rattle.book.specs.Sound.{IsSound, next_ticket}
 use Rattle.book.proofs.Deciding.{Shape, refuses, permits, concludes, lets_go, takes_in, turns, decision_shape, decision_near, OpenAreIssued}
-use Rattle.book.specs.Histories.{note_by}
-use Rattle.book.specs.Machine.{permissions_held}
-use Rattle.book.specs.Standings.{is_half_open}
+use Rattle.service_profile.specs.Standings.{is_half_open}
 use Rattle.book.proofs.Configured.{ranges, within_least}
 use Rattle.book.proofs.Meaning.{still_meant, meant_by}
 use Rattle.book.proofs.Permissions.{permissions_after}
 use Rattle.book.proofs.Lists.{all_kept, all_kept_by, fewer_kept, map_with, all_append, all_weaken}
 use Rattle.book.proofs.Passing.{AreBefore, IsFresh, notes_step, open_step, issued_step, greatest_step}
 
-end_refused : (event : Happening) (number : RefusalNumber) → end_by event (reply.Refused number) ≡ None
+end_refused : (event : EventData) (number : RefusalNumber) → end_by event (reply.Refused number) ≡ None
 end_refused acquires number = refl
 end_refused (finishes work ticket) number = refl
 end_refused (releases ticket) number = refl
@@ -34,7 +33,7 @@ end_refused (installs program) number = refl
 end_refused (moves to) number = refl
 end_refused resets number = refl
 
-install_refused : (event : Happening) (number : RefusalNumber) → install_by event (reply.Refused number) ≡ None
+install_refused : (event : EventData) (number : RefusalNumber) → install_by event (reply.Refused number) ≡ None
 install_refused acquires number = refl
 install_refused (finishes work ticket) number = refl
 install_refused (releases ticket) number = refl
@@ -42,7 +41,7 @@ install_refused (installs program) number = refl
 install_refused (moves to) number = refl
 install_refused resets number = refl
 
-end_moved : (event : Happening) (s : _) (period : ℕ) → end_by event (reply.Moved s period) ≡ None
+end_moved : (event : EventData) (s : _) (period : ℕ) → end_by event (reply.Moved s period) ≡ None
 end_moved acquires s period = refl
 end_moved (finishes work ticket) s period = refl
 end_moved (releases ticket) s period = refl
@@ -50,7 +49,7 @@ end_moved (installs program) s period = refl
 end_moved (moves to) s period = refl
 end_moved resets s period = refl
 
-install_moved : (event : Happening) (s : _) (period : ℕ) → install_by event (reply.Moved s period) ≡ None
+install_moved : (event : EventData) (s : _) (period : ℕ) → install_by event (reply.Moved s period) ≡ None
 install_moved acquires s period = refl
 install_moved (finishes work ticket) s period = refl
 install_moved (releases ticket) s period = refl
@@ -59,7 +58,7 @@ install_moved (moves to) s period = refl
 install_moved resets s period = refl
 
 -- what a line does to tickets and versions
-pub record IsMove (held : ℕ) (tickets : List OpenTicket) (next versions : ℕ) (event : Happening) (r : Reply) (period : ℕ) : Type 0 where
+pub record IsMove (held : ℕ) (tickets : List OpenTicket) (next versions : ℕ) (event : EventData) (r : Reply) (period : ℕ) : Type 0 where
   pub fresh : IsFresh next (end_by event r) (issue_by r period)
   pub ended : (n : ℕ) → end_by event r ≡ Some n → is_open tickets n ≡ true
   pub room : held + 1 + length (tickets_after tickets (end_by event r) (issue_by r period)) ≤ 65536
@@ -83,11 +82,11 @@ none_fresh next o = record { number = λ t e. let bad : ◌≡◌ {A = Option Op
 no_number : (tickets : List OpenTicket) (n : ℕ) → ◌≡◌ {A = Option ℕ} None (Some n) → is_open tickets n ≡ true
 no_number tickets n e = cc
 
-no_program : (event : Happening) (p : VerifiedProgram) → ◌≡◌ {A = Option VerifiedProgram} None (Some p) → event ≡ installs p
+no_program : (event : EventData) (p : VerifiedProgram) → ◌≡◌ {A = Option VerifiedProgram} None (Some p) → event ≡ installs p
 no_program event p e = cc
 
 -- a line that touches neither tickets nor versions
-still : (held : ℕ) (tickets : List OpenTicket) (next versions : ℕ) (event : Happening) (r : Reply) (period : ℕ)
+still : (held : ℕ) (tickets : List OpenTicket) (next versions : ℕ) (event : EventData) (r : Reply) (period : ℕ)
     → end_by event r ≡ None → issue_by r period ≡ None → install_by event r ≡ None → held + length tickets ≤ 65535 → versions ≤ 256
     → IsMove held tickets next versions event r period
 still held tickets next versions event r period ends issues installs_ room few = record {
@@ -111,7 +110,7 @@ permit_move held tickets next versions version s period room few = record {
     same_number : (next version period : ℕ) (t : OpenTicket) → ◌≡◌ {A = Option OpenTicket} (Some (record { number = next; version = version; period = period })) (Some t) → t.number ≡ next
     same_number next version period t e = let same : ◌≡◌ {A = OpenTicket} (record { number = next; version = version; period = period }) t = cc in sym (ap (λ (u : OpenTicket). u.number) same)
 
-end_move : (held : ℕ) (tickets : List OpenTicket) (next versions : ℕ) (event : Happening) (r : Reply) (period : ℕ) (ticket : ℕ)
+end_move : (held : ℕ) (tickets : List OpenTicket) (next versions : ℕ) (event : EventData) (r : Reply) (period : ℕ) (ticket : ℕ)
     → end_by event r ≡ Some ticket → issue_by r period ≡ None → install_by event r ≡ None → is_open tickets ticket ≡ true → held + length tickets ≤ 65536 → versions ≤ 256
     → IsMove held tickets next versions event r period
 end_move held tickets next versions event r period ticket ends issues installs_ there room few = record {
@@ -135,7 +134,7 @@ install_move held tickets next versions program version budget period few room =
     same_program_ : (p : VerifiedProgram) → ◌≡◌ {A = Option VerifiedProgram} (Some program) (Some p) → installs program ≡ installs p
     same_program_ p e = let same : program ≡ p = cc in ap installs same
 
-pub move_of : (s : Situation) (event : Happening) (d : Decision)
+pub move_of : (s : Situation) (event : EventData) (d : Decision)
     → Shape s event d → is_entered d.reply ≡ true → used s ≤ 65536 → length s.programs ≤ 256
     → IsMove s.held s.open_tickets s.next_ticket (length s.programs) event d.reply d.next.period
 move_of s event d (refuses number e room) entered most few =
@@ -153,10 +152,10 @@ move_of s event d (turns st p e room) entered most few =
 
 -- ---- one line more
 
-abbrev next_standing : Past → Line → Standing
+abbrev next_standing : Past → EntryData → Standing
 next_standing past line = (machine past line.moment line.event).next
 
-abbrev stage_of : Past → Line → Stage
+abbrev stage_of : Past → EntryData → Stage
 stage_of past line = record { line = line; before = past.standing; after = next_standing past line }
 
 pub in_range : (next n : ℕ) → (1 ≤ n) → (n < next) → (nat_le 1 n && nat_lt n next) ≡ true
@@ -175,16 +174,16 @@ open_are_issued past sound = λ number e.
     let range = all_issued (next_ticket past) (open_of past.stages) number sound.open_issued e in
     in_range (next_ticket past) number range.0 range.1
 
-pub shape_there : (past : Past) (line : Line) → IsSound past → Shape (situation_of past) line.event (machine past line.moment line.event)
+pub shape_there : (past : Past) (line : EntryData) → IsSound past → Shape (situation_of past) line.event (machine past line.moment line.event)
 shape_there past line sound = decision_shape (situation_of past) line.moment line.event (open_are_issued past sound)
 
-pub move_there : (past : Past) (line : Line) → IsSound past → Follows past line → IsMove (length past.stages) (open_of past.stages) (next_ticket past) (length (programs_of past)) line.event line.reply (next_standing past line).period
+pub move_there : (past : Past) (line : EntryData) → IsSound past → Follows past line → IsMove (length past.stages) (open_of past.stages) (next_ticket past) (length (programs_of past)) line.event line.reply (next_standing past line).period
 move_there past line sound follows =
     let entered = subst (λ (r : Reply). is_entered r ≡ true) follows.replied follows.entered in
     let move = move_of (situation_of past) line.event (machine past line.moment line.event) (shape_there past line sound) entered sound.used sound.versions in
     subst (λ (r : Reply). IsMove (length past.stages) (open_of past.stages) (next_ticket past) (length (programs_of past)) line.event r (next_standing past line).period) (sym follows.replied) move
 
-pub situated_step : (past : Past) (line : Line) → IsSound past → Follows past line → situation_of (passed past line) ≡ situation_after (situation_of past) line (next_standing past line)
+pub situated_step : (past : Past) (line : EntryData) → IsSound past → Follows past line → situation_of (passed past line) ≡ situation_after (situation_of past) line (next_standing past line)
 situated_step past line sound follows =
     let near = decision_near (situation_of past) line.moment line.event in
     let move = move_there past line sound follows in
@@ -198,7 +197,7 @@ situated_step past line sound follows =
 abbrev Before : ℕ → Stage → Type 0
 Before period stage = (stage.before.period ≤ period) × (stage.after.period ≤ period)
 
-periods_step : (past : Past) (line : Line) → IsSound past → AreBefore (next_standing past line).period (past.stages ++ stage_of past line ∷ [])
+periods_step : (past : Past) (line : EntryData) → IsSound past → AreBefore (next_standing past line).period (past.stages ++ stage_of past line ∷ [])
 periods_step past line sound =
     let near = decision_near (situation_of past) line.moment line.event in
     let earlier = all_weaken (Before past.standing.period) (Before (next_standing past line).period) (λ (s : Stage) h. (omega (arith, h.0, near.least), omega (arith, h.1, near.least))) past.stages sound.periods in
@@ -209,7 +208,7 @@ ended_there : (next later : ℕ) (tickets : List OpenTicket) (o : Option ℕ) �
 ended_there next later tickets None le issued_ there = tt
 ended_there next later tickets (Some n) le issued_ there = (omega (arith, le, (all_issued next tickets n issued_ (there n refl)).1), tt)
 
-ended_step : (past : Past) (line : Line) → IsSound past → Follows past line → next_ticket past ≤ next_ticket (passed past line) → AllByRecursion (λ number. number < next_ticket (passed past line)) (ended (passed past line).stages)
+ended_step : (past : Past) (line : EntryData) → IsSound past → Follows past line → next_ticket past ≤ next_ticket (passed past line) → AllByRecursion (λ number. number < next_ticket (passed past line)) (ended (passed past line).stages)
 ended_step past line sound follows le =
     let move = move_there past line sound follows in
     let later : ℕ = next_ticket (passed past line) in
@@ -222,7 +221,7 @@ issued_there : (next later : ℕ) (o : Option OpenTicket) (e : Option ℕ) → 1
 issued_there next later None e first fresh le = tt
 issued_there next later (Some t) e first fresh le = let new = (fresh.number t refl).0 in ((omega (arith, new, first), omega (arith, new, le)), tt)
 
-open_issued_step : (past : Past) (line : Line) → IsSound past → Follows past line → next_ticket past + one_where_some (issue_by line.reply (next_standing past line).period) ≡ next_ticket (passed past line)
+open_issued_step : (past : Past) (line : EntryData) → IsSound past → Follows past line → next_ticket past + one_where_some (issue_by line.reply (next_standing past line).period) ≡ next_ticket (passed past line)
     → AllByRecursion (λ ticket. (1 ≤ ticket.number) × (ticket.number < next_ticket (passed past line))) (open_of (passed past line).stages)
 open_issued_step past line sound follows next =
     let move = move_there past line sound follows in
@@ -236,7 +235,7 @@ open_issued_step past line sound follows next =
 
 -- ---- places
 
-places_after : (s : Situation) (event : Happening) (d : Decision) → Shape s event d → length s.open_tickets ≤ s.config.max_concurrent_calls
+places_after : (s : Situation) (event : EventData) (d : Decision) → Shape s event d → length s.open_tickets ≤ s.config.max_concurrent_calls
     → length (tickets_after s.open_tickets (end_by event d.reply) (issue_by d.reply d.next.period)) ≤ s.config.max_concurrent_calls
 places_after s event d (refuses number e room) le = rw (e, end_refused event number) (omega (arith, untouched s.open_tickets, le))
 places_after s event d (permits version st e f room free given) le = rw (e, f) (omega (arith, one_more s.open_tickets (record { number = s.next_ticket; version = version; period = d.next.period }), free))
@@ -246,13 +245,13 @@ places_after s event d (takes_in program version budget e f less room) le = rw (
 places_after s event d (turns st p e room) le = rw (e, end_moved event st p) (omega (arith, untouched s.open_tickets, le))
 
 -- the tickets after a line, as the machine's reply has them
-tickets_there : (past : Past) (line : Line) → IsSound past → Follows past line
+tickets_there : (past : Past) (line : EntryData) → IsSound past → Follows past line
     → open_of (passed past line).stages ≡ tickets_after (open_of past.stages) (end_by line.event (machine past line.moment line.event).reply) (issue_by (machine past line.moment line.event).reply (next_standing past line).period)
 tickets_there past line sound follows =
     open_step past.stages (stage_of past line) (next_ticket past) sound.ended (move_there past line sound follows).fresh
     ∙ ap (λ (r : Reply). tickets_after (open_of past.stages) (end_by line.event r) (issue_by r (next_standing past line).period)) follows.replied
 
-places_step : (past : Past) (line : Line) → IsSound past → Follows past line → length (open_of (passed past line).stages) ≤ past.opening.config.max_concurrent_calls
+places_step : (past : Past) (line : EntryData) → IsSound past → Follows past line → length (open_of (passed past line).stages) ≤ past.opening.config.max_concurrent_calls
 places_step past line sound follows =
     omega (arith, ap length (tickets_there past line sound follows), places_after (situation_of past) line.event (machine past line.moment line.event) (shape_there past line sound) sound.places)
 
@@ -264,7 +263,7 @@ issued_period (reply.Released s) period = tt
 issued_period (reply.Installed version budget) period = tt
 issued_period (reply.Moved s p) period = tt
 
-ticket_periods_step : (past : Past) (line : Line) → IsSound past → Follows past line → AllByRecursion (λ ticket. ticket.period ≤ (next_standing past line).period) (open_of (passed past line).stages)
+ticket_periods_step : (past : Past) (line : EntryData) → IsSound past → Follows past line → AllByRecursion (λ ticket. ticket.period ≤ (next_standing past line).period) (open_of (passed past line).stages)
 ticket_periods_step past line sound follows =
     let near = decision_near (situation_of past) line.moment line.event in
     let r : Reply = (machine past line.moment line.event).reply in
@@ -277,7 +276,7 @@ ticket_periods_step past line sound follows =
 some_permitted : (past : Past) → IsSound past → 1 ≤ past.opening.config.permitted_number_of_calls_in_half_open_state
 some_permitted past sound = within_least 1 10000 past.opening.config.permitted_number_of_calls_in_half_open_state (ranges (2 ^ 40) past.opening.config sound.opening.config).permitted
 
-permissions_step : (past : Past) (line : Line) → IsSound past → Follows past line → is_half_open (next_standing past line).state ≡ true
+permissions_step : (past : Past) (line : EntryData) → IsSound past → Follows past line → is_half_open (next_standing past line).state ≡ true
     → permissions_held (next_standing past line).period (open_of (passed past line).stages) + length (notes_of (passed past line)) ≤ past.opening.config.permitted_number_of_calls_in_half_open_state
 permissions_step past line sound follows half =
     let d : Decision = machine past line.moment line.event in
@@ -292,12 +291,12 @@ one_at_most : {A : Type 0} (o : Option A) → one_where_some o ≤ 1
 one_at_most None = omega arith
 one_at_most (Some x) = omega arith
 
-installed_safe : (event : Happening) (o : Option VerifiedProgram) → ((p : VerifiedProgram) → o ≡ Some p → event ≡ installs p) → IsSafeEvent event → AreSafePrograms (option_to_list o)
+installed_safe : (event : EventData) (o : Option VerifiedProgram) → ((p : VerifiedProgram) → o ≡ Some p → event ≡ installs p) → IsSafeEvent event → AreSafePrograms (option_to_list o)
 installed_safe event None from safe_ = tt
 installed_safe event (Some p) from safe_ = (safe_.installs_safe p (from p refl), tt)
 
 -- what came before still carries the meaning's verdicts, and so does the line that comes
-meant_step : (past : Past) (line : Line) (programs : List VerifiedProgram) (tickets : List OpenTicket) → IsSound past → Follows past line → IsSafeEvent line.event
+meant_step : (past : Past) (line : EntryData) (programs : List VerifiedProgram) (tickets : List OpenTicket) → IsSound past → Follows past line → IsSafeEvent line.event
     → AllByRecursion (λ stage. IsMeantLine past.opening.version (programs_of past ++ programs) (issued past.stages ++ tickets) stage.line) (past.stages ++ stage_of past line ∷ [])
 meant_step past line programs tickets sound follows safe_ =
     let Before : Stage → Type 0 = λ stage. IsMeantLine past.opening.version (programs_of past) (issued past.stages) stage.line in
@@ -309,7 +308,7 @@ meant_step past line programs tickets sound follows safe_ =
       tt,
     )
 
-verdicts_step : (past : Past) (line : Line) → IsSound past → Follows past line → IsSafeEvent line.event
+verdicts_step : (past : Past) (line : EntryData) → IsSound past → Follows past line → IsSafeEvent line.event
     → AllByRecursion (λ stage. IsMeantLine past.opening.version (programs_of (passed past line)) (issued (passed past line).stages) stage.line) (passed past line).stages
 verdicts_step past line sound follows safe_ =
     let programs : programs_of (passed past line) ≡ programs_of past ++ option_to_list (install_by line.event line.reply) = ap (λ (ps : List VerifiedProgram). past.opening.program ∷ ps) (map_with install_at past.stages (stage_of past line)) in
@@ -318,7 +317,7 @@ verdicts_step past line sound follows safe_ =
     subst (λ (ps : List VerifiedProgram). AllByRecursion (λ stage. IsMeantLine past.opening.version ps (issued (passed past line).stages) stage.line) (passed past line).stages) (sym programs)
     (subst (λ (ts : List OpenTicket). AllByRecursion (λ stage. IsMeantLine past.opening.version (programs_of past ++ option_to_list (install_by line.event line.reply)) ts stage.line) (passed past line).stages) (sym tickets) all)
 
-pub sound_step : (past : Past) (line : Line) → IsSound past → Follows past line → IsSafeLine line → IsSound (passed past line)
+pub sound_step : (past : Past) (line : EntryData) → IsSound past → Follows past line → IsSafeLine line → IsSound (passed past line)
 sound_step past line sound follows safe_ =
     let near = decision_near (situation_of past) line.moment line.event in
     let move = move_there past line sound follows in

@@ -3,22 +3,24 @@ use Rattle.std.proofs.Common.{◌≡◌, ℕ, zero, suc, ◌+◌, ◌≤◌, ◌
 use Rattle.std.specs.List.{filter, fold, AllByRecursion}
 use Rattle.bpf_profile.specs.declared.machine.Verdict.TheVariants as verdict
 use Rattle.std.proofs.lemmas.Bool.Decides.{Decides-eqb}
-use Rattle.book.specs.declared.configuration.ConfigParts.{ConfigParts}
-use Rattle.book.specs.declared.machine.Decision.{Decision}
-use Rattle.book.specs.declared.registry.OpenTicket.{OpenTicket}
-use Rattle.book.specs.declared.replies.Fate.{Fate}
-use Rattle.book.specs.declared.replies.Fate.TheVariants as fate
-use Rattle.book.specs.declared.replies.Reply.{Reply}
-use Rattle.book.specs.declared.replies.Reply.TheVariants as reply
-use Rattle.book.specs.declared.states.State.{State}
-use Rattle.book.specs.Events.{Happening, acquires, finishes, releases, installs, moves, resets, Line, Opening, History}
-use Rattle.book.specs.Histories.{Stage, Past, programs_of, note_by, ended, issued, is_listed, open_of, opened, passed, past_of, next_line, situation_of, machine, Follows, AreLegal, IsLegal}
+use Rattle.service_profile.specs.declared.configuration.ConfigParts.{ConfigParts}
+use Rattle.service_profile.specs.declared.decisions.Decision.{Decision}
+use Rattle.service_profile.specs.declared.tickets.OpenTicket.{OpenTicket}
+use Rattle.service_profile.specs.declared.replies.Fate.{Fate}
+use Rattle.service_profile.specs.declared.replies.Fate.TheVariants as fate
+use Rattle.service_profile.specs.declared.replies.Reply.{Reply}
+use Rattle.service_profile.specs.declared.replies.Reply.TheVariants as reply
+use Rattle.service_profile.specs.declared.states.State.{State}
+use Rattle.service_profile.specs.Events.{EventData, acquires, finishes, releases, installs, moves, resets, EntryData, Opening, History}
+use Rattle.service_profile.specs.Histories.{Stage, Past, programs_of, note_by, ended, issued, is_listed, open_of, opened, passed, past_of, next_line, situation_of, machine, Follows, AreLegal, IsLegal}
 use Rattle.book.specs.Laws.{IsLine, IsService, IsMeantNote, HasMeantNote}
-use Rattle.book.specs.Answers.{cut}
-use Rattle.book.specs.Machine.{is_open, is_ignored, note_of}
+use Rattle.service_profile.specs.Answers.{cut}
+use Rattle.service_profile.specs.Machine.{is_open, is_ignored, note_of}
 use Rattle.book.specs.Safe.{IsVerifiedProgram}
-use Rattle.book.specs.Sound.{IsOpening, IsMeantLine, IsSound}
-use Rattle.book.specs.declared.windows.Note.{Note}
+use Rattle.service_profile.specs.Openings.{IsOpening}
+use Rattle.service_profile.specs.MeantVerdicts.{IsMeantLine}
+use Rattle.book.specs.Sound.{IsSound}
+use Rattle.service_profile.specs.declared.notes.Note.{Note}
 use Rattle.book.proofs.Applying.{same_opening}
 use Rattle.book.proofs.Deciding.{Shape, refuses, permits, concludes, lets_go, takes_in, turns}
 use Rattle.book.proofs.Keeping.{shape_there, sound_step}
@@ -27,7 +29,7 @@ use Rattle.book.proofs.Lists.{all_weaken}
 use Rattle.book.proofs.SafeEvents.{Safely, safe_program, line_safe}
 use Rattle.book.proofs.Worlds.{cut_opening, cut_program}
 
-sound_from : Safely → (past : Past) (lines : List Line) → IsSound past → AreLegal past lines → AllByRecursion IsLine lines → IsSound (fold passed past lines)
+sound_from : Safely → (past : Past) (lines : List EntryData) → IsSound past → AreLegal past lines → AllByRecursion IsLine lines → IsSound (fold passed past lines)
 sound_from safely past [] sound legal good = sound
 sound_from safely past (l ∷ lines) sound legal good = sound_from safely (passed past l) lines (sound_step past l sound legal.0 (line_safe safely l good.0)) legal.1 good.1
 
@@ -42,17 +44,17 @@ places_kept safely history service =
 
 -- ---- numbers
 
-numbered_from : (past : Past) (lines : List Line) (place : ℕ) (l : Line) → AreLegal past lines → slice_get lines place ≡ Some l → l.number ≡ next_line past + place
-numbered_from past [] place l legal e = let bad : ◌≡◌ {A = Option Line} None (Some l) = e in cc
+numbered_from : (past : Past) (lines : List EntryData) (place : ℕ) (l : EntryData) → AreLegal past lines → slice_get lines place ≡ Some l → l.number ≡ next_line past + place
+numbered_from past [] place l legal e = let bad : ◌≡◌ {A = Option EntryData} None (Some l) = e in cc
 numbered_from past (m ∷ lines) zero l legal e =
-    let same : ◌≡◌ {A = Option Line} (Some m) (Some l) = e in let is : m ≡ l = cc in
-    omega (arith, legal.0.numbered, ap (λ (x : Line). x.number) is)
+    let same : ◌≡◌ {A = Option EntryData} (Some m) (Some l) = e in let is : m ≡ l = cc in
+    omega (arith, legal.0.numbered, ap (λ (x : EntryData). x.number) is)
 numbered_from past (m ∷ lines) (suc place) l legal e =
     let rest = numbered_from (passed past m) lines place l legal.1 e in
     let count : length (passed past m).stages ≡ length past.stages + 1 = length-append past.stages (record { line = m; before = past.standing; after = (machine past m.moment m.event).next } ∷ []) in
     omega (arith, rest, count)
 
-pub numbers_kept : (history : History) (place : ℕ) (l : Line) → IsLegal history → slice_get history.lines place ≡ Some l → l.number ≡ history.opening.line + place
+pub numbers_kept : (history : History) (place : ℕ) (l : EntryData) → IsLegal history → slice_get history.lines place ≡ Some l → l.number ≡ history.opening.line + place
 unfolding IsLegal
 numbers_kept history place l legal e = omega (arith, numbered_from (opened history.opening) history.lines place l legal e)
 
@@ -75,7 +77,7 @@ spent_not_open stages number listed = spent_closed (ended stages) number (issued
 
 -- ---- ignored verdicts
 
-unnoted : (config : ConfigParts) (moment : ℕ) (event : Happening) (f : Fate) (steps version : ℕ) (st : State) → (f ≡ fate.Recorded → ⊥) → note_by config moment event (reply.Finished f verdict.Ignored steps version st) ≡ None
+unnoted : (config : ConfigParts) (moment : ℕ) (event : EventData) (f : Fate) (steps version : ℕ) (st : State) → (f ≡ fate.Recorded → ⊥) → note_by config moment event (reply.Finished f verdict.Ignored steps version st) ≡ None
 unnoted config moment (finishes work ticket) fate.Recorded steps version st h = absurd (h refl)
 unnoted config moment (finishes work ticket) fate.Ignored steps version st h = refl
 unnoted config moment (finishes work ticket) fate.Off steps version st h = refl
@@ -89,7 +91,7 @@ unnoted config moment resets f steps version st h = refl
 other_reply : (r a b : Reply) → r ≡ a → r ≡ b → a ≡ b
 other_reply r a b p q = sym p ∙ q
 
-ignored_fate : (past : Past) (event : Happening) (d : Decision) (f : Fate) (steps version : ℕ) (st : State) → Shape (situation_of past) event d → d.reply ≡ reply.Finished f verdict.Ignored steps version st → f ≡ fate.Recorded → ⊥
+ignored_fate : (past : Past) (event : EventData) (d : Decision) (f : Fate) (steps version : ℕ) (st : State) → Shape (situation_of past) event d → d.reply ≡ reply.Finished f verdict.Ignored steps version st → f ≡ fate.Recorded → ⊥
 ignored_fate past event d f steps version st (refuses number e room) r h = let bad : ◌≡◌ {A = Reply} (reply.Refused number) (reply.Finished f verdict.Ignored steps version st) = sym e ∙ r in cc
 ignored_fate past event d f steps version st (permits v s e p room free given) r h = let bad : ◌≡◌ {A = Reply} (reply.Permitted (situation_of past).next_ticket v s) (reply.Finished f verdict.Ignored steps version st) = sym p ∙ r in cc
 ignored_fate past event d f steps version st (concludes work ticket g w k v s e p there present counted is) r h =
@@ -101,7 +103,7 @@ ignored_fate past event d f steps version st (lets_go ticket s e p there) r h = 
 ignored_fate past event d f steps version st (takes_in program v budget e p less room) r h = let bad : ◌≡◌ {A = Reply} (reply.Installed v budget) (reply.Finished f verdict.Ignored steps version st) = sym p ∙ r in cc
 ignored_fate past event d f steps version st (turns s q p room) r h = let bad : ◌≡◌ {A = Reply} (reply.Moved s q) (reply.Finished f verdict.Ignored steps version st) = sym p ∙ r in cc
 
-pub ignored_unnoted : Safely → (history : History) (l : Line) (f : Fate) (steps version : ℕ) (st : State) → IsService history → Follows (past_of history) l → l.reply ≡ reply.Finished f verdict.Ignored steps version st
+pub ignored_unnoted : Safely → (history : History) (l : EntryData) (f : Fate) (steps version : ℕ) (st : State) → IsService history → Follows (past_of history) l → l.reply ≡ reply.Finished f verdict.Ignored steps version st
     → note_by history.opening.config l.moment l.event l.reply ≡ None
 ignored_unnoted safely history l f steps version st service follows r =
     let sound = service_sound safely history service in
@@ -110,7 +112,7 @@ ignored_unnoted safely history l f steps version st service follows r =
 
 -- ---- notes
 
-noted_by : (past : Past) (line : Line) (event : Happening) (r : Reply) (note : Note) → line.event ≡ event → line.reply ≡ r → note_by past.opening.config line.moment event r ≡ Some note
+noted_by : (past : Past) (line : EntryData) (event : EventData) (r : Reply) (note : Note) → line.event ≡ event → line.reply ≡ r → note_by past.opening.config line.moment event r ≡ Some note
     → IsMeantLine past.opening.version (programs_of past) (issued past.stages) line → IsMeantNote past line note
 noted_by past line (finishes work ticket) (reply.Finished fate.Recorded v steps version st) note e r n meant =
     let same : ◌≡◌ {A = Option Note} (Some (note_of past.opening.config line.moment v work.outcome)) (Some note) = n in

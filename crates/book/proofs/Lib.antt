@@ -6,6 +6,7 @@ pub mod Deciding
 pub mod Meaning
 pub mod SafeEvents
 pub mod Passing
+pub mod Planned
 pub mod Permissions
 pub mod Keeping
 pub mod Applying

@@ -6,21 +6,21 @@ use Rattle.std.proofs.lemmas.Bool.Decides.{Decides-eqb}
 use Rattle.std.proofs.lemmas.List.Elements.{Contains-append_left, Contains-append_right}
 use Rattle.bpf_profile.specs.declared.machine.Verdict.{Verdict}
 use Rattle.bpf_profile.specs.Meaning.{Judges}
-use Rattle.bpf_run.specs.JudgedWork.{Work}
-use Rattle.verifier.specs.Analysis.{context_size}
-use Rattle.verifier.specs.Programs.{VerifiedProgram}
-use Rattle.book.specs.declared.machine.Decision.{Decision}
-use Rattle.book.specs.declared.registry.OpenTicket.{OpenTicket}
-use Rattle.book.specs.declared.replies.Fate.{Fate}
-use Rattle.book.specs.declared.replies.Reply.{Reply}
-use Rattle.book.specs.declared.replies.Reply.TheVariants as reply
-use Rattle.book.specs.declared.states.State.{State}
-use Rattle.book.specs.Events.{Happening, finishes}
-use Rattle.book.specs.Histories.{Past, issued, programs_of, situation_of}
-use Rattle.book.specs.Machine.{open_ticket}
+use Rattle.bpf_profile.specs.JudgedWork.{JudgedData}
+use Rattle.bpf_profile.specs.Outcomes.{context_size}
+use Rattle.bpf_profile.specs.Programs.{VerifiedProgram}
+use Rattle.service_profile.specs.declared.decisions.Decision.{Decision}
+use Rattle.service_profile.specs.declared.tickets.OpenTicket.{OpenTicket}
+use Rattle.service_profile.specs.declared.replies.Fate.{Fate}
+use Rattle.service_profile.specs.declared.replies.Reply.{Reply}
+use Rattle.service_profile.specs.declared.replies.Reply.TheVariants as reply
+use Rattle.service_profile.specs.declared.states.State.{State}
+use Rattle.service_profile.specs.Events.{EventData, finishes}
+use Rattle.service_profile.specs.Histories.{Past, issued, programs_of, situation_of}
+use Rattle.service_profile.specs.Machine.{open_ticket}
 use Rattle.book.specs.Safe.{AreSafePrograms, IsJudged}
-use Rattle.book.specs.Sound.{IsMeant}
-use Rattle.book.specs.Verdicts.{judgement}
+use Rattle.service_profile.specs.MeantVerdicts.{IsMeant}
+use Rattle.service_profile.specs.Verdicts.{judgement}
 use Rattle.book.proofs.Deciding.{Shape, refuses, permits, concludes, lets_go, takes_in, turns, IsByVersion}
 use Rattle.book.proofs.Judging.{judgement_judges, program_safe}
 use Rattle.book.proofs.Lists.{still_there}
@@ -49,7 +49,7 @@ later_held : (test : Bool) (programs more : List VerifiedProgram) (place : ℕ) 
 later_held true programs more place program e = still_there programs more place program e
 later_held false programs more place program e = e
 
-pub still_meant : (first : ℕ) (programs more : List VerifiedProgram) (tickets others : List OpenTicket) (work : Work) (ticket : ℕ) (v : Verdict) (steps version : ℕ)
+pub still_meant : (first : ℕ) (programs more : List VerifiedProgram) (tickets others : List OpenTicket) (work : JudgedData) (ticket : ℕ) (v : Verdict) (steps version : ℕ)
     → IsMeant first programs tickets work ticket v steps version → IsMeant first (programs ++ more) (tickets ++ others) work ticket v steps version
 still_meant first programs more tickets others work ticket v steps version meant_ = record {
   issued = meant_.issued;
@@ -63,7 +63,7 @@ still_meant first programs more tickets others work ticket v steps version meant
 
 -- ---- the line that comes
 
-by_version : (past : Past) (work : Work) (ticket : ℕ) (v : Verdict) (steps version : ℕ) → AreSafePrograms (programs_of past) → IsJudged work → IsByVersion (situation_of past) work ticket v steps version
+by_version : (past : Past) (work : JudgedData) (ticket : ℕ) (v : Verdict) (steps version : ℕ) → AreSafePrograms (programs_of past) → IsJudged work → IsByVersion (situation_of past) work ticket v steps version
     → IsMeant past.opening.version (programs_of past) (issued past.stages) work ticket v steps version
 by_version past work ticket v steps version safe_ judged_ is =
     let there = found_there _ (issued past.stages) ticket is.opened is.found in
@@ -79,13 +79,13 @@ by_version past work ticket v steps version safe_ judged_ is =
       meant = subst (λ (w : Verdict). Judges context_size is.program.slots work.outcome w steps) is.verdict_is (subst (λ (k : ℕ). Judges context_size is.program.slots work.outcome (judgement is.program work.outcome).verdict k) is.steps_are judges);
     }
 
-pub meant_by : (past : Past) (event : Happening) (d : Decision) (work : Work) (ticket : ℕ) (f : Fate) (v : Verdict) (steps version : ℕ) (st : State)
+pub meant_by : (past : Past) (event : EventData) (d : Decision) (work : JudgedData) (ticket : ℕ) (f : Fate) (v : Verdict) (steps version : ℕ) (st : State)
     → AreSafePrograms (programs_of past) → IsJudged work → Shape (situation_of past) event d → event ≡ finishes work ticket → d.reply ≡ reply.Finished f v steps version st
     → IsMeant past.opening.version (programs_of past) (issued past.stages) work ticket v steps version
 meant_by past event d work ticket f v steps version st safe_ judged_ (refuses number e room) same r = let bad : ◌≡◌ {A = Reply} (reply.Refused number) (reply.Finished f v steps version st) = sym e ∙ r in cc
 meant_by past event d work ticket f v steps version st safe_ judged_ (permits w s e p room free given) same r = let bad : ◌≡◌ {A = Reply} (reply.Permitted (situation_of past).next_ticket w s) (reply.Finished f v steps version st) = sym p ∙ r in cc
 meant_by past event d work ticket f v steps version st safe_ judged_ (concludes other number g w k n s e p there present counted is) same r =
-    let events : ◌≡◌ {A = Happening} (finishes other number) (finishes work ticket) = sym e ∙ same in
+    let events : ◌≡◌ {A = EventData} (finishes other number) (finishes work ticket) = sym e ∙ same in
     let works : other ≡ work = cc in
     let numbers : number ≡ ticket = cc in
     let replies : ◌≡◌ {A = Reply} (reply.Finished g w k n s) (reply.Finished f v steps version st) = sym p ∙ r in
@@ -93,7 +93,7 @@ meant_by past event d work ticket f v steps version st safe_ judged_ (concludes 
     let counts : k ≡ steps = cc in
     let versions : n ≡ version = cc in
     by_version past work ticket v steps version safe_ judged_
-    (subst (λ (x : Work). IsByVersion (situation_of past) x ticket v steps version) works
+    (subst (λ (x : JudgedData). IsByVersion (situation_of past) x ticket v steps version) works
     (subst (λ (x : ℕ). IsByVersion (situation_of past) other x v steps version) numbers
     (subst (λ (x : Verdict). IsByVersion (situation_of past) other number x steps version) verdicts
     (subst (λ (x : ℕ). IsByVersion (situation_of past) other number w x version) counts

@@ -1,25 +1,25 @@
 -- A book that has just been opened, and what any book shows.
-use Rattle.std.proofs.Common.{◌≡◌, ℕ, ◌+◌, ◌≤◌, ◌<◌, ◌⊎◌, inl, inr, List, [], ◌∷◌, map, length, Some, None, Result, Ok, Err, arith, refl, ap, sym, ◌∙◌}
+use Rattle.std.proofs.Common.{◌≡◌, ℕ, ◌+◌, ◌≤◌, ◌<◌, ◌⊎◌, inl, inr, List, [], ◌∷◌, map, length, true, Some, None, Result, Ok, Err, arith, refl, ap, sym, ◌∙◌}
 use Rattle.std.specs.Arc.{arc_value}
 use Rattle.book.specs.Safe.{IsSafeProgram}
 use Rattle.refusals.specs.declared.RefusalNumber.{RefusalNumber}
 use Rattle.refusals.specs.declared.RefusalNumber.TheVariants as refusal
-use Rattle.verifier.specs.Programs.{VerifiedProgram}
+use Rattle.bpf_profile.specs.Programs.{VerifiedProgram}
 use Rattle.book.specs.declared.breaker.Breaker.{Breaker}
-use Rattle.book.specs.declared.configuration.ConfigParts.{ConfigParts}
+use Rattle.service_profile.specs.declared.configuration.ConfigParts.{ConfigParts}
 use Rattle.book.specs.declared.registry.Registry.{Registry}
-use Rattle.book.specs.declared.states.State.TheVariants as state
-use Rattle.book.specs.Answers.{IsLooked, looks, no_owner, looked, looked_under}
-use Rattle.book.specs.Books.{opening_of, history_of, first_opening, IsBook}
+use Rattle.service_profile.specs.declared.states.State.TheVariants as state
+use Rattle.service_profile.specs.Answers.{IsLooked, looks, no_owner, looked, looked_under}
+use Rattle.service_profile.specs.Openings.{first_opening, IsOpening}
+use Rattle.service_profile.specs.Events.{history_of, EntryData, Opening}
+use Rattle.book.specs.Books.{opening_of, IsBook}
 use Rattle.book.specs.declared.books.Start.{Start}
-use Rattle.book.specs.Configuration.{bad_field}
-use Rattle.book.specs.Events.{Line, Opening}
-use Rattle.book.specs.Histories.{opened, past_of, situation_of, next_line, IsLegal}
-use Rattle.book.specs.declared.registry.OpenTicket.{OpenTicket}
-use Rattle.std.proofs.lemmas.Bool.{le-leb, lt-ltb}
-use Rattle.book.specs.Machine.{Situation, open_ticket}
+use Rattle.service_profile.specs.Configuration.{bad_field}
+use Rattle.service_profile.specs.Histories.{opened, past_of, situation_of, next_line, IsLegal}
+use Rattle.service_profile.specs.declared.tickets.OpenTicket.{OpenTicket}
+use Rattle.service_profile.specs.Machine.{Situation, is_issued, open_ticket}
 use Rattle.book.specs.Situations.{situation}
-use Rattle.book.specs.Sound.{IsOpening, IsSound}
+use Rattle.book.specs.Sound.{IsSound}
 use Rattle.book.proofs.Applying.{same_opening, stage_count}
 use Rattle.book.proofs.Configured.{in_range}
 
@@ -79,21 +79,21 @@ begun_situation config start breaker registry standing notes first programs tick
 
 -- ---- what a book shows
 
-pub line_least : (opening : Opening) (s : Situation) (refused moment : ℕ) (lines : List Line) → IsBook opening s refused moment lines → 1 ≤ opening.line
+pub line_least : (opening : Opening) (s : Situation) (refused moment : ℕ) (lines : List EntryData) → IsBook opening s refused moment lines → 1 ≤ opening.line
 line_least opening s refused moment lines book = omega (arith, book.sound.opening.first_line, ap (λ (o : Opening). o.line) (same_opening opening lines))
 
-pub next_line_is : (opening : Opening) (lines : List Line) → opening.line + length lines ≡ next_line (past_of (history_of opening lines))
+pub next_line_is : (opening : Opening) (lines : List EntryData) → opening.line + length lines ≡ next_line (past_of (history_of opening lines))
 next_line_is opening lines = omega (arith, stage_count opening lines, ap (λ (o : Opening). o.line) (same_opening opening lines))
 
-pub looked_there : (opening : Opening) (s : Situation) (refused moment : ℕ) (lines : List Line) (ticket : ℕ) (program : VerifiedProgram) (r : Result VerifiedProgram RefusalNumber)
+pub looked_there : (opening : Opening) (s : Situation) (refused moment : ℕ) (lines : List EntryData) (ticket : ℕ) (program : VerifiedProgram) (r : Result VerifiedProgram RefusalNumber)
     → IsBook opening s refused moment lines → looked s ticket ≡ Ok program → (r ≡ Ok program) ⊎ (r ≡ Err refusal.ServiceOutOfMemory) → IsLooked (history_of opening lines) ticket r
 looked_there opening s refused moment lines ticket program r book found (inl e) = looks (e ∙ sym found ∙ ap (λ (t : Situation). looked t ticket) book.situated)
 looked_there opening s refused moment lines ticket program r book found (inr e) = no_owner program e (ap (λ (t : Situation). looked t ticket) (sym book.situated) ∙ found)
 
-pub refused_there : (opening : Opening) (s : Situation) (refused moment : ℕ) (lines : List Line) (ticket : ℕ) (number : RefusalNumber)
+pub refused_there : (opening : Opening) (s : Situation) (refused moment : ℕ) (lines : List EntryData) (ticket : ℕ) (number : RefusalNumber)
     → IsBook opening s refused moment lines → looked s ticket ≡ Err number → IsLooked (history_of opening lines) ticket (Err number)
 refused_there opening s refused moment lines ticket number book lost = looks (sym lost ∙ ap (λ (t : Situation). looked t ticket) book.situated)
 
 -- a look under an open ticket
-pub looked_open : (s : Situation) (ticket : ℕ) (t : OpenTicket) → 1 ≤ ticket → ticket < s.next_ticket → open_ticket s.open_tickets ticket ≡ Some t → looked s ticket ≡ looked_under s (Some t)
-looked_open s ticket t least less found = rw (le-leb 1 ticket least, lt-ltb ticket s.next_ticket less, found) refl
+pub looked_open : (s : Situation) (ticket : ℕ) (t : OpenTicket) → is_issued s ticket ≡ true → open_ticket s.open_tickets ticket ≡ Some t → looked s ticket ≡ looked_under s (Some t)
+looked_open s ticket t issued found = rw (issued, found) refl

@@ -8,10 +8,11 @@ use Rattle.std.proofs.lemmas.List.Elements.{filter-append}
 use Rattle.std.proofs.lemmas.List.Folds.{list_any-append}
 use Rattle.std.proofs.lemmas.List.Sums.{fold-append}
 use Rattle.std.proofs.Math.Nat.{max-eq_right}
-use Rattle.book.specs.declared.configuration.ConfigParts.{ConfigParts}
-use Rattle.book.specs.declared.registry.OpenTicket.{OpenTicket}
-use Rattle.book.specs.Following.{notes_after, is_number, tickets_after, one_where_some, is_refused_call, refused_after}
-use Rattle.book.specs.Histories.{Stage, note_at, taken_in, issue_at, end_at, issued, ended, is_listed, open_of, refused_in}
+use Rattle.service_profile.specs.declared.configuration.ConfigParts.{ConfigParts}
+use Rattle.service_profile.specs.declared.tickets.OpenTicket.{OpenTicket}
+use Rattle.service_profile.specs.Machine.{is_refused_call}
+use Rattle.book.specs.Following.{notes_after, is_number, tickets_after, one_where_some, refused_after}
+use Rattle.service_profile.specs.Histories.{Stage, note_at, taken_in, issue_at, end_at, issued, ended, is_listed, open_of, refused_in}
 use Rattle.book.proofs.Lists.{none_kept, kept_again, same_kept, map_with, one_kept, one_dropped}
 
 -- no stage was taken in a later period than this, nor led to one
@@ -99,7 +100,7 @@ refused_by false stages stage before le e =
     ∙ ap (λ (n : ℕ). 0 + n) (last_refused stage)
 
 pub refused_step : (stages : List Stage) (stage : Stage) → AreBefore stage.before.period stages → stage.before.period ≤ stage.after.period
-    → refused_in stage.after.period (stages ++ stage ∷ []) ≡ refused_after stage.before stage.after (refused_in stage.before.period stages) stage.line.reply
+    → refused_in stage.after.period (stages ++ stage ∷ []) ≡ refused_after stage.before stage.after (refused_in stage.before.period stages) (is_refused_call stage.line.reply)
 refused_step stages stage before le = refused_by (stage.after.period == stage.before.period) stages stage before le refl
 
 -- ---- tickets

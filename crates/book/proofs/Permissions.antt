@@ -4,23 +4,23 @@ use Rattle.std.specs.List.{filter, AllByRecursion}
 use Rattle.std.proofs.lemmas.Bool.Decides.{Decides-eqb}
 use Rattle.std.proofs.lemmas.List.Elements.{filter-append}
 use Rattle.bpf_profile.specs.declared.machine.Verdict.{Verdict}
-use Rattle.bpf_run.specs.JudgedWork.{Work}
+use Rattle.bpf_profile.specs.JudgedWork.{JudgedData}
 use Rattle.refusals.specs.declared.RefusalNumber.{RefusalNumber}
-use Rattle.book.specs.declared.breaker.Standing.{Standing}
-use Rattle.book.specs.declared.configuration.ConfigParts.{ConfigParts}
-use Rattle.book.specs.declared.machine.Decision.{Decision}
-use Rattle.book.specs.declared.registry.OpenTicket.{OpenTicket}
-use Rattle.book.specs.declared.replies.Fate.{Fate}
-use Rattle.book.specs.declared.replies.Fate.TheVariants as fate
-use Rattle.book.specs.declared.replies.Reply.{Reply}
-use Rattle.book.specs.declared.replies.Reply.TheVariants as reply
-use Rattle.book.specs.declared.states.State.{State}
-use Rattle.book.specs.declared.windows.Note.{Note}
-use Rattle.book.specs.Events.{Happening, acquires, finishes, releases, installs, moves, resets}
+use Rattle.service_profile.specs.declared.standings.Standing.{Standing}
+use Rattle.service_profile.specs.declared.configuration.ConfigParts.{ConfigParts}
+use Rattle.service_profile.specs.declared.decisions.Decision.{Decision}
+use Rattle.service_profile.specs.declared.tickets.OpenTicket.{OpenTicket}
+use Rattle.service_profile.specs.declared.replies.Fate.{Fate}
+use Rattle.service_profile.specs.declared.replies.Fate.TheVariants as fate
+use Rattle.service_profile.specs.declared.replies.Reply.{Reply}
+use Rattle.service_profile.specs.declared.replies.Reply.TheVariants as reply
+use Rattle.service_profile.specs.declared.states.State.{State}
+use Rattle.service_profile.specs.declared.notes.Note.{Note}
+use Rattle.service_profile.specs.Events.{EventData, acquires, finishes, releases, installs, moves, resets}
 use Rattle.book.specs.Following.{notes_after, is_number, tickets_after}
-use Rattle.book.specs.Histories.{note_by, issue_by, end_by}
-use Rattle.book.specs.Machine.{Situation, permissions_held, open_ticket}
-use Rattle.book.specs.Standings.{is_half_open}
+use Rattle.service_profile.specs.Histories.{note_by, issue_by, end_by}
+use Rattle.service_profile.specs.Machine.{Situation, permissions_held, open_ticket}
+use Rattle.service_profile.specs.Standings.{is_half_open}
 use Rattle.book.proofs.Deciding.{Shape, refuses, permits, concludes, lets_go, takes_in, turns, IsNear, IsPresent}
 use Rattle.book.proofs.Lists.{length_filter_le, all_kept, all_kept_by, none_kept}
 use Rattle.book.proofs.Passing.{eqb_false, strictly}
@@ -79,7 +79,7 @@ held_after_end period tickets n = ap (permissions_held period) (append-nil (filt
 
 -- ---- which replies make no note
 
-note_refused : (config : ConfigParts) (moment : ℕ) (event : Happening) (number : RefusalNumber) → note_by config moment event (reply.Refused number) ≡ None
+note_refused : (config : ConfigParts) (moment : ℕ) (event : EventData) (number : RefusalNumber) → note_by config moment event (reply.Refused number) ≡ None
 note_refused config moment acquires number = refl
 note_refused config moment (finishes work ticket) number = refl
 note_refused config moment (releases ticket) number = refl
@@ -87,7 +87,7 @@ note_refused config moment (installs program) number = refl
 note_refused config moment (moves to) number = refl
 note_refused config moment resets number = refl
 
-note_moved : (config : ConfigParts) (moment : ℕ) (event : Happening) (s : State) (period : ℕ) → note_by config moment event (reply.Moved s period) ≡ None
+note_moved : (config : ConfigParts) (moment : ℕ) (event : EventData) (s : State) (period : ℕ) → note_by config moment event (reply.Moved s period) ≡ None
 note_moved config moment acquires s period = refl
 note_moved config moment (finishes work ticket) s period = refl
 note_moved config moment (releases ticket) s period = refl
@@ -95,7 +95,7 @@ note_moved config moment (installs program) s period = refl
 note_moved config moment (moves to) s period = refl
 note_moved config moment resets s period = refl
 
-end_none : (event : Happening) (number : RefusalNumber) → end_by event (reply.Refused number) ≡ None
+end_none : (event : EventData) (number : RefusalNumber) → end_by event (reply.Refused number) ≡ None
 end_none acquires number = refl
 end_none (finishes work ticket) number = refl
 end_none (releases ticket) number = refl
@@ -103,7 +103,7 @@ end_none (installs program) number = refl
 end_none (moves to) number = refl
 end_none resets number = refl
 
-end_none_moved : (event : Happening) (s : State) (period : ℕ) → end_by event (reply.Moved s period) ≡ None
+end_none_moved : (event : EventData) (s : State) (period : ℕ) → end_by event (reply.Moved s period) ≡ None
 end_none_moved acquires s period = refl
 end_none_moved (finishes work ticket) s period = refl
 end_none_moved (releases ticket) s period = refl
@@ -113,13 +113,13 @@ end_none_moved resets s period = refl
 
 -- ---- a line in the same period
 
-abbrev Left : Situation → Happening → Reply → ℕ → ℕ → ℕ
+abbrev Left : Situation → EventData → Reply → ℕ → ℕ → ℕ
 Left s event r period moment = permissions_held s.standing.period (tickets_after s.open_tickets (end_by event r) (issue_by r period)) + length (s.notes ++ option_to_list (note_by s.config moment event r))
 
 no_more_notes : (notes : List Note) → length (notes ++ []) ≡ length notes
 no_more_notes notes = ap length (append-nil notes)
 
-concluded_left : (s : Situation) (work : Work) (ticket : ℕ) (f : Fate) (v : Verdict) (steps version : ℕ) (st : State) (period moment limit : ℕ)
+concluded_left : (s : Situation) (work : JudgedData) (ticket : ℕ) (f : Fate) (v : Verdict) (steps version : ℕ) (st : State) (period moment limit : ℕ)
     → (next : Standing) → IsPresent s next ticket f → next.period ≡ s.standing.period
     → permissions_held s.standing.period s.open_tickets + length s.notes ≤ limit
     → Left s (finishes work ticket) (reply.Finished f v steps version st) period moment ≤ limit
@@ -133,7 +133,7 @@ concluded_left s work ticket fate.Off v steps version st period moment limit nex
 concluded_left s work ticket fate.Stale v steps version st period moment limit next present same le =
     omega (arith, le, held_after_end s.standing.period s.open_tickets ticket, held_kept s.standing.period (λ (t : OpenTicket). not (t.number == ticket)) s.open_tickets, no_more_notes s.notes)
 
-left_there : (s : Situation) (event : Happening) (d : Decision) (moment : ℕ) → Shape s event d → d.next ≡ s.standing → is_half_open d.next.state ≡ true
+left_there : (s : Situation) (event : EventData) (d : Decision) (moment : ℕ) → Shape s event d → d.next ≡ s.standing → is_half_open d.next.state ≡ true
     → permissions_held s.standing.period s.open_tickets + length s.notes ≤ s.config.permitted_number_of_calls_in_half_open_state
     → Left s event d.reply d.next.period moment ≤ s.config.permitted_number_of_calls_in_half_open_state
 left_there s event d moment (refuses number e room) same half le =
@@ -164,7 +164,7 @@ held_later period later tickets e o all less =
     (all_kept_by (λ (t : OpenTicket). t.period ≤ period) (λ (t : OpenTicket). not (is_number e t.number)) tickets all) in
     omega (arith, held_append later kept (option_to_list o), ap length none, held_option later o)
 
-by_period : (s : Situation) (event : Happening) (d : Decision) (moment : ℕ) (test : Bool) → (d.next.period == s.standing.period) ≡ test → Shape s event d → IsNear s.standing d.next 2
+by_period : (s : Situation) (event : EventData) (d : Decision) (moment : ℕ) (test : Bool) → (d.next.period == s.standing.period) ≡ test → Shape s event d → IsNear s.standing d.next 2
     → AllByRecursion (λ ticket. ticket.period ≤ s.standing.period) s.open_tickets → 1 ≤ s.config.permitted_number_of_calls_in_half_open_state
     → (is_half_open s.standing.state ≡ true → permissions_held s.standing.period s.open_tickets + length s.notes ≤ s.config.permitted_number_of_calls_in_half_open_state)
     → is_half_open d.next.state ≡ true
@@ -180,7 +180,7 @@ by_period s event d moment false e shape near all some old half =
     let later = strictly s.standing.period d.next.period near.least e in
     omega (arith, some, held_later s.standing.period d.next.period s.open_tickets (end_by event d.reply) (issue_by d.reply d.next.period) all later)
 
-pub permissions_after : (s : Situation) (event : Happening) (d : Decision) (moment : ℕ) → Shape s event d → IsNear s.standing d.next 2
+pub permissions_after : (s : Situation) (event : EventData) (d : Decision) (moment : ℕ) → Shape s event d → IsNear s.standing d.next 2
     → AllByRecursion (λ ticket. ticket.period ≤ s.standing.period) s.open_tickets → 1 ≤ s.config.permitted_number_of_calls_in_half_open_state
     → (is_half_open s.standing.state ≡ true → permissions_held s.standing.period s.open_tickets + length s.notes ≤ s.config.permitted_number_of_calls_in_half_open_state)
     → is_half_open d.next.state ≡ true

@@ -1,12 +1,12 @@
 -- From what operators can meet to what is safe: programs, events and lines.
 use Rattle.std.proofs.Common.{◌≡◌, ℕ, List, subst}
 use Rattle.bpf_profile.specs.Safety.{IsSafe}
-use Rattle.bpf_run.specs.JudgedWork.{Work}
-use Rattle.verifier.specs.Analysis.{context_size}
-use Rattle.verifier.specs.Programs.{VerifiedProgram}
+use Rattle.bpf_profile.specs.JudgedWork.{JudgedData}
+use Rattle.bpf_profile.specs.Outcomes.{context_size}
+use Rattle.bpf_profile.specs.Programs.{VerifiedProgram}
 use Rattle.verifier.specs.Verifying.{IsVerification}
-use Rattle.book.specs.declared.states.State.{State}
-use Rattle.book.specs.Events.{Happening, acquires, finishes, releases, installs, moves, resets, Line}
+use Rattle.service_profile.specs.declared.states.State.{State}
+use Rattle.service_profile.specs.Events.{EventData, acquires, finishes, releases, installs, moves, resets, EntryData}
 use Rattle.book.specs.Laws.{IsJudgedWork, IsEvent, IsLine}
 use Rattle.book.specs.Safe.{IsVerifiedProgram, IsSafeProgram, IsJudged, IsSafeEvent, IsSafeLine}
 
@@ -17,42 +17,42 @@ Safely = (bytes : List ℕ) (program : VerifiedProgram) → IsVerification bytes
 pub safe_program : Safely → (program : VerifiedProgram) → IsVerifiedProgram program → IsSafeProgram program
 safe_program safely program verified_ = record { verified = verified_; program_there = verified_.1.spelled.program; safe = safely verified_.0 program verified_.1 }
 
-pub judged_safe : Safely → (work : Work) → IsJudgedWork work → IsJudged work
+pub judged_safe : Safely → (work : JudgedData) → IsJudgedWork work → IsJudged work
 judged_safe safely work good = record { program = safe_program safely work.program good.program; outcome = good.outcome; tied = good.tied }
 
-pub event_safe : Safely → (event : Happening) → IsEvent event → IsSafeEvent event
+pub event_safe : Safely → (event : EventData) → IsEvent event → IsSafeEvent event
 event_safe safely event good = record {
   installs_safe = λ program e. safe_program safely program (good.installs_verified program e);
   judged = λ work ticket e. judged_safe safely work (good.judged work ticket e);
 }
 
-pub line_safe : Safely → (line : Line) → IsLine line → IsSafeLine line
+pub line_safe : Safely → (line : EntryData) → IsLine line → IsSafeLine line
 line_safe safely line good = record { word = good.word; seat = good.seat; event = event_safe safely line.event good.event }
 
 -- ---- events that bring no program and no work
 
 pub acquire_safe : IsSafeEvent acquires
 acquire_safe = record {
-  installs_safe = λ program e. (let bad : ◌≡◌ {A = Happening} acquires (installs program) = e in cc);
-  judged = λ work ticket e. (let bad : ◌≡◌ {A = Happening} acquires (finishes work ticket) = e in cc);
+  installs_safe = λ program e. (let bad : ◌≡◌ {A = EventData} acquires (installs program) = e in cc);
+  judged = λ work ticket e. (let bad : ◌≡◌ {A = EventData} acquires (finishes work ticket) = e in cc);
 }
 
 pub release_safe : (number : ℕ) → IsSafeEvent (releases number)
 release_safe number = record {
-  installs_safe = λ program e. (let bad : ◌≡◌ {A = Happening} (releases number) (installs program) = e in cc);
-  judged = λ work ticket e. (let bad : ◌≡◌ {A = Happening} (releases number) (finishes work ticket) = e in cc);
+  installs_safe = λ program e. (let bad : ◌≡◌ {A = EventData} (releases number) (installs program) = e in cc);
+  judged = λ work ticket e. (let bad : ◌≡◌ {A = EventData} (releases number) (finishes work ticket) = e in cc);
 }
 
 pub move_safe : (to : State) → IsSafeEvent (moves to)
 move_safe to = record {
-  installs_safe = λ program e. (let bad : ◌≡◌ {A = Happening} (moves to) (installs program) = e in cc);
-  judged = λ work ticket e. (let bad : ◌≡◌ {A = Happening} (moves to) (finishes work ticket) = e in cc);
+  installs_safe = λ program e. (let bad : ◌≡◌ {A = EventData} (moves to) (installs program) = e in cc);
+  judged = λ work ticket e. (let bad : ◌≡◌ {A = EventData} (moves to) (finishes work ticket) = e in cc);
 }
 
 pub reset_safe : IsSafeEvent resets
 reset_safe = record {
-  installs_safe = λ program e. (let bad : ◌≡◌ {A = Happening} resets (installs program) = e in cc);
-  judged = λ work ticket e. (let bad : ◌≡◌ {A = Happening} resets (finishes work ticket) = e in cc);
+  installs_safe = λ program e. (let bad : ◌≡◌ {A = EventData} resets (installs program) = e in cc);
+  judged = λ work ticket e. (let bad : ◌≡◌ {A = EventData} resets (finishes work ticket) = e in cc);
 }
 
 -- ---- events that bring a safe program, or judged work
@@ -60,11 +60,11 @@ reset_safe = record {
 pub install_safe : (program : VerifiedProgram) → IsSafeProgram program → IsSafeEvent (installs program)
 install_safe program good = record {
   installs_safe = λ other e. (let same : program ≡ other = cc in subst IsSafeProgram same good);
-  judged = λ work ticket e. (let bad : ◌≡◌ {A = Happening} (installs program) (finishes work ticket) = e in cc);
+  judged = λ work ticket e. (let bad : ◌≡◌ {A = EventData} (installs program) (finishes work ticket) = e in cc);
 }
 
-pub finish_safe : (work : Work) (ticket : ℕ) → IsJudged work → IsSafeEvent (finishes work ticket)
+pub finish_safe : (work : JudgedData) (ticket : ℕ) → IsJudged work → IsSafeEvent (finishes work ticket)
 finish_safe work ticket good = record {
-  installs_safe = λ program e. (let bad : ◌≡◌ {A = Happening} (finishes work ticket) (installs program) = e in cc);
+  installs_safe = λ program e. (let bad : ◌≡◌ {A = EventData} (finishes work ticket) (installs program) = e in cc);
   judged = λ other number e. (let same : work ≡ other = cc in subst IsJudged same good);
 }

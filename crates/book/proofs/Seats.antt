@@ -1,25 +1,25 @@
 -- One line more, for the seat that made it and for the others.
 use Rattle.std.proofs.Common.{◌≡◌, ℕ, ◌==◌, true, false, List, [], ◌∷◌, ◌++◌, ap, sym, ◌∙◌, append-nil, append_assoc}
 use Rattle.std.proofs.lemmas.List.Elements.{filter-append}
-use Rattle.book.specs.Events.{Line}
-use Rattle.book.specs.Seats.{lines_of, BeginsWith}
+use Rattle.service_profile.specs.Events.{EntryData}
+use Rattle.service_profile.specs.Seats.{lines_of, BeginsWith}
 use Rattle.book.proofs.Lists.{one_kept, one_dropped}
 
 -- a seat's own line comes behind its others
-pub own_line : (seat : ℕ) (lines : List Line) (l : Line) → (l.seat == seat) ≡ true → lines_of seat (lines ++ l ∷ []) ≡ lines_of seat lines ++ l ∷ []
+pub own_line : (seat : ℕ) (lines : List EntryData) (l : EntryData) → (l.seat == seat) ≡ true → lines_of seat (lines ++ l ∷ []) ≡ lines_of seat lines ++ l ∷ []
 own_line seat lines l own =
-    filter-append (λ (m : Line). m.seat == seat) lines (l ∷ [])
-    ∙ ap (λ (ms : List Line). lines_of seat lines ++ ms) (one_kept (λ (m : Line). m.seat == seat) l own)
+    filter-append (λ (m : EntryData). m.seat == seat) lines (l ∷ [])
+    ∙ ap (λ (ms : List EntryData). lines_of seat lines ++ ms) (one_kept (λ (m : EntryData). m.seat == seat) l own)
 
 -- another seat's line changes nothing for it
-pub other_line : (seat : ℕ) (lines : List Line) (l : Line) → (l.seat == seat) ≡ false → lines_of seat (lines ++ l ∷ []) ≡ lines_of seat lines
+pub other_line : (seat : ℕ) (lines : List EntryData) (l : EntryData) → (l.seat == seat) ≡ false → lines_of seat (lines ++ l ∷ []) ≡ lines_of seat lines
 other_line seat lines l other =
-    filter-append (λ (m : Line). m.seat == seat) lines (l ∷ [])
-    ∙ ap (λ (ms : List Line). lines_of seat lines ++ ms) (one_dropped (λ (m : Line). m.seat == seat) l other)
+    filter-append (λ (m : EntryData). m.seat == seat) lines (l ∷ [])
+    ∙ ap (λ (ms : List EntryData). lines_of seat lines ++ ms) (one_dropped (λ (m : EntryData). m.seat == seat) l other)
     ∙ append-nil (lines_of seat lines)
 
-pub begins_with_itself : (lines : List Line) → BeginsWith lines lines
+pub begins_with_itself : (lines : List EntryData) → BeginsWith lines lines
 begins_with_itself lines = ([], sym (append-nil lines))
 
-pub begins_with_more : (later earlier : List Line) (l : Line) → BeginsWith later earlier → BeginsWith (later ++ l ∷ []) earlier
-begins_with_more later earlier l begins = (begins.0 ++ l ∷ [], ap (λ (ms : List Line). ms ++ l ∷ []) begins.1 ∙ append_assoc earlier begins.0 (l ∷ []))
+pub begins_with_more : (later earlier : List EntryData) (l : EntryData) → BeginsWith later earlier → BeginsWith (later ++ l ∷ []) earlier
+begins_with_more later earlier l begins = (begins.0 ++ l ∷ [], ap (λ (ms : List EntryData). ms ++ l ∷ []) begins.1 ∙ append_assoc earlier begins.0 (l ∷ []))

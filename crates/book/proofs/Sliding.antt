@@ -2,11 +2,11 @@
 use Rattle.std.proofs.Common.{◌≡◌, ℕ, zero, suc, ◌+◌, ◌-◌, ◌/◌, ◌^◌, ◌<◌, ◌≤◌, nat_le, nat_lt, min, Bool, true, false, cond, if◌then◌else◌, List, [], ◌∷◌, ◌++◌, length, drop, arith, refl, ap, sym, ◌∙◌, length-append}
 use Rattle.std.specs.List.{filter}
 use Rattle.std.proofs.lemmas.List.Elements.{filter-append}
-use Rattle.book.specs.declared.windows.Note.{Note}
-use Rattle.book.specs.declared.windows.Totals.{Totals}
-use Rattle.book.specs.Configuration.{is_count_based}
-use Rattle.book.specs.declared.configuration.ConfigParts.{ConfigParts}
-use Rattle.book.specs.Windows.{last, is_recent, in_window, totals_of, one_where, with_note, AreTotals}
+use Rattle.service_profile.specs.declared.notes.Note.{Note}
+use Rattle.service_profile.specs.declared.notes.Totals.{Totals}
+use Rattle.service_profile.specs.Configuration.{is_count_based}
+use Rattle.service_profile.specs.declared.configuration.ConfigParts.{ConfigParts}
+use Rattle.service_profile.specs.Windows.{last, is_recent, in_window, totals_of, one_where, with_note, AreTotals}
 use Rattle.book.proofs.Lists.{one_kept}
 use Rattle.std.proofs.lemmas.Bool.{lt-ltb, leb-true, leb-false}
 use Rattle.std.proofs.Math.Nat.{min-eq_left, min-eq_right}

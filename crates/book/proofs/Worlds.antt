@@ -4,23 +4,23 @@ use Rattle.std.specs.List.{filter_map}
 use Rattle.std.proofs.Math.Nat.{le-max_right, max-le}
 use Rattle.std.proofs.lemmas.Bool.{ltb-false}
 use Rattle.std.proofs.lemmas.Slice.Eq.{bytes_eq-Decides}
-use Rattle.bpf_profile.specs.Outcomes.{Outcome, IsOutcome}
-use Rattle.bpf_run.specs.JudgedWork.{Work}
+use Rattle.bpf_profile.specs.Outcomes.{Outcome, IsOutcome, context_size}
+use Rattle.bpf_profile.specs.JudgedWork.{JudgedData}
 use Rattle.refusals.specs.declared.RefusalNumber.{RefusalNumber}
 use Rattle.refusals.specs.declared.RefusalNumber.TheVariants as refusal
-use Rattle.verifier.specs.Analysis.{context_size}
-use Rattle.verifier.specs.Programs.{VerifiedProgram}
-use Rattle.book.specs.declared.machine.Decision.{Decision}
-use Rattle.book.specs.declared.registry.OpenTicket.{OpenTicket}
-use Rattle.book.specs.declared.states.State.TheVariants as state
-use Rattle.book.specs.Answers.{looked_up, looked_under, looked, last_of, current_program, is_past_the_limit, is_worn_out, is_some_open, reopened, cut}
-use Rattle.book.specs.Events.{Happening, acquires, finishes, releases, installs, moves, resets, Line, Opening}
-use Rattle.book.specs.Histories.{Past, past_of, situation_of, machine, raised, greatest, next_line, install_at, Follows}
+use Rattle.bpf_profile.specs.Programs.{VerifiedProgram}
+use Rattle.service_profile.specs.declared.decisions.Decision.{Decision}
+use Rattle.service_profile.specs.declared.tickets.OpenTicket.{OpenTicket}
+use Rattle.service_profile.specs.declared.states.State.TheVariants as state
+use Rattle.service_profile.specs.Answers.{looked_up, looked_under, looked, last_of, current_program, is_past_the_limit, is_worn_out, is_some_open, reopened, cut}
+use Rattle.service_profile.specs.Events.{EventData, acquires, finishes, releases, installs, moves, resets, EntryData, Opening}
+use Rattle.service_profile.specs.Histories.{Past, past_of, situation_of, machine, raised, greatest, next_line, install_at, Follows}
 use Rattle.book.specs.Interleavings.{carried_by, carried_under, carried_finish, carried, Hands, World, Step, acquire, look, judge, finish, release, install, move, reset, read, cut_off, Turn, Memory, ample, wanting, starved, turned_with, turned, written, entered_by, answered, happens, holding, with_program, with_work, looking, work_of, judging, finishing, cutting, taken, Act, preceded, course, begun, IsStep, AreSteps, AreHands, IsWorld}
-use Rattle.book.specs.Machine.{Situation, decision, refused, is_full, in_state, overstays, at_moment, is_issued, open_ticket, program_from, same_program, bytes_of, judged_as, concluded, finished_by, finished_under, finished, is_entered, current_version}
+use Rattle.service_profile.specs.Machine.{Situation, decision, refused, is_full, in_state, overstays, at_moment, is_issued, open_ticket, program_from, same_program, bytes_of, judged_as, concluded, finished_by, finished_under, finished, is_entered, current_version}
 use Rattle.book.specs.Safe.{IsSafeProgram, AreSafePrograms, IsJudged, IsSafeEvent}
-use Rattle.book.specs.Sound.{IsOpening, IsSound}
-use Rattle.book.specs.Verdicts.{judgement}
+use Rattle.service_profile.specs.Openings.{IsOpening}
+use Rattle.book.specs.Sound.{IsSound}
+use Rattle.service_profile.specs.Verdicts.{judgement}
 use Rattle.book.proofs.Applying.{legal_step, past_with}
 use Rattle.book.proofs.Judging.{slots_by_bytes, judgement_by_slots, judgement_judges, program_safe}
 use Rattle.book.proofs.Keeping.{sound_step}
@@ -35,7 +35,7 @@ same_slots_there a b p q e =
     slots_by_bytes a b (bytes_of a) (bytes_of b) (record { program = p.program_there; text = refl }) (record { program = q.program_there; text = refl })
     ((bytes_eq-Decides (bytes_of a) (bytes_of b)).0 e)
 
-same_answer : (s : Situation) (moment : ℕ) (ticket : OpenTicket) (work : Work) (program : VerifiedProgram) (same : Bool) → same_program work.program program ≡ same → IsJudged work → IsSafeProgram program
+same_answer : (s : Situation) (moment : ℕ) (ticket : OpenTicket) (work : JudgedData) (program : VerifiedProgram) (same : Bool) → same_program work.program program ≡ same → IsJudged work → IsSafeProgram program
     → (if same then concluded s moment ticket work.outcome (judged_as work) else refused s.standing refusal.Stranger)
     ≡ (if same then concluded s moment ticket work.outcome (judgement program work.outcome) else refused s.standing refusal.Stranger)
 same_answer s moment ticket work program true e judged_ accepted_ =
@@ -44,17 +44,17 @@ same_answer s moment ticket work program true e judged_ accepted_ =
     ap (concluded s moment ticket work.outcome) (sym same)
 same_answer s moment ticket work program false e judged_ accepted_ = refl
 
-carried_by_is : (s : Situation) (moment : ℕ) (ticket : OpenTicket) (work : Work) (program : Option VerifiedProgram) → ((p : VerifiedProgram) → program ≡ Some p → IsSafeProgram p) → IsJudged work
+carried_by_is : (s : Situation) (moment : ℕ) (ticket : OpenTicket) (work : JudgedData) (program : Option VerifiedProgram) → ((p : VerifiedProgram) → program ≡ Some p → IsSafeProgram p) → IsJudged work
     → carried_by s moment ticket work program ≡ finished_by s moment ticket work program
 carried_by_is s moment ticket work None all judged_ = refl
 carried_by_is s moment ticket work (Some program) all judged_ = same_answer s moment ticket work program (same_program work.program program) refl judged_ (all program refl)
 
-carried_under_is : (s : Situation) (moment : ℕ) (work : Work) (ticket : Option OpenTicket) → AreSafePrograms s.programs → IsJudged work → carried_under s moment work ticket ≡ finished_under s moment work ticket
+carried_under_is : (s : Situation) (moment : ℕ) (work : JudgedData) (ticket : Option OpenTicket) → AreSafePrograms s.programs → IsJudged work → carried_under s moment work ticket ≡ finished_under s moment work ticket
 carried_under_is s moment work None all judged_ = refl
 carried_under_is s moment work (Some ticket) all judged_ =
     carried_by_is s moment ticket work (program_from s.first_version s.programs ticket.version) (λ p e. program_safe s.first_version s.programs ticket.version p all e) judged_
 
-carried_finish_is : (s : Situation) (moment : ℕ) (work : Work) (ticket : ℕ) → AreSafePrograms s.programs → IsJudged work → carried_finish s moment work ticket ≡ finished s moment work ticket
+carried_finish_is : (s : Situation) (moment : ℕ) (work : JudgedData) (ticket : ℕ) → AreSafePrograms s.programs → IsJudged work → carried_finish s moment work ticket ≡ finished s moment work ticket
 carried_finish_is s moment work ticket all judged_ =
     ap (λ (d : Decision). if is_issued s ticket then d else refused s.standing refusal.NoTicket) (carried_under_is s moment work (open_ticket s.open_tickets ticket) all judged_)
 
@@ -62,7 +62,7 @@ at_moment_safe : (test : Bool) (s : Situation) (moment : ℕ) → AreSafeProgram
 at_moment_safe true s moment all = all
 at_moment_safe false s moment all = all
 
-pub carried_is : (s : Situation) (moment : ℕ) (work : Work) (ticket : ℕ) → AreSafePrograms s.programs → IsJudged work → carried s moment (finishes work ticket) ≡ decision s moment (finishes work ticket)
+pub carried_is : (s : Situation) (moment : ℕ) (work : JudgedData) (ticket : ℕ) → AreSafePrograms s.programs → IsJudged work → carried s moment (finishes work ticket) ≡ decision s moment (finishes work ticket)
 unfolding decision
 carried_is s moment work ticket all judged_ =
     ap (λ (d : Decision). if is_full s (finishes work ticket) then refused s.standing refusal.JournalFull else d)
@@ -70,12 +70,12 @@ carried_is s moment work ticket all judged_ =
 
 -- ---- an event
 
-entered_world : (w : World) (actor moment : ℕ) (event : Happening) (entered : Bool) → is_entered (machine (past_of w.history) (raised (past_of w.history) moment) event).reply ≡ entered → IsWorld w → moment < 2 ^ 64 → actor < 2 ^ 32 → IsSafeEvent event
+entered_world : (w : World) (actor moment : ℕ) (event : EventData) (entered : Bool) → is_entered (machine (past_of w.history) (raised (past_of w.history) moment) event).reply ≡ entered → IsWorld w → moment < 2 ^ 64 → actor < 2 ^ 32 → IsSafeEvent event
     → IsWorld (entered_by entered w (written w.history actor moment event (machine (past_of w.history) (raised (past_of w.history) moment) event).reply))
 entered_world w actor moment event false e whole word seat safe_ = whole
 entered_world w actor moment event true e whole word seat safe_ =
     let past : Past = past_of w.history in
-    let line : Line = written w.history actor moment event (machine past (raised past moment) event).reply in
+    let line : EntryData = written w.history actor moment event (machine past (raised past moment) event).reply in
     let follows : Follows past line = record { numbered = refl; raises = le-max_right moment (greatest past); replied = refl; entered = e } in
     let bound : raised past moment ≤ 18446744073709551615 = max-le (omega (arith, word)) (omega (arith, whole.sound.moment)) in
     record {
@@ -84,11 +84,11 @@ entered_world w actor moment event true e whole word seat safe_ =
       hands = entered_hands w line true whole.hands;
     }
   where
-    entered_hands : (w : World) (line : Line) (b : Bool) → ((actor : ℕ) → AreHands (w.hands actor)) → (actor : ℕ) → AreHands ((entered_by b w line).hands actor)
+    entered_hands : (w : World) (line : EntryData) (b : Bool) → ((actor : ℕ) → AreHands (w.hands actor)) → (actor : ℕ) → AreHands ((entered_by b w line).hands actor)
     entered_hands w line true h = h
     entered_hands w line false h = h
 
-pub event_world : (w : World) (actor moment : ℕ) (event : Happening) → IsWorld w → moment < 2 ^ 64 → actor < 2 ^ 32 → IsSafeEvent event → IsWorld (happens decision w actor moment event).world
+pub event_world : (w : World) (actor moment : ℕ) (event : EventData) → IsWorld w → moment < 2 ^ 64 → actor < 2 ^ 32 → IsSafeEvent event → IsWorld (happens decision w actor moment event).world
 event_world w actor moment event whole word seat safe_ = entered_world w actor moment event (is_entered (machine (past_of w.history) (raised (past_of w.history) moment) event).reply) refl whole word seat safe_
 
 -- ---- hands
@@ -125,11 +125,11 @@ judging_world w actor outcome (Some program) all fits whole =
     held_world w actor (with_work (w.hands actor) (work_of program outcome)) whole
     (record { programs = (whole.hands actor).programs; works = all_append IsJudged (w.hands actor).works (work_of program outcome ∷ []) (whole.hands actor).works (judged_, tt) })
 
-finishing_world : (w : World) (actor moment ticket : ℕ) (o : Option Work) → ((work : Work) → o ≡ Some work → IsJudged work) → IsWorld w → moment < 2 ^ 64 → actor < 2 ^ 32 → IsWorld (finishing decision w actor moment ticket o).world
+finishing_world : (w : World) (actor moment ticket : ℕ) (o : Option JudgedData) → ((work : JudgedData) → o ≡ Some work → IsJudged work) → IsWorld w → moment < 2 ^ 64 → actor < 2 ^ 32 → IsWorld (finishing decision w actor moment ticket o).world
 finishing_world w actor moment ticket None all whole word seat = whole
 finishing_world w actor moment ticket (Some work) all whole word seat = event_world w actor moment (finishes work ticket) whole word seat (finish_safe work ticket (all work refl))
 
-finishing_same : (w : World) (actor moment ticket : ℕ) (o : Option Work) → ((work : Work) → o ≡ Some work → IsJudged work) → IsWorld w → finishing carried w actor moment ticket o ≡ finishing decision w actor moment ticket o
+finishing_same : (w : World) (actor moment ticket : ℕ) (o : Option JudgedData) → ((work : JudgedData) → o ≡ Some work → IsJudged work) → IsWorld w → finishing carried w actor moment ticket o ≡ finishing decision w actor moment ticket o
 finishing_same w actor moment ticket None all whole = refl
 finishing_same w actor moment ticket (Some work) all whole =
     let past : Past = past_of w.history in

@@ -1,13 +1,12 @@
--- What a line changes in the parts of a book.
+-- What one entry changes in the parts of a book: helpers of the proofs, which follow the code.
 use Rattle.std.specs.Prelude.{ℕ, ◌+◌, ◌==◌, not, Bool, true, false, if◌then◌else◌, List, [], ◌++◌, Option, Some, None, option_to_list}
 use Rattle.std.specs.List.{filter}
-use Rattle.refusals.specs.declared.RefusalNumber.{RefusalNumber}
-use Rattle.refusals.specs.declared.RefusalNumber.TheVariants as refusal
-use Rattle.book.specs.declared.breaker.Standing.{Standing}
-use Rattle.book.specs.declared.registry.OpenTicket.{OpenTicket}
-use Rattle.book.specs.declared.replies.Reply.{Reply}
-use Rattle.book.specs.declared.replies.Reply.TheVariants as reply
-use Rattle.book.specs.declared.windows.Note.{Note}
+use Rattle.service_profile.specs.declared.standings.Standing.{Standing}
+use Rattle.service_profile.specs.declared.tickets.OpenTicket.{OpenTicket}
+use Rattle.service_profile.specs.declared.notes.Note.{Note}
+use Rattle.service_profile.specs.Events.{EntryData}
+use Rattle.service_profile.specs.Histories.{note_by, end_by, issue_by, install_by}
+use Rattle.service_profile.specs.Machine.{Situation}
 
 -- the notes after a line: none after a transition
 abbrev pub notes_after : Standing → Standing → List Note → Option Note → List Note
@@ -25,15 +24,19 @@ abbrev pub one_where_some : {A : Type 0} → Option A → ℕ
 one_where_some None = 0
 one_where_some (Some x) = 1
 
-abbrev pub is_not_permitted : RefusalNumber → Bool
-is_not_permitted refusal.CallNotPermitted = true
-is_not_permitted other = false
-
--- whether a call was refused by the breaker
-abbrev pub is_refused_call : Reply → Bool
-is_refused_call (reply.Refused number) = is_not_permitted number
-is_refused_call other = false
-
 -- how many calls were refused in the present period
-abbrev pub refused_after : Standing → Standing → ℕ → Reply → ℕ
-refused_after before after refused reply = (if after.period == before.period then refused else 0) + (if is_refused_call reply then 1 else 0)
+abbrev pub refused_after : Standing → Standing → ℕ → Bool → ℕ
+refused_after before after refused is_refused = (if after.period == before.period then refused else 0) + (if is_refused then 1 else 0)
+
+-- the situation after a line, from that before it
+abbrev pub situation_after : Situation → EntryData → Standing → Situation
+situation_after s line next = record {
+  config = s.config;
+  standing = next;
+  notes = notes_after s.standing next s.notes (note_by s.config line.moment line.event line.reply);
+  first_version = s.first_version;
+  programs = s.programs ++ option_to_list (install_by line.event line.reply);
+  open_tickets = tickets_after s.open_tickets (end_by line.event line.reply) (issue_by line.reply next.period);
+  next_ticket = s.next_ticket + one_where_some (issue_by line.reply next.period);
+  held = s.held + 1;
+}

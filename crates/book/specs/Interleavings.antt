@@ -1,41 +1,40 @@
 -- Any list of atomic steps of workers and operators on a service. The world is one history, and what each actor holds.
 use Rattle.std.specs.Prelude.{ℕ, ◌^◌, ◌<◌, ◌==◌, Bool, true, false, if◌then◌else◌, List, [], ◌∷◌, ◌++◌, slice_get, Option, Some, None, Result, Ok, Err}
 use Rattle.std.specs.List.{AllByRecursion}
-use Rattle.bpf_profile.specs.Outcomes.{Outcome, IsOutcome}
-use Rattle.bpf_run.specs.JudgedWork.{Work}
+use Rattle.bpf_profile.specs.Outcomes.{Outcome, IsOutcome, context_size}
+use Rattle.bpf_profile.specs.JudgedWork.{JudgedData}
 use Rattle.refusals.specs.declared.RefusalNumber.{RefusalNumber}
 use Rattle.refusals.specs.declared.RefusalNumber.TheVariants as refusal
-use Rattle.verifier.specs.Analysis.{context_size}
-use Rattle.verifier.specs.Programs.{VerifiedProgram}
-use Rattle.book.specs.declared.machine.Decision.{Decision}
-use Rattle.book.specs.declared.readings.Reading.{Reading}
-use Rattle.book.specs.declared.registry.OpenTicket.{OpenTicket}
-use Rattle.book.specs.declared.replies.Reply.{Reply}
-use Rattle.book.specs.declared.replies.Reply.TheVariants as reply
-use Rattle.book.specs.declared.states.State.{State}
-use Rattle.book.specs.Answers.{looked, reading, with_line, cut}
-use Rattle.book.specs.Events.{Happening, acquires, finishes, releases, installs, moves, resets, Line, Opening, History}
-use Rattle.book.specs.Histories.{past_of, situation_of, raised, next_line, IsLegal}
-use Rattle.book.specs.Machine.{Situation, decision, refused, is_full, at_moment, is_issued, open_ticket, program_from, same_program, judged_as, concluded, is_entered}
+use Rattle.bpf_profile.specs.Programs.{VerifiedProgram}
+use Rattle.service_profile.specs.declared.decisions.Decision.{Decision}
+use Rattle.service_profile.specs.declared.readings.Reading.{Reading}
+use Rattle.service_profile.specs.declared.tickets.OpenTicket.{OpenTicket}
+use Rattle.service_profile.specs.declared.replies.Reply.{Reply}
+use Rattle.service_profile.specs.declared.replies.Reply.TheVariants as reply
+use Rattle.service_profile.specs.declared.states.State.{State}
+use Rattle.service_profile.specs.Answers.{looked, reading, with_line, cut}
+use Rattle.service_profile.specs.Events.{EventData, acquires, finishes, releases, installs, moves, resets, EntryData, Opening, History}
+use Rattle.service_profile.specs.Histories.{past_of, situation_of, raised, next_line, IsLegal}
+use Rattle.service_profile.specs.Machine.{Situation, decision, refused, is_full, at_moment, is_issued, open_ticket, program_from, same_program, judged_as, concluded, is_entered}
 use Rattle.book.specs.Safe.{IsVerifiedProgram, AreSafePrograms, IsJudged}
 use Rattle.book.specs.Sound.{IsSound}
-use Rattle.book.specs.Verdicts.{judgement}
+use Rattle.service_profile.specs.Verdicts.{judgement}
 
 -- ---- what the world answers: an outcome is answered on the verdict that the work carries
 
-abbrev pub carried_by : Situation → ℕ → OpenTicket → Work → Option VerifiedProgram → Decision
+abbrev pub carried_by : Situation → ℕ → OpenTicket → JudgedData → Option VerifiedProgram → Decision
 carried_by s moment ticket work None = refused s.standing refusal.Stranger
 carried_by s moment ticket work (Some program) =
     if same_program work.program program then concluded s moment ticket work.outcome (judged_as work) else refused s.standing refusal.Stranger
 
-abbrev pub carried_under : Situation → ℕ → Work → Option OpenTicket → Decision
+abbrev pub carried_under : Situation → ℕ → JudgedData → Option OpenTicket → Decision
 carried_under s moment work None = refused s.standing refusal.TicketSpent
 carried_under s moment work (Some ticket) = carried_by s moment ticket work (program_from s.first_version s.programs ticket.version)
 
-abbrev pub carried_finish : Situation → ℕ → Work → ℕ → Decision
+abbrev pub carried_finish : Situation → ℕ → JudgedData → ℕ → Decision
 carried_finish s moment work ticket = if is_issued s ticket then carried_under s moment work (open_ticket s.open_tickets ticket) else refused s.standing refusal.NoTicket
 
-abbrev pub carried : Situation → ℕ → Happening → Decision
+abbrev pub carried : Situation → ℕ → EventData → Decision
 carried s moment (finishes work ticket) =
     if is_full s (finishes work ticket) then refused s.standing refusal.JournalFull else carried_finish (at_moment s moment) moment work ticket
 carried s moment other = decision s moment other
@@ -45,7 +44,7 @@ carried s moment other = decision s moment other
 -- programs that an actor was given, and work that it judged
 pub record Hands : Type 0 where
   pub programs : List VerifiedProgram
-  pub works : List Work
+  pub works : List JudgedData
 
 pub record World : Type 0 where
   pub history : History
@@ -69,7 +68,7 @@ pub data Given : Type 0 where
   replied : Reply → Given
   found : Result VerifiedProgram RefusalNumber → Given
   shown : Reading → Given
-  handed : Result (List Line) RefusalNumber → Given
+  handed : Result (List EntryData) RefusalNumber → Given
   nothing : Given
 
 pub record Turn : Type 0 where
@@ -78,22 +77,22 @@ pub record Turn : Type 0 where
 
 -- how an event is answered in a situation, at its raised moment
 abbrev pub Answering : Type 0
-Answering = Situation → ℕ → Happening → Decision
+Answering = Situation → ℕ → EventData → Decision
 
-abbrev pub written : History → ℕ → ℕ → Happening → Reply → Line
+abbrev pub written : History → ℕ → ℕ → EventData → Reply → EntryData
 written history seat moment event reply = record { number = next_line (past_of history); seat = seat; event = event; moment = raised (past_of history) moment; reply = reply }
 
-abbrev pub entered_by : Bool → World → Line → World
+abbrev pub entered_by : Bool → World → EntryData → World
 entered_by true w line = record { history = with_line w.history line; hands = w.hands }
 entered_by false w line = w
 
-abbrev pub answered : World → ℕ → ℕ → Happening → Decision → Turn
+abbrev pub answered : World → ℕ → ℕ → EventData → Decision → Turn
 answered w actor moment event d = record {
   world = entered_by (is_entered d.reply) w (written w.history actor moment event d.reply);
   given = replied d.reply;
 }
 
-abbrev pub happens : Answering → World → ℕ → ℕ → Happening → Turn
+abbrev pub happens : Answering → World → ℕ → ℕ → EventData → Turn
 happens answering w actor moment event = answered w actor moment event (answering (situation_of (past_of w.history)) (raised (past_of w.history) moment) event)
 
 abbrev pub holding : World → ℕ → Hands → World
@@ -102,7 +101,7 @@ holding w actor hands = record { history = w.history; hands = λ other. if other
 abbrev pub with_program : Hands → VerifiedProgram → Hands
 with_program hands program = record { programs = hands.programs ++ program ∷ []; works = hands.works }
 
-abbrev pub with_work : Hands → Work → Hands
+abbrev pub with_work : Hands → JudgedData → Hands
 with_work hands work = record { programs = hands.programs; works = hands.works ++ work ∷ [] }
 
 abbrev pub looking : World → ℕ → Result VerifiedProgram RefusalNumber → Turn
@@ -110,7 +109,7 @@ looking w actor (Ok program) = record { world = holding w actor (with_program (w
 looking w actor (Err number) = record { world = w; given = found (Err number) }
 
 -- verdict and steps are the meaning's
-abbrev pub work_of : VerifiedProgram → Outcome → Work
+abbrev pub work_of : VerifiedProgram → Outcome → JudgedData
 work_of program outcome = record { program = program; outcome = outcome; verdict = (judgement program outcome).verdict; steps = (judgement program outcome).steps }
 
 -- judging touches nothing but the actor's hands
@@ -119,7 +118,7 @@ judging w actor outcome None = record { world = w; given = nothing }
 judging w actor outcome (Some program) = record { world = holding w actor (with_work (w.hands actor) (work_of program outcome)); given = nothing }
 
 -- a finish brings any work of its actor with any ticket
-abbrev pub finishing : Answering → World → ℕ → ℕ → ℕ → Option Work → Turn
+abbrev pub finishing : Answering → World → ℕ → ℕ → ℕ → Option JudgedData → Turn
 finishing answering w actor moment ticket None = record { world = w; given = nothing }
 finishing answering w actor moment ticket (Some work) = happens answering w actor moment (finishes work ticket)
 

@@ -2,9 +2,10 @@
 use Rattle.std.specs.Prelude.{ℕ, ◌+◌, ◌<◌, ◌^◌, length, map}
 use Rattle.std.specs.Arc.{arc_value}
 use Rattle.book.specs.declared.breaker.Breaker.{Breaker}
-use Rattle.book.specs.declared.configuration.ConfigParts.{ConfigParts}
+use Rattle.service_profile.specs.declared.configuration.ConfigParts.{ConfigParts}
 use Rattle.book.specs.declared.registry.Registry.{Registry}
-use Rattle.book.specs.Machine.{Situation}
+use Rattle.book.specs.declared.service.Service.{Service}
+use Rattle.service_profile.specs.Machine.{Situation}
 
 abbrev pub situation : ConfigParts → Breaker → Registry → ℕ → Situation
 situation config breaker registry held = record {
@@ -17,6 +18,9 @@ situation config breaker registry held = record {
   next_ticket = registry.next_ticket;
   held = held;
 }
+
+abbrev pub situation_in : Service → ℕ → Situation
+situation_in service held = situation service.config service.breaker service.registry held
 
 -- the numbers and lists leave room for one event more
 pub record IsRoomy (breaker : Breaker) (registry : Registry) : Type 0 where

@@ -2,24 +2,25 @@
 ghost use Rattle.std.specs.Prelude.{◌≡◌, suc, ◌<◌, ◌≤◌, ◌+◌, ◌^◌, ℕ, length, map, ◌-◌, ◌⊎◌, [], OnOk, OnSome, IfOk, Ok, Err};
 ghost use Rattle.std.specs.Arc.{arc_value};
 ghost use Rattle.std.specs.Vec.{vec_len, vec_capacity};
-ghost use Rattle.book.specs.Answers.{IsApplied, IsLooked, map_ok, reading, lines_from};
-ghost use Rattle.book.specs.Books.{first_opening, opening_of, history_of};
-ghost use Rattle.book.specs.Histories.{IsLegal, note_by, end_by, issue_by, past_of, situation_of, next_line};
+ghost use Rattle.service_profile.specs.Answers.{IsApplied, IsLooked, map_ok, reading, lines_from};
+ghost use Rattle.service_profile.specs.Openings.{first_opening, IsOpening};
+ghost use Rattle.service_profile.specs.Events.{history_of};
+ghost use Rattle.book.specs.Books.{opening_of};
+ghost use Rattle.service_profile.specs.Histories.{IsLegal, past_of, situation_of, next_line};
 ghost use Rattle.book.specs.Seen.{seen};
 ghost use Rattle.book.specs.Safe.{IsSafeProgram};
-ghost use Rattle.book.specs.Sound.{IsOpening, IsSound};
+ghost use Rattle.book.specs.Sound.{IsSound};
 
 use crate::breaker::{Breaker, minimum, shown_rate};
 use crate::bulkhead::free_places;
-use crate::changes::{end_by, issue_by, know_event, know_program, make_room, note_by, owner_of};
-use crate::configuration::Config;
+use crate::changes::{know_config, know_event, know_program, make_room, owner_of};
 use crate::events::{Entry, Event};
 use crate::machine::{decide, is_entered};
-use crate::readings::Reading;
 use crate::registry::Registry;
-use crate::replies::Reply;
+use crate::service::Service;
 use crate::windows::totals_in;
 use refusals::RefusalNumber;
+use service_profile::{Config, Reading, Reply};
 use std::alloc::{AllocError, Global};
 use std::marker::Model;
 use std::sync::Arc;
@@ -40,26 +41,24 @@ pub(crate) struct Start {
 /// history is legal, and beside it what the history says.
 #[derive(Drop)]
 pub struct Book {
-    pub(crate) config: Config,
     pub(crate) start: Start,
-    pub(crate) breaker: Breaker,
-    pub(crate) registry: Registry,
+    pub(crate) service: Service,
     pub(crate) moment: u64,
     pub(crate) entries: Vec<Entry>,
 }
 
 impl Model for Book {
     ghost use Rattle.std.specs.Prelude.{length};
-    ghost use Rattle.book.specs.Events.{History};
+    ghost use Rattle.service_profile.specs.Events.{History, history_of};
 
     ghost Value = { History };
 
-    ghost use Rattle.book.specs.Books.{opening_of, history_of, IsBook};
+    ghost use Rattle.book.specs.Books.{opening_of, IsBook};
     ghost use Rattle.book.specs.Situations.{situation};
 
-    ghost view = { λ b. history_of (opening_of b.config b.start) b.entries.items };
+    ghost view = { λ b. history_of (opening_of b.service.config b.start) b.entries.items };
 
-    ghost invariant = { λ b. IsBook (opening_of b.config b.start) (situation b.config b.breaker b.registry (length b.entries.items)) b.breaker.refused b.moment b.entries.items };
+    ghost invariant = { λ b. IsBook (opening_of b.service.config b.start) (situation b.service.config b.service.breaker b.service.registry (length b.entries.items)) b.service.breaker.refused b.moment b.entries.items };
 }
 
 impl Book {
@@ -69,8 +68,8 @@ impl Book {
         ensures legal { IfOk result IsLegal }
         ensures sound { IfOk result (λ book. IsSound (past_of book)) }
     {
-        let _parts = config.parts();
-        // What is known of a verified program is kept by the book.
+        // What is known of a configuration and of a verified program is kept by the book.
+        know_config(&config);
         know_program(&program);
         let start = Start {
             program: Arc::new(alloc, program)?,
@@ -93,10 +92,13 @@ impl Book {
     {
         let mut programs = Vec::new(alloc);
         programs.push(Arc::try_clone(&start.program)?)?;
-        Ok(Book {
+        let service = Service {
             config,
             breaker: Breaker::new(alloc, start.period, start.moment),
             registry: Registry::new(alloc, programs, start.version, start.ticket),
+        };
+        Ok(Book {
+            service,
             moment: start.moment,
             entries: Vec::new(alloc),
             start,
@@ -115,36 +117,24 @@ impl Book {
         ensures sound_after { IsSound (past_of self.new) }
     {
         let moment = moment.max(self.moment);
-        let decision = decide(
-            &self.config,
-            &self.breaker,
-            &self.registry,
-            self.entries.len(),
-            moment,
-            &event,
-        );
-        let reply = decision.reply;
+        let plan = decide(&self.service, self.entries.len(), moment, &event);
+        let reply = plan.decision.reply;
         if !is_entered(reply) {
             return reply;
         }
-        let note = note_by(&self.config.parts(), moment, &event, reply);
-        let ended = end_by(&event, reply);
-        let issued = issue_by(reply, decision.next.period);
         know_event(&event);
-        let Ok(installed) = make_room(
-            &mut self.entries,
-            &mut self.breaker,
-            &mut self.registry,
-            &event,
-            reply,
-            note,
-            issued,
-        ) else {
+        let effects = plan.effects;
+        let Ok(installed) = make_room(&mut self.entries, &mut self.service, &event, effects) else {
             return Reply::Refused(RefusalNumber::ServiceOutOfMemory);
         };
         let number = self.start.line + self.entries.len() as u64;
-        self.breaker.follow(decision.next, note, reply);
-        self.registry.follow(ended, issued, installed);
+        let next = plan.decision.next;
+        self.service
+            .breaker
+            .follow(next, effects.note, effects.refuses_call);
+        self.service
+            .registry
+            .follow(effects.ended, effects.issued, installed);
         self.moment = moment;
         let entry = Entry::new(number, seat, event, moment, reply);
         self.entries.push_reserved(entry);
@@ -159,7 +149,7 @@ impl Book {
         ensures legal { IsLegal self.now }
         ensures sound { IsSound (past_of self.now) }
     {
-        match self.registry.look(ticket) {
+        match self.service.registry.look(ticket) {
             Ok(program) => owner_of(program),
             Err(number) => Err(number),
         }
@@ -171,22 +161,22 @@ impl Book {
         ensures legal { IsLegal self.now }
         ensures sound { IsSound (past_of self.now) }
     {
-        let parts = self.config.parts();
-        let standing = self.breaker.standing;
+        let parts = self.service.config.parts();
+        let standing = self.service.breaker.standing;
         let raised = moment.max(self.moment);
         let totals = totals_in(
             &parts,
             standing.state,
             raised,
-            self.breaker.notes.as_slice(),
+            self.service.breaker.notes.as_slice(),
         );
         let least = minimum(&parts, standing.state);
-        let open_tickets = self.registry.open_tickets.len() as u64;
+        let open_tickets = self.service.registry.open_tickets.len() as u64;
         Reading {
             state: standing.state,
             period: standing.period,
-            version: self.registry.current_version(),
-            budget: self.registry.current_budget(),
+            version: self.service.registry.current_version(),
+            budget: self.service.registry.current_budget(),
             total: totals.total,
             failed: totals.failed,
             slow: totals.slow,
@@ -194,7 +184,7 @@ impl Book {
             slow_rate: shown_rate(least, totals.total, totals.slow),
             open_tickets,
             free: free_places(&parts, open_tickets),
-            not_permitted: self.breaker.refused,
+            not_permitted: self.service.breaker.refused,
             entries: self.last_number(),
         }
     }

@@ -1,38 +1,16 @@
 //! The circuit breaker of a service: where it stands, the notes of its period, and what it permits.
 ghost use Rattle.std.specs.Prelude.{◌≡◌, ◌<◌, ◌≤◌, ◌+◌, ◌^◌, ℕ, length, ◌++◌, ◌∷◌, [], None, true, OnOk, OnSome};
-ghost use Rattle.std.specs.List.{filter};
-ghost use Rattle.book.specs.Configuration.{bad_field};
-ghost use Rattle.book.specs.Machine.{permissions_held, half_open_permission, open_permission, permission_in, fate_of, next_by, is_ignored};
-ghost use Rattle.book.specs.Rates.{minimum_in_window, minimum, reaches, either_reaches, after_totals, after_notes, shown_rate};
-ghost use Rattle.book.specs.Standings.{moved, is_disabled};
-ghost use Rattle.book.specs.Windows.{AreTotals};
-ghost use Rattle.book.specs.Following.{notes_after, refused_after, is_refused_call, is_not_permitted};
+ghost use Rattle.service_profile.specs.Configuration.{bad_field};
+ghost use Rattle.service_profile.specs.Machine.{half_open_permission, open_permission, permission_in};
+ghost use Rattle.service_profile.specs.Rates.{minimum_in_window, minimum, reaches, either_reaches, after_totals, after_notes, shown_rate};
+ghost use Rattle.service_profile.specs.Standings.{moved};
+ghost use Rattle.service_profile.specs.Windows.{AreTotals};
+ghost use Rattle.book.specs.Following.{notes_after, refused_after};
 ghost use Rattle.std.specs.Vec.{vec_len, vec_capacity};
 
-use crate::configuration::{Config, ConfigParts, is_count_based};
-use crate::registry::OpenTicket;
-use crate::replies::{Fate, Reply};
-use crate::states::State;
-use crate::windows::{Note, Totals, totals_with};
-use bpf_profile::Verdict;
-use refusals::RefusalNumber;
+use crate::windows::totals_with;
+use service_profile::{Config, ConfigParts, Note, Permission, Standing, State, Totals};
 use std::alloc::{AllocError, Global};
-
-/// Where a breaker stands: its state, the number of its period, and since when, in milliseconds.
-#[derive(Clone, Copy, Debug, PartialEq, Eq)]
-pub struct Standing {
-    pub state: State,
-    /// Every transition starts the next period.
-    pub period: u64,
-    pub since: u64,
-}
-
-/// Whether a call is permitted, and where the breaker stands then.
-#[derive(Clone, Copy, Debug, PartialEq, Eq)]
-pub(crate) struct Permission {
-    pub given: bool,
-    pub standing: Standing,
-}
 
 /// Where the breaker stands, and the notes of the period, the oldest first.
 #[derive(Drop)]
@@ -43,56 +21,28 @@ pub(crate) struct Breaker {
     pub refused: u64,
 }
 
-impl Standing {
-    /// After a transition, also to the same state.
-    pub(crate) fn moved(self, state: State, moment: u64) -> Standing
-        requires { self.period + 1 < 2 ^ 64 }
-        ensures { result ≡ moved state moment self }
-    {
-        Standing {
-            state,
-            period: self.period + 1,
-            since: moment,
-        }
-    }
-}
-
-/// How many open tickets hold a permission of a period.
-fn permissions_held(period: u64, tickets: &[OpenTicket]) -> usize
-    ensures { result ≡ permissions_held period tickets.now }
-{
-    tickets
-        .iter()
-        .filter(|ticket| ticket.period == period)
-        .count()
-}
-
+/// In HALF_OPEN the notes and the permissions that are held are at most the permitted number of calls.
 fn half_open_permission(
     config: &ConfigParts,
     standing: Standing,
-    notes: &[Note],
-    tickets: &[OpenTicket],
+    noted: u64,
+    held: u64,
 ) -> Permission
-    ensures { result ≡ half_open_permission config.now standing notes.now tickets.now }
+    ensures { result ≡ half_open_permission config.now standing noted held }
 {
-    let held = permissions_held(standing.period, tickets) as u64;
     let left = config
         .permitted_number_of_calls_in_half_open_state
         .saturating_sub(held);
     Permission {
-        given: (notes.len() as u64) < left,
+        given: noted < left,
         standing,
     }
 }
 
-fn open_permission(
-    config: &ConfigParts,
-    standing: Standing,
-    tickets: &[OpenTicket],
-    moment: u64,
-) -> Permission
+/// Once the wait is over, a new period begins in HALF_OPEN.
+fn open_permission(config: &ConfigParts, standing: Standing, moment: u64) -> Permission
     requires { standing.period + 1 < 2 ^ 64 }
-    ensures { result ≡ open_permission config.now standing tickets.now moment }
+    ensures { result ≡ open_permission config.now standing moment }
 {
     if moment.saturating_sub(standing.since) < config.wait_duration_in_open_state {
         return Permission {
@@ -100,24 +50,19 @@ fn open_permission(
             standing,
         };
     }
-    half_open_permission(
-        config,
-        standing.moved(State::HalfOpen, moment),
-        &[],
-        tickets,
-    )
+    half_open_permission(config, standing.moved(State::HalfOpen, moment), 0, 0)
 }
 
-/// What the breaker says to a call.
+/// What the breaker says to a call, with so many notes and so many permissions held in its period.
 pub(crate) fn permit(
     config: &ConfigParts,
     standing: Standing,
-    notes: &[Note],
-    tickets: &[OpenTicket],
+    noted: u64,
+    held: u64,
     moment: u64,
 ) -> Permission
     requires { standing.period + 1 < 2 ^ 64 }
-    ensures { result ≡ permission_in standing.state config.now standing notes.now tickets.now moment }
+    ensures { result ≡ permission_in standing.state config.now standing noted held moment }
 {
     match standing.state {
         State::Closed | State::MetricsOnly | State::Disabled => Permission {
@@ -128,8 +73,8 @@ pub(crate) fn permit(
             given: false,
             standing,
         },
-        State::Open => open_permission(config, standing, tickets, moment),
-        State::HalfOpen => half_open_permission(config, standing, notes, tickets),
+        State::Open => open_permission(config, standing, moment),
+        State::HalfOpen => half_open_permission(config, standing, noted, held),
     }
 }
 
@@ -138,7 +83,7 @@ fn minimum_in_window(config: &ConfigParts) -> u64
     ensures { result ≡ minimum_in_window config.now }
 {
     let calls = config.minimum_number_of_calls;
-    if is_count_based(config.sliding_window_type) {
+    if config.sliding_window_type.is_count_based() {
         calls.min(config.sliding_window_size)
     } else {
         calls
@@ -216,25 +161,6 @@ pub(crate) fn after_note(
     after_totals(config, note.moment, standing, totals)
 }
 
-/// Whether a reply refuses a call.
-fn is_refused_call(reply: Reply) -> bool
-    ensures { result ≡ is_refused_call reply }
-{
-    match reply {
-        Reply::Refused(number) => is_not_permitted(number),
-        _ => false,
-    }
-}
-
-fn is_not_permitted(number: RefusalNumber) -> bool
-    ensures { result ≡ is_not_permitted number }
-{
-    match number {
-        RefusalNumber::CallNotPermitted => true,
-        _ => false,
-    }
-}
-
 /// A part of the total in whole percent, rounded down; none below the least total, and none of nothing.
 pub(crate) fn shown_rate(least: u64, total: u64, part: u64) -> Option<u64>
     requires { part < 2 ^ 48 }
@@ -277,13 +203,14 @@ impl Breaker {
         }
     }
 
-    /// Stands where a line leads, with its note in the same period, or with none in a new one.
-    pub(crate) fn follow(&mut self, next: Standing, note: Option<Note>, reply: Reply)
+    /// Stands where a decision leads, with its note in the same period, or with none in a new one, and
+    /// counts the call where it was refused.
+    pub(crate) fn follow(&mut self, next: Standing, note: Option<Note>, refuses_call: bool)
         requires room { OnSome note (vec_len self.old.notes < vec_capacity self.old.notes) }
         requires refused { self.old.refused + 1 < 2 ^ 64 }
         ensures standing { self.new.standing ≡ next }
         ensures notes { self.new.notes.items ≡ notes_after self.old.standing next self.old.notes.items note }
-        ensures refused { self.new.refused ≡ refused_after self.old.standing next self.old.refused reply }
+        ensures refused { self.new.refused ≡ refused_after self.old.standing next self.old.refused refuses_call }
     {
         if next.period != self.standing.period {
             self.notes.clear();
@@ -291,7 +218,7 @@ impl Breaker {
         } else if let Some(note) = note {
             self.notes.push_reserved(note);
         }
-        if is_refused_call(reply) {
+        if refuses_call {
             self.refused += 1;
         }
         self.standing = next;

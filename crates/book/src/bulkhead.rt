@@ -1,7 +1,7 @@
 //! The bulkhead of a service: each open ticket takes one of its places.
 ghost use Rattle.std.specs.Prelude.{◌≡◌, ◌-◌, nat_le};
 
-use crate::configuration::ConfigParts;
+use service_profile::ConfigParts;
 
 /// Whether there is no place left beside these open tickets.
 pub(crate) fn is_taken(config: &ConfigParts, open_tickets: u64) -> bool

@@ -1,86 +1,41 @@
-//! What a line of the journal changes: the note, the ticket and the program that it brings, the ticket
-//! that it ends, and the room that it needs.
-ghost use Rattle.std.specs.Prelude.{◌≡◌, ◌<◌, ◌⊎◌, map, Ok, Err, OnOk, OnSome, IfOk};
+//! What a decision changes: the room that it needs, and what is known of what comes in.
+ghost use Rattle.std.specs.Prelude.{◌≡◌, ◌<◌, ◌⊎◌, map, None, Ok, Err, OnOk, OnSome, IfOk};
 ghost use Rattle.std.specs.Arc.{arc_value};
 ghost use Rattle.std.specs.Option.{option_map};
 ghost use Rattle.std.specs.Vec.{vec_len, vec_capacity};
-ghost use Rattle.book.specs.Answers.{map_ok};
-ghost use Rattle.book.specs.Histories.{note_by, end_by, issue_by, install_by};
+ghost use Rattle.service_profile.specs.declared.replies.Reply.{Reply};
+ghost use Rattle.service_profile.specs.Answers.{map_ok};
+ghost use Rattle.service_profile.specs.Configuration.{bad_field};
+ghost use Rattle.service_profile.specs.Histories.{install_by};
+ghost use Rattle.book.specs.Effects.{is_some};
 ghost use Rattle.book.specs.Safe.{IsSafeProgram, IsJudged, IsSafeEvent};
 ghost use Rattle.book.specs.Seen.{seen};
 
-use crate::breaker::Breaker;
-use crate::configuration::ConfigParts;
 use crate::events::{Entry, Event};
-use crate::machine::note_of;
-use crate::registry::{OpenTicket, Registry};
-use crate::replies::{Fate, Reply};
-use crate::windows::Note;
+use crate::machine::Effects;
+use crate::service::Service;
 use bpf_run::Judged;
 use refusals::RefusalNumber;
+use service_profile::Config;
 use std::alloc::AllocError;
 use std::sync::Arc;
 use verifier::Verified;
 
-/// The note that a reply leaves.
-pub(crate) fn note_by(
-    config: &ConfigParts,
-    moment: u64,
-    event: &Event,
-    reply: Reply,
-) -> Option<Note>
-    ensures { result ≡ note_by config.now moment (seen event.now) reply }
+/// The event's program, for the registry to own beside the entry, where it gets a version.
+fn installed_program(event: &Event, installs: bool) -> Result<Option<Arc<Verified>>, AllocError>
+    ensures { (reply : Reply) → installs ≡ is_some (install_by (seen event.now) reply) → IfOk result (λ installed. option_map arc_value installed ≡ install_by (seen event.now) reply) }
 {
-    match (event, reply) {
-        (
-            Event::Finish(judged, _),
-            Reply::Finished {
-                fate: Fate::Recorded,
-                verdict,
-                ..
-            },
-        ) => Some(note_of(config, moment, verdict, judged.outcome())),
-        _ => None,
-    }
-}
-
-/// The ticket that ends.
-pub(crate) fn end_by(event: &Event, reply: Reply) -> Option<u64>
-    ensures { result ≡ end_by (seen event.now) reply }
-{
-    match (event, reply) {
-        (Event::Finish(_, ticket), Reply::Finished { .. })
-        | (Event::Release(ticket), Reply::Released { .. }) => Some(*ticket),
-        _ => None,
-    }
-}
-
-/// The ticket that is issued.
-pub(crate) fn issue_by(reply: Reply, period: u64) -> Option<OpenTicket>
-    ensures { result ≡ issue_by reply period }
-{
-    match reply {
-        Reply::Permitted {
-            ticket,
-            version,
-            ..
-        } => Some(OpenTicket {
-            number: ticket,
-            version,
-            period,
-        }),
-        _ => None,
-    }
-}
-
-/// The program that is installed, for the registry to own beside the entry.
-fn install_by(event: &Event, reply: Reply) -> Result<Option<Arc<Verified>>, AllocError>
-    ensures { IfOk result (λ installed. option_map arc_value installed ≡ install_by (seen event.now) reply) }
-{
-    match (event, reply) {
-        (Event::Install(program), Reply::Installed { .. }) => Ok(Some(Arc::try_clone(program)?)),
+    match event {
+        Event::Install(program) if installs => Ok(Some(Arc::try_clone(program)?)),
         _ => Ok(None),
     }
+}
+
+/// Reads off a configuration that each value is in its range.
+pub(crate) fn know_config(config: &Config)
+    ensures { bad_field config.now ≡ None }
+{
+    let _parts = config.parts();
 }
 
 /// Reads off a verified program that it is safe.
@@ -92,7 +47,7 @@ pub(crate) fn know_program(program: &Verified)
 }
 
 /// Reads off judged work that its verdict is the meaning's, on an outcome's record.
-fn know_work(judged: &Judged)
+pub(crate) fn know_work(judged: &Judged)
     ensures { IsJudged judged.now }
 {
     know_program(judged.program());
@@ -110,34 +65,32 @@ pub(crate) fn know_event(event: &Event)
     }
 }
 
-/// Makes room for an entry, and for the note, the ticket and the version that come with it. Answers the
-/// program of that version, and is an error without memory.
+/// Makes room for an entry and for the effects of its decision. Answers the program that gets a version,
+/// and is an error without memory.
 pub(crate) fn make_room(
     entries: &mut Vec<Entry>,
-    breaker: &mut Breaker,
-    registry: &mut Registry,
+    service: &mut Service,
     event: &Event,
-    reply: Reply,
-    note: Option<Note>,
-    issued: Option<OpenTicket>,
+    effects: Effects,
 ) -> Result<Option<Arc<Verified>>, AllocError>
     ensures entries { entries.new.items ≡ entries.old.items }
-    ensures standing { breaker.new.standing ≡ breaker.old.standing }
-    ensures notes { breaker.new.notes.items ≡ breaker.old.notes.items }
-    ensures refused { breaker.new.refused ≡ breaker.old.refused }
-    ensures tickets { registry.new.open_tickets.items ≡ registry.old.open_tickets.items }
-    ensures programs { map arc_value registry.new.programs.items ≡ map arc_value registry.old.programs.items }
-    ensures numbers { (registry.new.first_version ≡ registry.old.first_version) × (registry.new.next_ticket ≡ registry.old.next_ticket) }
+    ensures config { service.new.config ≡ service.old.config }
+    ensures standing { service.new.breaker.standing ≡ service.old.breaker.standing }
+    ensures notes { service.new.breaker.notes.items ≡ service.old.breaker.notes.items }
+    ensures refused { service.new.breaker.refused ≡ service.old.breaker.refused }
+    ensures tickets { service.new.registry.open_tickets.items ≡ service.old.registry.open_tickets.items }
+    ensures programs { map arc_value service.new.registry.programs.items ≡ map arc_value service.old.registry.programs.items }
+    ensures numbers { (service.new.registry.first_version ≡ service.old.registry.first_version) × (service.new.registry.next_ticket ≡ service.old.registry.next_ticket) }
     ensures entry_room { OnOk result (vec_len entries.new < vec_capacity entries.new) }
-    ensures note_room { OnOk result (OnSome note (vec_len breaker.new.notes < vec_capacity breaker.new.notes)) }
-    ensures ticket_room { OnOk result (OnSome issued (vec_len registry.new.open_tickets < vec_capacity registry.new.open_tickets)) }
-    ensures installed { IfOk result (λ installed. option_map arc_value installed ≡ install_by (seen event.now) reply) }
-    ensures program_room { IfOk result (λ installed. OnSome installed (vec_len registry.new.programs < vec_capacity registry.new.programs)) }
+    ensures note_room { OnOk result (OnSome effects.note (vec_len service.new.breaker.notes < vec_capacity service.new.breaker.notes)) }
+    ensures ticket_room { OnOk result (OnSome effects.issued (vec_len service.new.registry.open_tickets < vec_capacity service.new.registry.open_tickets)) }
+    ensures installed { (reply : Reply) → effects.installs ≡ is_some (install_by (seen event.now) reply) → IfOk result (λ installed. option_map arc_value installed ≡ install_by (seen event.now) reply) }
+    ensures program_room { IfOk result (λ installed. OnSome installed (vec_len service.new.registry.programs < vec_capacity service.new.registry.programs)) }
 {
-    let installed = install_by(event, reply)?;
+    let installed = installed_program(event, effects.installs)?;
     entries.reserve(1)?;
-    breaker.make_room(note)?;
-    registry.make_room(issued, &installed)?;
+    service.breaker.make_room(effects.note)?;
+    service.registry.make_room(effects.issued, &installed)?;
     Ok(installed)
 }
 

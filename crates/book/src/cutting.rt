@@ -1,8 +1,8 @@
 //! The cut of a book: its entries are handed out, and it opens anew.
 ghost use Rattle.std.specs.Prelude.{◌≡◌, ◌||◌, false, IfOk, []};
-ghost use Rattle.book.specs.Answers.{IsCut, map_ok, is_past_the_limit, is_worn_out, reopened};
-ghost use Rattle.book.specs.Books.{history_of};
-ghost use Rattle.book.specs.Histories.{IsLegal, past_of};
+ghost use Rattle.service_profile.specs.Answers.{IsCut, map_ok, is_past_the_limit, is_worn_out, reopened};
+ghost use Rattle.service_profile.specs.Events.{history_of};
+ghost use Rattle.service_profile.specs.Histories.{IsLegal, past_of};
 ghost use Rattle.book.specs.Sound.{IsSound};
 
 use crate::books::{Book, Start};
@@ -38,9 +38,9 @@ impl Book {
     {
         are_worn_out(
             self.start.line + self.entries.len() as u64,
-            self.registry.next_ticket,
-            self.breaker.standing.period + 1,
-            self.registry.current_version() + 1,
+            self.service.registry.next_ticket,
+            self.service.breaker.standing.period + 1,
+            self.service.registry.current_version() + 1,
         )
     }
 
@@ -51,16 +51,16 @@ impl Book {
         ensures legal { IfOk result IsLegal }
         ensures sound { IfOk result (λ book. IsSound (past_of book)) }
     {
-        let last = self.registry.programs.len() - 1;
+        let last = self.service.registry.programs.len() - 1;
         let start = Start {
-            program: Arc::try_clone(&self.registry.programs[last])?,
-            version: self.registry.current_version(),
-            period: self.breaker.standing.period + 1,
-            ticket: self.registry.next_ticket,
+            program: Arc::try_clone(&self.service.registry.programs[last])?,
+            version: self.service.registry.current_version(),
+            period: self.service.breaker.standing.period + 1,
+            ticket: self.service.registry.next_ticket,
             line: self.start.line + self.entries.len() as u64,
             moment: self.moment,
         };
-        Book::begin(*self.entries.allocator(), self.config, start)
+        Book::begin(*self.entries.allocator(), self.service.config, start)
     }
 
     /// Hands out all entries, and opens anew: with the configuration, the program of new tickets under
@@ -77,7 +77,7 @@ impl Book {
         if self.is_worn_out() {
             return Err(RefusalNumber::JournalFull);
         }
-        if !self.registry.open_tickets.is_empty() {
+        if !self.service.registry.open_tickets.is_empty() {
             return Err(RefusalNumber::TicketsOpen);
         }
         match self.reopened() {

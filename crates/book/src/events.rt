@@ -1,10 +1,10 @@
 //! Events, and the entries of the journal.
 ghost use Rattle.std.specs.Prelude.{◌≡◌, IfOk};
-ghost use Rattle.book.specs.Seen.{seen, line};
+ghost use Rattle.service_profile.specs.Events.{line};
+ghost use Rattle.book.specs.Seen.{seen};
 
-use crate::replies::Reply;
-use crate::states::State;
 use bpf_run::Judged;
+use service_profile::{Reply, State};
 use std::alloc::AllocError;
 use std::marker::Model;
 use std::sync::Arc;
@@ -55,11 +55,12 @@ pub struct Entry {
 }
 
 impl Model for Entry {
-    ghost use Rattle.book.specs.Events.{Line};
+    ghost use Rattle.service_profile.specs.Events.{EntryData};
 
-    ghost Value = { Line };
+    ghost Value = { EntryData };
 
-    ghost use Rattle.book.specs.Seen.{seen, line};
+    ghost use Rattle.service_profile.specs.Events.{line};
+    ghost use Rattle.book.specs.Seen.{seen};
 
     ghost view = { λ e. line e.number e.seat (seen e.event) e.moment e.reply };
 }

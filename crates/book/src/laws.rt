@@ -4,31 +4,26 @@ ghost use Rattle.std.specs.Prelude.{◌≡◌, ◌≤◌, ◌+◌, ℕ, List, le
 ghost use Rattle.std.specs.List.{AllByRecursion};
 ghost use Rattle.bpf_profile.specs.declared.machine.Verdict.TheVariants as verdict;
 ghost use Rattle.bpf_profile.specs.Meaning.{Judges};
-ghost use Rattle.bpf_profile.specs.Outcomes.{Outcome, IsOutcome};
-ghost use Rattle.verifier.specs.Analysis.{context_size};
-ghost use Rattle.verifier.specs.Programs.{VerifiedProgram};
-ghost use Rattle.book.specs.declared.replies.Fate.{Fate};
-ghost use Rattle.book.specs.declared.replies.Reply.TheVariants as reply;
-ghost use Rattle.book.specs.declared.states.State.{State};
-ghost use Rattle.book.specs.Configuration.{default_parts};
-ghost use Rattle.book.specs.Events.{Line, Opening, History};
-ghost use Rattle.book.specs.Histories.{Stage, past_of, programs_of, issued, open_of, ended, notes_of, is_listed, note_by, Follows, IsLegal};
+ghost use Rattle.bpf_profile.specs.Outcomes.{Outcome, IsOutcome, context_size};
+ghost use Rattle.bpf_profile.specs.Programs.{VerifiedProgram};
+ghost use Rattle.service_profile.specs.declared.replies.Fate.{Fate};
+ghost use Rattle.service_profile.specs.declared.replies.Reply.TheVariants as reply;
+ghost use Rattle.service_profile.specs.declared.states.State.{State};
+ghost use Rattle.service_profile.specs.Events.{EntryData, Opening, History};
+ghost use Rattle.service_profile.specs.Histories.{Stage, past_of, programs_of, issued, open_of, ended, notes_of, is_listed, note_by, Follows, IsLegal};
 ghost use Rattle.book.specs.Interleavings.{Act, AreSteps, IsWorld, carried, course, begun};
 ghost use Rattle.book.specs.Laws.{IsService, HasMeantNote};
-ghost use Rattle.book.specs.Machine.{decision, is_open, permissions_held};
-ghost use Rattle.book.specs.Answers.{cut};
+ghost use Rattle.service_profile.specs.Machine.{decision, is_open, permissions_held};
+ghost use Rattle.service_profile.specs.Answers.{cut};
 ghost use Rattle.book.specs.Safe.{IsVerifiedProgram, AreSafePrograms};
-ghost use Rattle.book.specs.Sound.{IsOpening, IsMeantLine, IsSound};
-ghost use Rattle.book.specs.Standings.{is_half_open};
-ghost use Rattle.book.specs.Verdicts.{judgement};
+ghost use Rattle.service_profile.specs.Openings.{IsOpening};
+ghost use Rattle.service_profile.specs.MeantVerdicts.{IsMeantLine};
+ghost use Rattle.book.specs.Sound.{IsSound};
+ghost use Rattle.service_profile.specs.Standings.{is_half_open};
+ghost use Rattle.service_profile.specs.Verdicts.{judgement};
 
-use crate::configuration::ConfigParts;
+use service_profile::ConfigParts;
 use verifier::laws::accepted_programs_are_safe;
-
-/// The defaults of the code are those that the definitions state.
-pub fn defaults_are_stated()
-    ensures { ConfigParts.DEFAULT ≡ default_parts }
-{}
 
 /// The verdict that the machine takes for a verified program and a record is the meaning's.
 pub fn judgements_are_the_meaning()
@@ -37,20 +32,21 @@ pub fn judgements_are_the_meaning()
     accepted_programs_are_safe();
 }
 
-/// For every list of atomic steps of workers and operators on a service, from a good opening on: each
-/// answer that the world gives, on the verdicts that judged work carries, is the documented machine's,
-/// on the verdicts that the meaning gives for the version of each ticket. Steps that were refused for
-/// want of memory stand in the list too. What an operator installs is verified: decoding, flow and the
-/// analysis accept its bytes.
+/// The headline, the half about answers: for every list of atomic steps of workers and operators on a
+/// service, from a good opening on, each answer that the world gives, on the verdicts that judged work
+/// carries, is the documented machine's, on the verdicts that the meaning gives for the version of each
+/// ticket. Steps that were refused for want of memory stand in the list too. What an operator installs
+/// is verified: decoding, flow and the analysis accept its bytes.
 pub fn interleavings_are_documented()
     ensures { (opening : Opening) (acts : List Act) → IsOpening opening → IsVerifiedProgram opening.program → AreSteps acts → course carried (begun opening) acts ≡ course decision (begun opening) acts }
 {
     accepted_programs_are_safe();
 }
 
-/// After every such list the history is legal, every program that was installed ends on every outcome's
-/// record within its budget and never does what it must not, each finished call carries the meaning's
-/// verdict for the version of its ticket, and so does all work that was judged.
+/// The headline, the half about programs: after every such list the history is legal, every program that
+/// was installed ends on every outcome's record within its budget and never does what it must not, each
+/// finished call carries the meaning's verdict for the version of its ticket, and so does all work that
+/// was judged.
 pub fn interleavings_are_legal()
     ensures { (opening : Opening) (acts : List Act) → IsOpening opening → IsVerifiedProgram opening.program → AreSteps acts → IsWorld (course carried (begun opening) acts).world }
 {
@@ -66,7 +62,7 @@ pub fn legal_histories_are_sound()
 
 /// The numbers of entries go up by one.
 pub fn numbers_go_up_by_one()
-    ensures { (history : History) (place : ℕ) (line : Line) → IsLegal history → slice_get history.lines place ≡ Some line → line.number ≡ history.opening.line + place }
+    ensures { (history : History) (place : ℕ) (line : EntryData) → IsLegal history → slice_get history.lines place ≡ Some line → line.number ≡ history.opening.line + place }
 {}
 
 /// A ticket that has ended is not open.
@@ -90,7 +86,7 @@ pub fn half_open_is_never_overfull()
 
 /// A verdict that is ignored makes no note.
 pub fn ignored_verdicts_make_no_note()
-    ensures { (history : History) (line : Line) (fate : Fate) (steps version : ℕ) (state : State) → IsService history → Follows (past_of history) line → line.reply ≡ reply.Finished fate verdict.Ignored steps version state → note_by history.opening.config line.moment line.event line.reply ≡ None }
+    ensures { (history : History) (line : EntryData) (fate : Fate) (steps version : ℕ) (state : State) → IsService history → Follows (past_of history) line → line.reply ≡ reply.Finished fate verdict.Ignored steps version state → note_by history.opening.config line.moment line.event line.reply ≡ None }
 {
     accepted_programs_are_safe();
 }

@@ -6,7 +6,6 @@ mod books;
 mod breaker;
 mod bulkhead;
 mod changes;
-mod configuration;
 mod cutting;
 #[cfg(test)]
 mod event_tests;
@@ -14,18 +13,15 @@ mod events;
 pub mod laws;
 mod machine;
 mod paging;
-mod readings;
 mod registry;
-mod replies;
-mod states;
+mod service;
 #[cfg(test)]
 mod tests;
 mod windows;
 
 pub use books::Book;
-pub use configuration::{BadConfig, Config, ConfigField, ConfigParts, SlidingWindowType};
 pub use events::{Entry, Event};
-pub use readings::Reading;
-pub use replies::{Fate, Reply};
-pub use states::State;
-pub use windows::{Note, Totals};
+pub use service_profile::{
+    BadConfig, Config, ConfigField, ConfigParts, Fate, Note, Reading, Reply, SlidingWindowType,
+    State, Totals,
+};

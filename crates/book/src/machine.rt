@@ -1,87 +1,136 @@
-//! What is answered to an event, and where the breaker stands then, before anything changes.
+//! What is decided of an event before anything changes: the reply, where the breaker stands then, and the
+//! effects.
 ghost use Rattle.std.specs.Prelude.{◌≡◌, ◌<◌, ◌≤◌, ◌+◌, ◌^◌, ℕ, length, map, true, None, Some, slice_get};
 ghost use Rattle.std.specs.Arc.{arc_value};
 ghost use Rattle.book.specs.declared.breaker.Breaker.{Breaker};
-ghost use Rattle.book.specs.declared.configuration.ConfigParts.{ConfigParts};
-ghost use Rattle.book.specs.declared.registry.Registry.{Registry};
-ghost use Rattle.book.specs.Machine.{judged_as, acquired, refused, is_issued, is_open, is_ignored, is_failure, same_program, fate_of, note_of, next_by, concluded, finished, finished_by, finished_under, released, installed, moved_to, is_full, decided, decision, is_entered, is_entered_refusal};
+ghost use Rattle.service_profile.specs.declared.configuration.ConfigParts.{ConfigParts};
+ghost use Rattle.service_profile.specs.Events.{EventData, acquires, finishes, releases, installs, moves, resets};
+ghost use Rattle.service_profile.specs.Histories.{note_by, end_by, issue_by, install_by};
+ghost use Rattle.service_profile.specs.Machine.{judged_as, acquired, refused, is_issued, is_open, is_ignored, is_failure, same_program, fate_of, note_of, next_by, concluded, finished, finished_by, finished_under, released, installed, moved_to, is_full, decided, decision, is_entered, is_entered_refusal, is_not_permitted, is_refused_call};
+ghost use Rattle.book.specs.Effects.{effects_of, planned, refused_plan};
 ghost use Rattle.book.specs.Seen.{seen};
-ghost use Rattle.book.specs.Situations.{situation, IsRoomy};
-ghost use Rattle.book.specs.Standings.{is_disabled};
+ghost use Rattle.book.specs.Situations.{situation_in, IsRoomy};
+ghost use Rattle.service_profile.specs.Standings.{is_disabled};
 
-use crate::breaker::{Breaker, Standing, after_note, permit};
+use crate::breaker::{after_note, permit};
 use crate::bulkhead::is_taken;
-use crate::configuration::{Config, ConfigParts};
+use crate::changes::{know_config, know_program, know_work};
 use crate::events::Event;
-use crate::registry::{OpenTicket, Registry};
-use crate::replies::{Fate, Reply};
-use crate::states::State;
-use crate::windows::Note;
+use crate::service::Service;
 use bpf_profile::Verdict;
 use bpf_run::Judged;
 use helpers::Record;
 use refusals::RefusalNumber;
+use service_profile::{
+    ConfigParts, Decision, Fate, Judgement, Note, OpenTicket, Reply, Standing, State,
+};
 use std::alloc::AllocError;
 use verifier::Verified;
 
-/// A reply, and where the breaker stands after it.
+/// What a decision changes, beside where the breaker stands.
 #[derive(Clone, Copy, Debug, PartialEq, Eq)]
-pub(crate) struct Decision {
-    pub reply: Reply,
-    pub next: Standing,
+pub(crate) struct Effects {
+    /// The note that is made.
+    pub note: Option<Note>,
+    /// The ticket that ends.
+    pub ended: Option<u64>,
+    /// The ticket that is issued.
+    pub issued: Option<OpenTicket>,
+    /// Whether the event's program gets a version.
+    pub installs: bool,
+    /// Whether the breaker refused the call.
+    pub refuses_call: bool,
 }
 
-/// What a program says of an outcome.
+/// What is decided of an event: the reply, where the breaker stands then, and the effects.
 #[derive(Clone, Copy, Debug, PartialEq, Eq)]
-pub(crate) struct Judgement {
-    pub verdict: Verdict,
-    pub steps: u32,
+pub(crate) struct Plan {
+    pub decision: Decision,
+    pub effects: Effects,
 }
 
-fn refused(standing: Standing, number: RefusalNumber) -> Decision
-    ensures { result ≡ refused standing number }
+impl Effects {
+    /// No effect.
+    const NONE: Effects = Effects {
+        note: None,
+        ended: None,
+        issued: None,
+        installs: false,
+        refuses_call: false,
+    };
+}
+
+/// Whether the breaker refused the call.
+fn is_not_permitted(number: RefusalNumber) -> bool
+    ensures { result ≡ is_not_permitted number }
 {
-    Decision {
-        reply: Reply::Refused(number),
-        next: standing,
+    match number {
+        RefusalNumber::CallNotPermitted => true,
+        _ => false,
+    }
+}
+
+/// A refusal of any event, with the breaker standing so.
+fn refused(standing: Standing, number: RefusalNumber) -> Plan
+    ensures { result ≡ refused_plan standing number }
+{
+    let mut effects = Effects::NONE;
+    effects.refuses_call = is_not_permitted(number);
+    Plan {
+        decision: Decision {
+            reply: Reply::Refused(number),
+            next: standing,
+        },
+        effects,
     }
 }
 
 /// The breaker is asked first, then the bulkhead.
-fn acquired(config: &Config, breaker: &Breaker, registry: &Registry, moment: u64) -> Decision
-    requires { IsRoomy breaker.now registry.now }
-    ensures { (held : ℕ) → result ≡ acquired (situation config.now breaker.now registry.now held) moment }
+fn acquired(service: &Service, moment: u64) -> Plan
+    requires { IsRoomy service.now.breaker service.now.registry }
+    ensures { (held : ℕ) → result ≡ planned service.now.config moment acquires (acquired (situation_in service.now held) moment) }
 {
-    let parts = config.parts();
-    let tickets = registry.open_tickets.as_slice();
+    let parts = service.config.parts();
+    let standing = service.breaker.standing;
+    let registry = &service.registry;
     let permission = permit(
         &parts,
-        breaker.standing,
-        breaker.notes.as_slice(),
-        tickets,
+        standing,
+        service.breaker.notes.len() as u64,
+        registry.permissions_held(standing.period),
         moment,
     );
     if !permission.given {
         return refused(permission.standing, RefusalNumber::CallNotPermitted);
     }
-    if is_taken(&parts, tickets.len() as u64) {
+    if is_taken(&parts, registry.open_tickets.len() as u64) {
         return refused(permission.standing, RefusalNumber::BulkheadFull);
     }
-    Decision {
-        reply: Reply::Permitted {
-            ticket: registry.next_ticket,
-            version: registry.current_version(),
-            state: permission.standing.state,
+    let ticket = OpenTicket {
+        number: registry.next_ticket,
+        version: registry.current_version(),
+        period: permission.standing.period,
+    };
+    let mut effects = Effects::NONE;
+    effects.issued = Some(ticket);
+    Plan {
+        decision: Decision {
+            reply: Reply::Permitted {
+                ticket: ticket.number,
+                version: ticket.version,
+                state: permission.standing.state,
+            },
+            next: permission.standing,
         },
-        next: permission.standing,
+        effects,
     }
 }
 
-/// What becomes of a verdict under a ticket.
-fn fate_of(standing: Standing, ticket: OpenTicket, verdict: Verdict) -> Fate
-    ensures { result ≡ fate_of standing ticket verdict }
+/// What becomes of a verdict under a ticket of a period.
+fn fate_of(standing: Standing, period: u64, verdict: Verdict) -> Fate
+    ensures { result ≡ fate_of standing period verdict }
 {
-    if ticket.period != standing.period {
+    if period != standing.period {
         return Fate::Stale;
     }
     match (standing.state, verdict) {
@@ -92,7 +141,7 @@ fn fate_of(standing: Standing, ticket: OpenTicket, verdict: Verdict) -> Fate
 }
 
 /// The note of a verdict.
-pub(crate) fn note_of(config: &ConfigParts, moment: u64, verdict: Verdict, outcome: &Record) -> Note
+fn note_of(config: &ConfigParts, moment: u64, verdict: Verdict, outcome: &Record) -> Note
     ensures { result ≡ note_of config.now moment verdict outcome.now }
 {
     let failed = match verdict {
@@ -107,34 +156,41 @@ pub(crate) fn note_of(config: &ConfigParts, moment: u64, verdict: Verdict, outco
 }
 
 /// The answer under a ticket to work that its program judged.
-fn concluded(
-    config: &Config,
-    breaker: &Breaker,
-    moment: u64,
-    ticket: OpenTicket,
-    judged: &Judged,
-) -> Decision
-    requires notes { length breaker.now.notes.items < 2 ^ 32 }
-    requires period { breaker.now.standing.period + 1 < 2 ^ 64 }
-    ensures { (registry : Registry) (held : ℕ) → result ≡ concluded (situation config.now breaker.now registry held) moment ticket judged.now.outcome (judged_as judged.now) }
+fn concluded(service: &Service, moment: u64, ticket: OpenTicket, judged: &Judged) -> Plan
+    requires notes { length service.now.breaker.notes.items < 2 ^ 32 }
+    requires period { service.now.breaker.standing.period + 1 < 2 ^ 64 }
+    ensures { (held : ℕ) → result ≡ planned service.now.config moment (finishes judged.now ticket.number) (concluded (situation_in service.now held) moment ticket judged.now.outcome (judged_as judged.now)) }
 {
-    let standing = breaker.standing;
+    let standing = service.breaker.standing;
     let verdict = judged.verdict();
-    let note = note_of(&config.parts(), moment, verdict, judged.outcome());
-    let fate = fate_of(standing, ticket, verdict);
+    let note = note_of(&service.config.parts(), moment, verdict, judged.outcome());
+    let fate = fate_of(standing, ticket.period, verdict);
+    let mut effects = Effects::NONE;
+    effects.ended = Some(ticket.number);
     let next = match fate {
-        Fate::Recorded => after_note(config, standing, breaker.notes.as_slice(), note),
+        Fate::Recorded => {
+            effects.note = Some(note);
+            after_note(
+                &service.config,
+                standing,
+                service.breaker.notes.as_slice(),
+                note,
+            )
+        }
         _ => standing,
     };
-    Decision {
-        reply: Reply::Finished {
-            fate,
-            verdict,
-            steps: judged.steps(),
-            version: ticket.version,
-            state: next.state,
+    Plan {
+        decision: Decision {
+            reply: Reply::Finished {
+                fate,
+                verdict,
+                steps: judged.steps(),
+                version: ticket.version,
+                state: next.state,
+            },
+            next,
         },
-        next,
+        effects,
     }
 }
 
@@ -148,80 +204,72 @@ fn same_program(left: &Verified, right: &Verified) -> bool
 
 /// The answer under a ticket whose version has this program.
 fn finished_by(
-    config: &Config,
-    breaker: &Breaker,
+    service: &Service,
     moment: u64,
     ticket: OpenTicket,
     judged: &Judged,
     program: &Verified,
-) -> Decision
-    requires notes { length breaker.now.notes.items < 2 ^ 32 }
-    requires period { breaker.now.standing.period + 1 < 2 ^ 64 }
-    ensures { (registry : Registry) (held : ℕ) → result ≡ finished_by (situation config.now breaker.now registry held) moment ticket judged.now (Some program.now) }
+) -> Plan
+    requires notes { length service.now.breaker.notes.items < 2 ^ 32 }
+    requires period { service.now.breaker.standing.period + 1 < 2 ^ 64 }
+    ensures { (held : ℕ) → result ≡ planned service.now.config moment (finishes judged.now ticket.number) (finished_by (situation_in service.now held) moment ticket judged.now (Some program.now)) }
 {
     // That the program is safe and the record is one makes the verdict the only one.
-    let _budget = program.budget();
-    let _context = judged.outcome().context();
+    know_program(program);
+    know_work(judged);
     if !same_program(judged.program(), program) {
-        return refused(breaker.standing, RefusalNumber::Stranger);
+        return refused(service.breaker.standing, RefusalNumber::Stranger);
     }
-    concluded(config, breaker, moment, ticket, judged)
+    concluded(service, moment, ticket, judged)
 }
 
 /// The answer under an open ticket.
-fn finished_under(
-    config: &Config,
-    breaker: &Breaker,
-    registry: &Registry,
-    moment: u64,
-    judged: &Judged,
-    ticket: OpenTicket,
-) -> Decision
-    requires { IsRoomy breaker.now registry.now }
-    ensures { (held : ℕ) → result ≡ finished_under (situation config.now breaker.now registry.now held) moment judged.now (Some ticket) }
+fn finished_under(service: &Service, moment: u64, judged: &Judged, ticket: OpenTicket) -> Plan
+    requires { IsRoomy service.now.breaker service.now.registry }
+    ensures { (held : ℕ) → result ≡ planned service.now.config moment (finishes judged.now ticket.number) (finished_under (situation_in service.now held) moment judged.now (Some ticket)) }
 {
-    match registry.program(ticket.version) {
-        Some(program) => finished_by(config, breaker, moment, ticket, judged, program),
-        None => refused(breaker.standing, RefusalNumber::Stranger),
+    match service.registry.program(ticket.version) {
+        Some(program) => finished_by(service, moment, ticket, judged, program),
+        None => refused(service.breaker.standing, RefusalNumber::Stranger),
     }
 }
 
 /// The answer to an outcome under a ticket.
-fn finished(
-    config: &Config,
-    breaker: &Breaker,
-    registry: &Registry,
-    moment: u64,
-    judged: &Judged,
-    ticket: u64,
-) -> Decision
-    requires { IsRoomy breaker.now registry.now }
-    ensures { (held : ℕ) → result ≡ finished (situation config.now breaker.now registry.now held) moment judged.now ticket }
+fn finished(service: &Service, moment: u64, judged: &Judged, ticket: u64) -> Plan
+    requires { IsRoomy service.now.breaker service.now.registry }
+    ensures { (held : ℕ) → result ≡ planned service.now.config moment (finishes judged.now ticket) (finished (situation_in service.now held) moment judged.now ticket) }
 {
-    if ticket == 0 || ticket >= registry.next_ticket {
-        return refused(breaker.standing, RefusalNumber::NoTicket);
+    let registry = &service.registry;
+    if !registry.is_issued(ticket) {
+        return refused(service.breaker.standing, RefusalNumber::NoTicket);
     }
-    let Some(open) = registry.open_ticket(ticket) else {
-        return refused(breaker.standing, RefusalNumber::TicketSpent);
-    };
-    finished_under(config, breaker, registry, moment, judged, open)
+    match registry.open_ticket(ticket) {
+        Some(open) => finished_under(service, moment, judged, open),
+        None => refused(service.breaker.standing, RefusalNumber::TicketSpent),
+    }
 }
 
 /// The answer to the end of a ticket with no outcome.
-fn released(breaker: &Breaker, registry: &Registry, ticket: u64) -> Decision
-    ensures { (config : ConfigParts) (held : ℕ) → result ≡ released (situation config breaker.now registry.now held) ticket }
+fn released(service: &Service, ticket: u64) -> Plan
+    ensures { (moment : ℕ) (held : ℕ) → result ≡ planned service.now.config moment (releases ticket) (released (situation_in service.now held) ticket) }
 {
-    if ticket == 0 || ticket >= registry.next_ticket {
-        return refused(breaker.standing, RefusalNumber::NoTicket);
+    let standing = service.breaker.standing;
+    if !service.registry.is_issued(ticket) {
+        return refused(standing, RefusalNumber::NoTicket);
     }
-    match registry.open_ticket(ticket) {
-        Some(_) => Decision {
+    if service.registry.open_ticket(ticket).is_none() {
+        return refused(standing, RefusalNumber::TicketSpent);
+    }
+    let mut effects = Effects::NONE;
+    effects.ended = Some(ticket);
+    Plan {
+        decision: Decision {
             reply: Reply::Released {
-                state: breaker.standing.state,
+                state: standing.state,
             },
-            next: breaker.standing,
+            next: standing,
         },
-        None => refused(breaker.standing, RefusalNumber::TicketSpent),
+        effects,
     }
 }
 
@@ -229,98 +277,94 @@ fn released(breaker: &Breaker, registry: &Registry, ticket: u64) -> Decision
 const MOST_VERSIONS: usize = 256;
 
 /// The answer to a program.
-fn installed(breaker: &Breaker, registry: &Registry, program: &Verified) -> Decision
-    requires { registry.now.first_version + length registry.now.programs.items < 2 ^ 64 }
-    ensures { (config : ConfigParts) (held : ℕ) → result ≡ installed (situation config breaker.now registry.now held) program.now }
+fn installed(service: &Service, program: &Verified) -> Plan
+    requires { service.now.registry.first_version + length service.now.registry.programs.items < 2 ^ 64 }
+    ensures { (moment : ℕ) (held : ℕ) → result ≡ planned service.now.config moment (installs program.now) (installed (situation_in service.now held) program.now) }
 {
-    let versions = registry.programs.len();
+    let standing = service.breaker.standing;
+    let versions = service.registry.programs.len();
     if versions >= MOST_VERSIONS {
-        return refused(breaker.standing, RefusalNumber::VersionsFull);
+        return refused(standing, RefusalNumber::VersionsFull);
     }
-    Decision {
-        reply: Reply::Installed {
-            version: registry.first_version + versions as u64,
-            budget: program.budget(),
+    let mut effects = Effects::NONE;
+    effects.installs = true;
+    Plan {
+        decision: Decision {
+            reply: Reply::Installed {
+                version: service.registry.first_version + versions as u64,
+                budget: program.budget(),
+            },
+            next: standing,
         },
-        next: breaker.standing,
+        effects,
     }
 }
 
-/// The answer to a move, which every state allows.
-fn moved_to(breaker: &Breaker, moment: u64, state: State) -> Decision
-    requires { breaker.now.standing.period + 1 < 2 ^ 64 }
-    ensures { (config : ConfigParts) (registry : Registry) (held : ℕ) → result ≡ moved_to (situation config breaker.now registry held) moment state }
+/// The answer to a move, which every state allows, or to a reset.
+fn moved_to(service: &Service, moment: u64, state: State) -> Plan
+    requires { service.now.breaker.standing.period + 1 < 2 ^ 64 }
+    ensures moves { (held : ℕ) → result ≡ planned service.now.config moment (moves state) (moved_to (situation_in service.now held) moment state) }
+    ensures resets { (held : ℕ) → result ≡ planned service.now.config moment resets (moved_to (situation_in service.now held) moment state) }
 {
-    let next = breaker.standing.moved(state, moment);
-    Decision {
-        reply: Reply::Moved {
-            state,
-            period: next.period,
+    let next = service.breaker.standing.moved(state, moment);
+    Plan {
+        decision: Decision {
+            reply: Reply::Moved {
+                state,
+                period: next.period,
+            },
+            next,
         },
-        next,
+        effects: Effects::NONE,
     }
 }
 
-/// How many lines a journal holds.
-const MOST_LINES: usize = 65_536;
+/// How many entries a journal holds.
+const MOST_ENTRIES: usize = 65_536;
 
-/// Whether the journal has no line left for the event.
-fn is_full(registry: &Registry, held: usize, event: &Event) -> bool
-    requires { (held < 2 ^ 32) × (length registry.now.open_tickets.items < 2 ^ 32) }
-    ensures { (config : ConfigParts) (breaker : Breaker) → result ≡ is_full (situation config breaker registry.now held) (seen event.now) }
+/// Whether the journal has no entry left for the event.
+fn is_full(service: &Service, held: usize, event: &Event) -> bool
+    requires { (held < 2 ^ 32) × (length service.now.registry.open_tickets.items < 2 ^ 32) }
+    ensures { result ≡ is_full (situation_in service.now held) (seen event.now) }
 {
+    let registry = &service.registry;
     let used = held + registry.open_tickets.len();
     match event {
-        Event::Acquire => used > MOST_LINES - 2,
+        Event::Acquire => used > MOST_ENTRIES - 2,
         Event::Finish(_, ticket) | Event::Release(ticket) => {
-            used > MOST_LINES - 1 && !registry.is_open(*ticket)
+            used > MOST_ENTRIES - 1 && !registry.is_open(*ticket)
         }
-        Event::Install(_) | Event::Move(_) | Event::Reset => used > MOST_LINES - 1,
+        Event::Install(_) | Event::Move(_) | Event::Reset => used > MOST_ENTRIES - 1,
     }
 }
 
-/// What is answered where the journal has room.
-fn decided(
-    config: &Config,
-    breaker: &Breaker,
-    registry: &Registry,
-    moment: u64,
-    event: &Event,
-) -> Decision
-    requires { IsRoomy breaker.now registry.now }
-    ensures { (held : ℕ) → result ≡ decided (situation config.now breaker.now registry.now held) moment (seen event.now) }
+/// What is decided where the journal has room.
+fn decided(service: &Service, moment: u64, event: &Event) -> Plan
+    requires { IsRoomy service.now.breaker service.now.registry }
+    ensures { (held : ℕ) → result ≡ planned service.now.config moment (seen event.now) (decided (situation_in service.now held) moment (seen event.now)) }
 {
     match event {
-        Event::Acquire => acquired(config, breaker, registry, moment),
-        Event::Finish(judged, ticket) => {
-            finished(config, breaker, registry, moment, judged, *ticket)
-        }
-        Event::Release(ticket) => released(breaker, registry, *ticket),
-        Event::Install(program) => installed(breaker, registry, program),
-        Event::Move(state) => moved_to(breaker, moment, *state),
-        Event::Reset => moved_to(breaker, moment, State::Closed),
+        Event::Acquire => acquired(service, moment),
+        Event::Finish(judged, ticket) => finished(service, moment, judged, *ticket),
+        Event::Release(ticket) => released(service, *ticket),
+        Event::Install(program) => installed(service, program),
+        Event::Move(state) => moved_to(service, moment, *state),
+        Event::Reset => moved_to(service, moment, State::Closed),
     }
 }
 
-/// What is answered to an event, and where the breaker stands then. It takes no memory.
-#[tactic(auto, using(crate::proofs::Configured::no_stay), unfolding(crate::specs::Machine::decision))]
-pub(crate) fn decide(
-    config: &Config,
-    breaker: &Breaker,
-    registry: &Registry,
-    held: usize,
-    moment: u64,
-    event: &Event,
-) -> Decision
-    requires roomy { IsRoomy breaker.now registry.now }
-    requires held { (held < 2 ^ 32) × (length registry.now.open_tickets.items < 2 ^ 32) }
-    ensures { result ≡ decision (situation config.now breaker.now registry.now held) moment (seen event.now) }
+/// What is decided of an event where the journal holds so many entries. It takes no memory, and changes
+/// nothing.
+pub(crate) fn decide(service: &Service, held: usize, moment: u64, event: &Event) -> Plan
+    requires roomy { IsRoomy service.now.breaker service.now.registry }
+    requires held { (held < 2 ^ 32) × (length service.now.registry.open_tickets.items < 2 ^ 32) }
+    ensures { result ≡ planned service.now.config moment (seen event.now) (decision (situation_in service.now held) moment (seen event.now)) }
 {
-    let _parts = config.parts();
-    if is_full(registry, held, event) {
-        return refused(breaker.standing, RefusalNumber::JournalFull);
+    know_config(&service.config);
+    if is_full(service, held, event) {
+        return refused(service.breaker.standing, RefusalNumber::JournalFull);
     }
-    decided(config, breaker, registry, moment, event)
+    decided(service, moment, event)
 }
 
 fn is_entered_refusal(number: RefusalNumber) -> bool

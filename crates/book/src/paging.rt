@@ -1,7 +1,7 @@
 //! Pages of the journal: copies of entries.
 ghost use Rattle.std.specs.Prelude.{◌≡◌, ◌<◌, length, take, IfOk};
-ghost use Rattle.book.specs.Answers.{IsPage, map_ok};
-ghost use Rattle.book.specs.Histories.{IsLegal, past_of};
+ghost use Rattle.service_profile.specs.Answers.{IsPage, map_ok};
+ghost use Rattle.service_profile.specs.Histories.{IsLegal, past_of};
 ghost use Rattle.book.specs.Sound.{IsSound};
 
 use crate::books::Book;

@@ -1,28 +1,21 @@
 //! The versions of programs that are held, and the tickets that are open.
-ghost use Rattle.std.specs.Prelude.{◌≡◌, ℕ, ◌<◌, ◌≤◌, ◌+◌, ◌-◌, ◌^◌, not, map, [], ◌++◌, option_to_list, length, Some, OnOk, OnSome};
+ghost use Rattle.std.specs.Prelude.{◌≡◌, ℕ, nat_le, nat_lt, ◌&&◌, ◌<◌, ◌≤◌, ◌+◌, ◌-◌, ◌^◌, not, map, [], ◌++◌, option_to_list, length, Some, OnOk, OnSome};
 ghost use Rattle.std.specs.Arc.{arc_value};
 ghost use Rattle.std.specs.Option.{option_map};
 ghost use Rattle.std.specs.List.{filter};
 ghost use Rattle.std.specs.Vec.{vec_len, vec_capacity};
-ghost use Rattle.book.specs.Answers.{budget_of, looked, looked_under, map_ok};
+ghost use Rattle.service_profile.specs.Answers.{budget_of, looked, looked_under, map_ok};
 ghost use Rattle.book.specs.Following.{is_number, tickets_after, one_where_some};
 ghost use Rattle.book.specs.Situations.{situation};
 ghost use Rattle.book.specs.declared.breaker.Breaker.{Breaker};
-ghost use Rattle.book.specs.declared.configuration.ConfigParts.{ConfigParts};
-ghost use Rattle.book.specs.Machine.{open_ticket, is_open, program_from};
+ghost use Rattle.service_profile.specs.declared.configuration.ConfigParts.{ConfigParts};
+ghost use Rattle.service_profile.specs.Machine.{open_ticket, is_open, permissions_held, program_from};
 
 use refusals::RefusalNumber;
+use service_profile::OpenTicket;
 use std::alloc::{AllocError, Global};
 use std::sync::Arc;
 use verifier::Verified;
-
-/// A ticket that was issued and has not ended.
-#[derive(Clone, Copy, Debug, PartialEq, Eq)]
-pub(crate) struct OpenTicket {
-    pub number: u64,
-    pub version: u64,
-    pub period: u64,
-}
 
 /// Versions and tickets.
 #[derive(Drop)]
@@ -51,6 +44,16 @@ fn is_open_in(tickets: &[OpenTicket], number: u64) -> bool
     ensures { result ≡ is_open tickets.now number }
 {
     tickets.iter().any(|ticket| ticket.number == number)
+}
+
+/// How many open tickets hold a permission of a period.
+fn permissions_held(period: u64, tickets: &[OpenTicket]) -> usize
+    ensures { result ≡ permissions_held period tickets.now }
+{
+    tickets
+        .iter()
+        .filter(|ticket| ticket.period == period)
+        .count()
 }
 
 /// Drops the ticket of a number.
@@ -163,11 +166,25 @@ impl Registry {
         self.programs.get((version - self.first_version) as usize)
     }
 
+    /// How many permissions of a period are held.
+    pub(crate) fn permissions_held(&self, period: u64) -> u64
+        ensures { result ≡ permissions_held period self.now.open_tickets.items }
+    {
+        permissions_held(period, self.open_tickets.as_slice()) as u64
+    }
+
     /// The open ticket of a number.
     pub(crate) fn open_ticket(&self, number: u64) -> Option<OpenTicket>
         ensures { result ≡ open_ticket self.now.open_tickets.items number }
     {
         open_ticket_in(self.open_tickets.as_slice(), number)
+    }
+
+    /// Whether a number was given to a ticket.
+    pub(crate) fn is_issued(&self, number: u64) -> bool
+        ensures { result ≡ (nat_le 1 number && nat_lt number self.now.next_ticket) }
+    {
+        1 <= number && number < self.next_ticket
     }
 
     /// The program that judges under an open ticket.
@@ -184,7 +201,7 @@ impl Registry {
     pub(crate) fn look(&self, ticket: u64) -> Result<&Arc<Verified>, RefusalNumber>
         ensures { (config : ConfigParts) (breaker : Breaker) (held : ℕ) → map_ok (λ p. arc_value p.now) result ≡ looked (situation config breaker self.now held) ticket }
     {
-        if ticket == 0 || ticket >= self.next_ticket {
+        if !self.is_issued(ticket) {
             return Err(RefusalNumber::NoTicket);
         }
         let Some(open) = self.open_ticket(ticket) else {

@@ -1,29 +1,9 @@
 //! What a breaker notes of calls, and the totals over a sliding window of notes.
 ghost use Rattle.std.specs.Prelude.{◌≡◌, ◌<◌, ◌≤◌, ◌+◌, ◌^◌, ◌++◌, ◌∷◌, [], ℕ, true, length};
 ghost use Rattle.std.specs.List.{filter};
-ghost use Rattle.book.specs.Windows.{last, is_recent, in_window, totals_of, windowed, with_note, AreTotals};
+ghost use Rattle.service_profile.specs.Windows.{last, is_recent, in_window, totals_of, windowed, with_note, AreTotals};
 
-use crate::configuration::{Config, ConfigParts, is_count_based};
-use crate::states::State;
-
-/// What a recorded verdict leaves.
-#[derive(Clone, Copy, Debug, PartialEq, Eq)]
-pub struct Note {
-    /// Milliseconds.
-    pub moment: u64,
-    /// Whether the verdict is a failure.
-    pub failed: bool,
-    /// Whether the call took longer than the threshold.
-    pub slow: bool,
-}
-
-/// How many notes a window has, and of which kinds.
-#[derive(Clone, Copy, Debug, PartialEq, Eq)]
-pub struct Totals {
-    pub total: u64,
-    pub failed: u64,
-    pub slow: u64,
-}
+use service_profile::{Config, ConfigParts, Note, State, Totals};
 
 /// The last notes, so many, or all where there are fewer.
 fn last(count: u64, notes: &[Note]) -> &[Note]
@@ -58,20 +38,6 @@ fn totals_of(notes: &[Note]) -> Totals
         total: notes.len() as u64,
         failed: failures(notes) as u64,
         slow: slow_calls(notes) as u64,
-    }
-}
-
-impl Totals {
-    /// The totals with one note more.
-    fn with(self, note: Note) -> Totals
-        requires { (self.total < 2 ^ 48) × (self.failed < 2 ^ 48) × (self.slow < 2 ^ 48) }
-        ensures { result ≡ with_note self note }
-    {
-        Totals {
-            total: self.total + 1,
-            failed: self.failed + u64::from(note.failed),
-            slow: self.slow + u64::from(note.slow),
-        }
     }
 }
 
@@ -134,7 +100,7 @@ fn kept_in_window(config: &Config, moment: u64, notes: &[Note]) -> Totals
 {
     let parts = config.parts();
     let size = parts.sliding_window_size;
-    if is_count_based(parts.sliding_window_type) {
+    if parts.sliding_window_type.is_count_based() {
         totals_of(last(size - 1, notes))
     } else {
         recent_totals(size, moment, notes)
@@ -171,7 +137,7 @@ fn totals_in_window(config: &ConfigParts, moment: u64, notes: &[Note]) -> Totals
     ensures fits { AreTotals (length notes.now) result }
 {
     let size = config.sliding_window_size;
-    if is_count_based(config.sliding_window_type) {
+    if config.sliding_window_type.is_count_based() {
         totals_of(last(size, notes))
     } else {
         recent_totals(size, moment, notes)

@@ -22,8 +22,8 @@ use Rattle.bpf_profile.specs.declared.instruction.Size.TheVariants as size
 use Rattle.bpf_profile.specs.declared.instruction.Width.{Width}
 use Rattle.bpf_profile.specs.declared.instruction.Width.TheVariants as width
 use Rattle.bpf_profile.specs.Words.{low, word_of, sign_extended}
-use Rattle.bpf_encode.specs.Encoding.{IsInstruction, IsImmediate, IsOffset, IsOperand, IsJump, IsExtended, IsConverted, IsLoaded}
-use Rattle.bpf_encode.proofs.Inverse.{is_immediate}
+use Rattle.bpf_decode.specs.Encoding.{IsInstruction, IsImmediate, IsOffset, IsOperand, IsJump, IsExtended, IsConverted, IsLoaded}
+use Rattle.bpf_decode.proofs.Inverse.{is_immediate}
 use Rattle.bpf_asm.specs.declared.arguments.Argument.{Argument}
 use Rattle.bpf_asm.specs.declared.arguments.Argument.TheVariants as argument
 use Rattle.bpf_asm.specs.declared.arguments.Arguments.{Arguments}

@@ -121,7 +121,7 @@ if_prefix : {P : Size → Type 0} (test : Bool) (o : Option Size) → (test ≡ 
 if_prefix true o h = h refl
 if_prefix false o h = nothing
 
-given_of : {A : Type 0} (P Q : A → Type 0) (o : Option A) → Gives P o → ((a : A) → P a → Q a) → Gives Q o
+pub given_of : {A : Type 0} (P Q : A → Type 0) (o : Option A) → Gives P o → ((a : A) → P a → Q a) → Gives Q o
 given_of P Q (Some a) h f = record { given = f a h.given }
 given_of P Q None h f = nothing
 

@@ -12,6 +12,9 @@ pub mod Pieces
 pub mod Operands
 pub mod Printed
 pub mod Called
+pub mod Alike
+pub mod Kept
+pub mod Letters
 pub mod FirstFault
 pub mod Returning
 pub mod Contents

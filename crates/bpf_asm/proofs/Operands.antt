@@ -9,7 +9,7 @@ use Rattle.bpf_profile.specs.declared.instruction.Operand.TheVariants as operand
 use Rattle.bpf_profile.specs.declared.instruction.Width.{Width}
 use Rattle.bpf_profile.specs.declared.instruction.Width.TheVariants as width
 use Rattle.bpf_profile.specs.Words.{low, signed, word_of, sign_extended}
-use Rattle.bpf_encode.specs.Encoding.{IsImmediate, IsOffset, IsOperand, IsJump}
+use Rattle.bpf_decode.specs.Encoding.{IsImmediate, IsOffset, IsOperand, IsJump}
 use Rattle.bpf_asm.specs.declared.arguments.Argument.{Argument}
 use Rattle.bpf_asm.specs.declared.arguments.Argument.TheVariants as argument
 use Rattle.bpf_asm.specs.declared.arguments.Numeral.{Numeral}

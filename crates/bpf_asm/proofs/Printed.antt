@@ -9,7 +9,7 @@ use Rattle.bpf_profile.specs.declared.instruction.Operand.TheVariants as operand
 use Rattle.bpf_profile.specs.declared.slot.Slot.{Slot}
 use Rattle.bpf_profile.specs.Spelling.{IsProgram}
 use Rattle.bpf_profile.specs.Words.{signed}
-use Rattle.bpf_encode.specs.Encoding.{encoding, IsInstruction}
+use Rattle.bpf_decode.specs.Encoding.{encoding, IsInstruction}
 use Rattle.bpf_asm.specs.declared.arguments.Argument.TheVariants as argument
 use Rattle.bpf_asm.specs.declared.arguments.Arguments.{Arguments}
 use Rattle.bpf_asm.specs.declared.arguments.Arguments.TheVariants as arguments

@@ -16,11 +16,11 @@ use Rattle.bpf_profile.specs.declared.slot.Slot.{Slot}
 use Rattle.bpf_profile.specs.declared.slot.Slot.TheVariants.{Ins, Tail}
 use Rattle.bpf_profile.specs.Slots.{instruction_of}
 use Rattle.bpf_profile.specs.Spelling.{IsSlot, IsProgram, is_wide}
-use Rattle.bpf_encode.specs.OpcodeNumbers.{operation_code, source_bit, size_code, arithmetic_class, jump_class, store_class, comparison_code}
-use Rattle.bpf_encode.specs.Encoding.{encoding, first_slot, second_slot, source_of, unsigned_operation, IsInstruction, Stands}
-use Rattle.bpf_encode.proofs.Readings.{read_again}
-use Rattle.bpf_encode.proofs.Inverse.{stands}
-use Rattle.bpf_encode.proofs.Fits.{first_fits, second_fits}
+use Rattle.bpf_decode.specs.OpcodeNumbers.{operation_code, source_bit, size_code, arithmetic_class, jump_class, store_class, comparison_code}
+use Rattle.bpf_decode.specs.Encoding.{encoding, first_slot, second_slot, source_of, unsigned_operation, IsInstruction, Stands}
+use Rattle.bpf_decode.proofs.Readings.{read_again}
+use Rattle.bpf_decode.proofs.Inverse.{stands}
+use Rattle.bpf_decode.proofs.Fits.{first_fits, second_fits}
 use Rattle.bpf_decode.proofs.Runs.{IsRun, program_run, run_instructions, run_tails}
 use Rattle.bpf_asm.specs.Assembly.{slots_of}
 use Rattle.bpf_asm.specs.Canonical.{instructions_of}

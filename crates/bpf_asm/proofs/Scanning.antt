@@ -1,9 +1,13 @@
 -- The tokens of a line, character by character.
-use Rattle.std.proofs.Common.{◌≡◌, refl, sym, ap, ◌∙◌, ℕ, ◌+◌, ◌-◌, ◌<◌, ◌≤◌, Bool, true, false, List, [], ◌∷◌, ◌++◌, length, take, drop, get_or, append_assoc, length-drop, arith}
+use Rattle.std.proofs.Common.{◌≡◌, refl, sym, ap, ◌∙◌, ℕ, ◌+◌, ◌-◌, ◌<◌, ◌≤◌, Bool, true, false, Option, List, [], ◌∷◌, ◌++◌, length, take, drop, get_or, append_assoc, length-drop, arith}
 use Rattle.std.specs.Prelude.{option_to_list}
-use Rattle.std.proofs.lemmas.List.{drop_more, drop_all, take_all, take_more, get_or-drop}
+use Rattle.std.specs.Char.{to_ascii_lowercase}
+use Rattle.std.proofs.lemmas.List.{drop_more, drop_all, take_all, take_more, get_or-drop, get_or-map, length-map, take-map, drop-map}
 use Rattle.bpf_asm.specs.declared.tokens.Token.{Token}
 use Rattle.bpf_asm.specs.Tokens.{run_tokens, mark_of, ends_run, tokens_after}
+use Rattle.bpf_asm.specs.Assembly.{small_letters}
+use Rattle.bpf_asm.proofs.Letters.{mark_small, ends_small}
+use Rattle.bpf_asm.proofs.Alike.{longer_alike}
 
 pub after_end : (run cs : List ℕ) (c : ℕ) → ends_run c ≡ true → tokens_after run (c ∷ cs) ≡ run_tokens run ++ (option_to_list (mark_of c) ++ tokens_after [] cs)
 unfolding tokens_after
@@ -70,3 +74,55 @@ run_is_last content old new start place all h le made before =
     ∙ ap (λ (xs : List ℕ). old ++ tokens_after xs []) (sym (take_all (place - start) (drop start content) long))
     ∙ ap (λ (xs : List ℕ). old ++ tokens_after (take (place - start) (drop start content)) xs) (sym (drop_all place content h))
     ∙ before
+
+-- ---- the same of a line in small letters, of whose tokens the first are kept
+
+small_run : (content : List ℕ) (start n : ℕ) → take n (drop start (small_letters content)) ≡ small_letters (take n (drop start content))
+small_run content start n = ap (take n) (drop-map to_ascii_lowercase start content) ∙ take-map to_ascii_lowercase n (drop start content)
+
+small_at : (content : List ℕ) (place : ℕ) → place < length content → get_or (small_letters content) place 0 ≡ to_ascii_lowercase (get_or content place 0)
+small_at content place h = get_or-map to_ascii_lowercase content place 0 0 h
+
+pub kept_ended : (content : List ℕ) (old new : List Token) (start place : ℕ) (all : List Token) → place < length content → ends_run (get_or content place 0) ≡ true
+    → take 19 new ≡ take 19 (old ++ (run_tokens (small_letters (take (place - start) (drop start content))) ++ option_to_list (mark_of (get_or content place 0))))
+    → take 19 (old ++ tokens_after (take (place - start) (drop start (small_letters content))) (drop place (small_letters content))) ≡ all
+    → take 19 (new ++ tokens_after (take (place + 1 - (place + 1)) (drop (place + 1) (small_letters content))) (drop (place + 1) (small_letters content))) ≡ all
+kept_ended content old new start place all h ended made before =
+    let s = small_letters content in
+    let c = get_or content place 0 in
+    let longer = old ++ (run_tokens (small_letters (take (place - start) (drop start content))) ++ option_to_list (mark_of c)) in
+    let next = tokens_after (take (place + 1 - (place + 1)) (drop (place + 1) s)) (drop (place + 1) s) in
+    let at = small_at content place h in
+    let within : place < length s = omega (arith, length-map content to_ascii_lowercase) in
+    let same : longer ≡ old ++ (run_tokens (take (place - start) (drop start s)) ++ option_to_list (mark_of (get_or s place 0))) =
+    ap (λ (xs : List ℕ). old ++ (run_tokens xs ++ option_to_list (mark_of c))) (sym (small_run content start (place - start)))
+    ∙ ap (λ (m : Option Token). old ++ (run_tokens (take (place - start) (drop start s)) ++ option_to_list m)) (sym (ap mark_of at ∙ mark_small c)) in
+    longer_alike 19 new longer next made
+    ∙ ap (take 19) (run_ended s old longer start place (old ++ tokens_after (take (place - start) (drop start s)) (drop place s)) within (ap ends_run at ∙ ends_small c ∙ ended) same refl)
+    ∙ before
+
+pub kept_goes_on : (content : List ℕ) (old : List Token) (start place : ℕ) (all : List Token) → place < length content → start ≤ place → ends_run (get_or content place 0) ≡ false
+    → take 19 (old ++ tokens_after (take (place - start) (drop start (small_letters content))) (drop place (small_letters content))) ≡ all
+    → take 19 (old ++ tokens_after (take (place + 1 - start) (drop start (small_letters content))) (drop (place + 1) (small_letters content))) ≡ all
+kept_goes_on content old start place all h le inside before =
+    let s = small_letters content in
+    let at = small_at content place h in
+    let within : place < length s = omega (arith, length-map content to_ascii_lowercase) in
+    ap (take 19) (run_goes_on s old start place (old ++ tokens_after (take (place - start) (drop start s)) (drop place s)) within le (ap ends_run at ∙ ends_small (get_or content place 0) ∙ inside) refl)
+    ∙ before
+
+pub kept_last : (content : List ℕ) (old new : List Token) (start place : ℕ) (all : List Token) → length content ≤ place → start ≤ place
+    → take 19 new ≡ take 19 (old ++ run_tokens (small_letters (take (length content - start) (drop start content))))
+    → take 19 (old ++ tokens_after (take (place - start) (drop start (small_letters content))) (drop place (small_letters content))) ≡ all
+    → take 19 new ≡ all
+kept_last content old new start place all h le made before =
+    let s = small_letters content in
+    let longer = old ++ run_tokens (small_letters (take (length content - start) (drop start content))) in
+    let past : length s ≤ place = omega (arith, length-map content to_ascii_lowercase) in
+    let same : longer ≡ old ++ run_tokens (take (length s - start) (drop start s)) =
+    ap (λ (xs : List ℕ). old ++ run_tokens xs) (sym (small_run content start (length content - start)) ∙ ap (λ (n : ℕ). take (n - start) (drop start s)) (sym (length-map content to_ascii_lowercase))) in
+    made ∙ ap (take 19) (run_is_last s old longer start place (old ++ tokens_after (take (place - start) (drop start s)) (drop place s)) past le same refl) ∙ before
+
+-- a run and the mark behind it, appended one after the other
+pub kept_both : (old one new run mark : List Token) → take 19 one ≡ take 19 (old ++ run) → take 19 new ≡ take 19 (one ++ mark) → take 19 new ≡ take 19 (old ++ (run ++ mark))
+kept_both old one new run mark e f = f ∙ longer_alike 19 one (old ++ run) mark e ∙ ap (take 19) (append_assoc old run mark)

@@ -6,7 +6,7 @@ use Rattle.refusals.specs.declared.RefusalNumber.{RefusalNumber}
 use Rattle.refusals.specs.declared.RefusalNumber.TheVariants.{BadTextLength, AssemblerOutOfMemory}
 use Rattle.bpf_profile.specs.declared.instruction.Instruction.{Instruction}
 use Rattle.bpf_profile.specs.declared.slot.Slot.{Slot}
-use Rattle.bpf_encode.specs.Encoding.{encoding}
+use Rattle.bpf_decode.specs.Encoding.{encoding}
 use Rattle.bpf_asm.specs.declared.error.AsmError.{AsmError}
 use Rattle.bpf_asm.specs.Tokens.{tokens_of}
 use Rattle.bpf_asm.specs.Reading.{statement_of, ◌>>=◌}

@@ -6,3 +6,4 @@ pub mod Reading
 pub mod Assembly
 pub mod Faults
 pub mod Writing
+pub mod ErrorTexts

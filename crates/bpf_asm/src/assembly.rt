@@ -3,31 +3,20 @@ ghost use Rattle.std.specs.Prelude.{◌≡◌, ◌==◌, ◌++◌, ◌∷◌, []
 ghost use Rattle.std.specs.List.{position};
 ghost use Rattle.bpf_profile.specs.declared.slot.Slot.{Slot};
 ghost use Rattle.bpf_profile.specs.Spelling.{IsProgram};
-ghost use Rattle.bpf_encode.specs.Encoding.{encoding};
+ghost use Rattle.bpf_decode.specs.Encoding.{encoding};
 ghost use Rattle.bpf_asm.specs.Assembly.{small_letters, lines_of, statement_on, at_line, with_line, with_lines, assembly_of, out_of_memory, Assembles};
 ghost use Rattle.bpf_asm.specs.Canonical.{text_of};
 
 use crate::error::AsmError;
 use crate::reading::statement_of;
-use crate::tokens::{Token, read_tokens};
-use bpf_decode::Program;
-use bpf_encode::Encoded;
+use crate::tokens::read_tokens;
+use bpf_decode::{Encoded, Program};
 use bpf_profile::{Instruction, Slot};
 use refusals::RefusalNumber;
 use std::alloc::{AllocError, Global};
 
 /// How many slots a program has at most.
 const MOST_SLOTS: usize = 4096;
-
-/// The text with its letters made small.
-fn small_letters(alloc: Global, text: &str) -> Result<Vec<u8>, AllocError>
-    ensures { IfOk result (λ small. small.items ≡ small_letters text.now) }
-{
-    text.as_bytes()
-        .iter()
-        .map(|character| character.to_ascii_lowercase())
-        .collect(alloc)
-}
 
 /// Appends the slots of an instruction.
 fn push_slots(slots: &mut Vec<Slot>, instruction: &Instruction) -> Result<(), AllocError>
@@ -41,20 +30,22 @@ fn push_slots(slots: &mut Vec<Slot>, instruction: &Instruction) -> Result<(), Al
     Ok(())
 }
 
-/// Appends the slots of a line, which is the one of this number, by way of its tokens.
-#[tactic(auto, unfolding(crate::specs::Assembly::with_line, crate::specs::Assembly::statement_on))]
-fn push_line(
-    slots: &mut Vec<Slot>,
-    tokens: &mut Vec<Token>,
-    line: &[u8],
-    number: usize,
-) -> Result<(), AsmError>
-    ensures { MatchResult result
-        (λ _. with_line slots.old.items line.now ≡ Ok slots.new.items)
-        (λ e. (e ≡ out_of_memory) ⊎ (at_line number (with_line slots.old.items line.now) ≡ Err e)) }
+/// What a line is read as: an instruction, or nothing where it is blank.
+fn statement_on(line: &[u8]) -> Result<Option<Instruction>, RefusalNumber>
+    ensures { result ≡ statement_on (small_letters line.now) }
 {
-    read_tokens(tokens, line)?;
-    let statement = match statement_of(tokens) {
+    let tokens = read_tokens(line);
+    statement_of(tokens.as_slice())
+}
+
+/// Appends the slots of a line, which is the one of this number.
+#[tactic(auto, unfolding(crate::specs::Assembly::with_line))]
+fn push_line(slots: &mut Vec<Slot>, line: &[u8], number: usize) -> Result<(), AsmError>
+    ensures { MatchResult result
+        (λ _. with_line slots.old.items (small_letters line.now) ≡ Ok slots.new.items)
+        (λ e. (e ≡ out_of_memory) ⊎ (at_line number (with_line slots.old.items (small_letters line.now)) ≡ Err e)) }
+{
+    let statement = match statement_on(line) {
         Ok(statement) => statement,
         Err(kind) => {
             return Err(AsmError { line: number, kind });
@@ -94,16 +85,15 @@ fn cut_line(text: &[u8]) -> (&[u8], Option<&[u8]>)
 /// The slots of all lines.
 fn slots_of(alloc: Global, text: &[u8]) -> Result<Vec<Slot>, AsmError>
     ensures { MatchResult result
-        (λ slots. with_lines 1 [] (lines_of text.now) ≡ Ok slots.items)
-        (λ e. (e ≡ out_of_memory) ⊎ (with_lines 1 [] (lines_of text.now) ≡ Err e)) }
+        (λ slots. with_lines 1 [] (lines_of (small_letters text.now)) ≡ Ok slots.items)
+        (λ e. (e ≡ out_of_memory) ⊎ (with_lines 1 [] (lines_of (small_letters text.now)) ≡ Err e)) }
 {
     let mut slots = Vec::new(alloc);
-    let mut tokens = Vec::new(alloc);
     let mut rest = text;
     let mut number = 1;
     'lines: loop {
         let (line, more) = cut_line(rest);
-        push_line(&mut slots, &mut tokens, line, number)?;
+        push_line(&mut slots, line, number)?;
         let Some(more) = more else {
             return Ok(slots);
         };
@@ -128,8 +118,7 @@ pub fn assemble(alloc: Global, text: &str) -> Result<Program, AsmError>
     // The text that a program is disassembled to is assembled to that program, unless memory ran out.
     ensures round_trip { (slots : List Slot) → IsProgram slots → text.now ≡ text_of slots → MatchResult result (λ program. program ≡ slots) (λ e. e ≡ out_of_memory) }
 {
-    let small = small_letters(alloc, text)?;
-    let slots = slots_of(alloc, &small)?;
+    let slots = slots_of(alloc, text.as_bytes())?;
     if slots.is_empty() {
         return Err(AsmError {
             line: 0,

@@ -16,13 +16,18 @@ pub struct AsmError {
 }
 
 impl fmt::Display for AsmError {
+    ghost use Rattle.std.specs.Prelude.{Some};
+    ghost use Rattle.bpf_asm.specs.ErrorTexts.{error_text};
+
+    ghost output = { λ e. Some (error_text e) };
+
     fn fmt<W: fmt::Write>(&self, f: &mut fmt::Formatter<W>) -> fmt::Result {
         let number = self.kind.number();
         let name = self.kind.name();
-        write!(f, "refused {number} {name}")?;
-        match self.kind {
-            RefusalNumber::AssemblerOutOfMemory => Ok(()),
-            _ => write!(f, " line {}", self.line),
+        let line = self.line;
+        match number {
+            45 => write!(f, "refused {number} {name}"),
+            _ => write!(f, "refused {number} {name} line {line}"),
         }
     }
 }

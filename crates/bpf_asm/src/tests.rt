@@ -131,6 +131,8 @@ fn unknown_words(rt: HostRuntime) {
         ("ldxsdw r1, [r2+0]", 1),
         ("le8 r1", 1),
         ("call32 1", 1),
+        ("movsb32movsb32 r1, r2", 1),
+        ("r10r10r10", 1),
         ("r0", 1),
         ("1 mov r0", 1),
         (", mov r0, 1", 1),
@@ -188,6 +190,9 @@ fn wrong_operands(rt: HostRuntime) {
         ("stw [r1+0], r2", 1),
         ("stxw [r1+0], 2", 1),
         ("stxw r1, r2", 1),
+        ("jeq [r1+1], [r2+2], [r3+3], 4", 1),
+        ("exit 1 2 3 4 5 6 7 8 9 10 11 12 13 14 15 16 17 18 19 20", 1),
+        ("ja +3 , , , , , , , , , , , , , , , , , , , , , , ,", 1),
     ];
     for (text, line) in rows {
         assert_eq!(rt;

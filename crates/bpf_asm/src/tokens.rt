@@ -1,20 +1,22 @@
 //! A line of text as tokens.
-ghost use Rattle.std.specs.Prelude.{◌≡◌, ◌≤◌, ◌+◌, ◌*◌, ◌++◌, ◌==◌, IfOk, option_and_then, option_to_list};
+ghost use Rattle.std.specs.Prelude.{◌≡◌, ◌≤◌, ◌+◌, ◌*◌, ◌++◌, ◌∷◌, ◌==◌, [], take, option_and_then, option_to_list};
 ghost use Rattle.std.specs.List.{position};
 ghost use Rattle.bpf_asm.specs.Tokens.{bounded, numeral, number_of, register_named, token_of, run_tokens, mark_of, ends_run, tokens_after, without_return, content_of, tokens_of};
+ghost use Rattle.bpf_asm.specs.Assembly.{small_letters};
 
 use crate::words::{Word, word_named};
+use arrayvec::ArrayVec;
 use bpf_profile::Register;
-use std::alloc::AllocError;
 
 /// A word, a register, a number or a mark.
-#[derive(Clone, Copy)]
+#[derive(Clone, Copy, Default)]
 pub(crate) enum Token {
     Word(Word),
     Register(Register),
     /// None stands for each number from 2^64 on.
     Number(Option<u64>),
     /// Characters that are none of these.
+    #[default]
     Unknown,
     Comma,
     Open,
@@ -50,43 +52,64 @@ fn with_digit(number: Option<u64>, radix: u32, digit: u32) -> Option<u64>
         .checked_add(u64::from(digit))
 }
 
-/// Hexadecimal behind 0x, and else decimal.
-#[tactic(auto, unfolding(crate::specs::Tokens::number_of))]
+/// Hexadecimal behind 0x or 0X, and else decimal.
 fn number_of(run: &[u8]) -> Option<Option<u64>>
-    ensures { result ≡ number_of run.now }
+    ensures { result ≡ number_of (small_letters run.now) }
 {
-    match run.strip_prefix(b"0x") {
-        Some(digits) => numeral(16, digits),
-        None => numeral(10, run),
+    if let Some(digits) = run.strip_prefix(b"0x") {
+        return numeral(16, digits);
     }
+    if let Some(digits) = run.strip_prefix(b"0X") {
+        return numeral(16, digits);
+    }
+    numeral(10, run)
 }
 
 /// The register of a name (RFC 9669, section 2).
 #[tactic(auto, unfolding(crate::specs::Tokens::register_named))]
 fn register_named(name: &[u8]) -> Option<Register>
-    ensures { result ≡ register_named name.now }
+    ensures { result ≡ register_named (small_letters name.now) }
 {
-    let number = match name {
-        b"r0" => 0,
-        b"r1" => 1,
-        b"r2" => 2,
-        b"r3" => 3,
-        b"r4" => 4,
-        b"r5" => 5,
-        b"r6" => 6,
-        b"r7" => 7,
-        b"r8" => 8,
-        b"r9" => 9,
-        b"r10" => 10,
-        _ => return None,
-    };
-    Some(Register::new(number))
+    if name.eq_ignore_ascii_case(b"r0") {
+        return Some(Register::new(0));
+    }
+    if name.eq_ignore_ascii_case(b"r1") {
+        return Some(Register::new(1));
+    }
+    if name.eq_ignore_ascii_case(b"r2") {
+        return Some(Register::new(2));
+    }
+    if name.eq_ignore_ascii_case(b"r3") {
+        return Some(Register::new(3));
+    }
+    if name.eq_ignore_ascii_case(b"r4") {
+        return Some(Register::new(4));
+    }
+    if name.eq_ignore_ascii_case(b"r5") {
+        return Some(Register::new(5));
+    }
+    if name.eq_ignore_ascii_case(b"r6") {
+        return Some(Register::new(6));
+    }
+    if name.eq_ignore_ascii_case(b"r7") {
+        return Some(Register::new(7));
+    }
+    if name.eq_ignore_ascii_case(b"r8") {
+        return Some(Register::new(8));
+    }
+    if name.eq_ignore_ascii_case(b"r9") {
+        return Some(Register::new(9));
+    }
+    if name.eq_ignore_ascii_case(b"r10") {
+        return Some(Register::new(10));
+    }
+    None
 }
 
 /// What a run of characters is.
 #[tactic(auto, unfolding(crate::specs::Tokens::token_of))]
 fn token_of(run: &[u8]) -> Token
-    ensures { result ≡ token_of run.now }
+    ensures { result ≡ token_of (small_letters run.now) }
 {
     if let Some(number) = number_of(run) {
         return Token::Number(number);
@@ -123,26 +146,37 @@ fn ends_run(character: u8) -> bool
     character == b' ' || character == b'\t' || mark_of(character).is_some()
 }
 
+/// The first tokens of a line. A word and three arguments have 18 at most, and a line with more is no
+/// statement, whatever its other tokens are.
+pub(crate) type Tokens = ArrayVec<Token, 19>;
+
+/// Appends a token, if there is room.
+fn push_token(tokens: &mut Tokens, token: Token)
+    ensures { take 19 tokens.new.items ≡ take 19 (tokens.old.items ++ (token ∷ [])) }
+{
+    if !tokens.is_full() {
+        tokens.push(token);
+    }
+}
+
 /// Appends the token of a run, if there is one.
 #[tactic(auto, unfolding(crate::specs::Tokens::run_tokens))]
-fn push_run(tokens: &mut Vec<Token>, run: &[u8]) -> Result<(), AllocError>
-    ensures { IfOk result (λ _. tokens.new.items ≡ tokens.old.items ++ run_tokens run.now) }
+fn push_run(tokens: &mut Tokens, run: &[u8])
+    ensures { take 19 tokens.new.items ≡ take 19 (tokens.old.items ++ run_tokens (small_letters run.now)) }
 {
     if !run.is_empty() {
-        tokens.push(token_of(run))?;
+        push_token(tokens, token_of(run));
     }
-    Ok(())
 }
 
 /// Appends the token of a run that has ended, and the mark that ended it.
-fn push_ended(tokens: &mut Vec<Token>, run: &[u8], end: u8) -> Result<(), AllocError>
-    ensures { IfOk result (λ _. tokens.new.items ≡ tokens.old.items ++ (run_tokens run.now ++ option_to_list (mark_of end))) }
+fn push_ended(tokens: &mut Tokens, run: &[u8], end: u8)
+    ensures { take 19 tokens.new.items ≡ take 19 (tokens.old.items ++ (run_tokens (small_letters run.now) ++ option_to_list (mark_of end))) }
 {
-    push_run(tokens, run)?;
+    push_run(tokens, run);
     if let Some(mark) = mark_of(end) {
-        tokens.push(mark)?;
+        push_token(tokens, mark);
     }
-    Ok(())
 }
 
 /// A line without the carriage return at its end.
@@ -173,19 +207,19 @@ fn content_of(line: &[u8]) -> &[u8]
     }
 }
 
-/// Puts the tokens of a line, whose letters are small, in place of those that were there.
-pub(crate) fn read_tokens(tokens: &mut Vec<Token>, line: &[u8]) -> Result<(), AllocError>
-    ensures { IfOk result (λ _. tokens.new.items ≡ tokens_of line.now) }
+/// The first tokens of a line, in which capitals stand for small letters.
+pub(crate) fn read_tokens(line: &[u8]) -> Tokens
+    ensures { take 19 result.items ≡ take 19 (tokens_of (small_letters line.now)) }
 {
-    tokens.clear();
+    let mut tokens = Tokens::new();
     let content = content_of(line);
     let mut start = 0;
     for (place, character) in content.iter().enumerate() {
         if ends_run(*character) {
-            push_ended(tokens, &content[start..place], *character)?;
+            push_ended(&mut tokens, &content[start..place], *character);
             start = place + 1;
         }
     }
-    push_run(tokens, &content[start..])?;
-    Ok(())
+    push_run(&mut tokens, &content[start..]);
+    tokens
 }

@@ -1,3 +1,7 @@
 pub mod Runs
 pub mod Texts
 pub mod Spelled
+pub mod Numbers
+pub mod Readings
+pub mod Inverse
+pub mod Fits

@@ -1,13 +1,16 @@
-//! Programs of the BPF profile and the bytes that spell them: decoding, encoding and the laws of both.
+//! Programs of the BPF profile as bytes, slots and instructions, both ways, with the laws of both ways.
 #![tactic(auto)]
 
+mod encoding;
 mod error;
 pub mod laws;
+mod opcode;
 mod program;
 mod reading;
 mod writing;
 
 pub use bpf_profile::Slot;
+pub use encoding::Encoded;
 pub use error::DecodeError;
 pub use program::Program;
 

@@ -1,3 +1,5 @@
+mod instructions;
+
 use super::*;
 use bpf_profile::{Instruction, Register, Slot};
 use refusals::RefusalNumber;

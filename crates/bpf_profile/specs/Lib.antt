@@ -10,3 +10,5 @@ pub mod Faults
 pub mod FaultTexts
 pub mod Flow
 pub mod Safety
+pub mod Programs
+pub mod JudgedWork

@@ -1,6 +1,7 @@
 -- The record of an outcome, as a program sees it.
-use Rattle.std.specs.Prelude.{ℕ, ◌^◌, ◌<◌, ◌≤◌, ◌≡◌, List, length}
+use Rattle.std.specs.Prelude.{ℕ, ◌^◌, ◌<◌, ◌≤◌, ◌≡◌, List, length, drop}
 use Rattle.std.specs.List.{AllByRecursion}
+use Rattle.byteorder.specs.Endian.{little_number}
 
 -- the context's bytes, the facts, and the tag's bytes
 pub record Outcome : Type 0 where
@@ -19,3 +20,11 @@ pub record IsOutcome (size : ℕ) (outcome : Outcome) : Type 0 where
   pub sixteen : length outcome.facts ≡ 16
   pub tag : AreBytes outcome.tag
   pub short : length outcome.tag ≤ 32
+
+-- how many bytes of the context programs see
+abbrev pub context_size : ℕ
+context_size = 128
+
+-- how long the call took, in milliseconds: the double word at offset 8
+abbrev pub duration_of : Outcome → ℕ
+duration_of outcome = little_number 8 (drop 8 outcome.context)

@@ -1,7 +1,7 @@
 //! Work that was judged, tied to its program and its outcome.
 ghost use Rattle.std.specs.Prelude.{◌≡◌, IfOk};
 ghost use Rattle.std.specs.Arc.{arc_value};
-ghost use Rattle.bpf_run.specs.JudgedWork.{IsTied};
+ghost use Rattle.bpf_profile.specs.JudgedWork.{IsTied};
 
 use crate::execution::run;
 use bpf_profile::Verdict;
@@ -21,9 +21,9 @@ pub struct Judged {
 }
 
 impl Model for Judged {
-    ghost use Rattle.bpf_run.specs.JudgedWork.{Work, IsTied};
+    ghost use Rattle.bpf_profile.specs.JudgedWork.{JudgedData, IsTied};
 
-    ghost Value = { Work };
+    ghost Value = { JudgedData };
 
     ghost use Rattle.std.specs.Arc.{arc_value};
 

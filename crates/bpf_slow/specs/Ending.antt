@@ -8,10 +8,6 @@ use Rattle.bpf_profile.specs.Outcomes.{Outcome}
 use Rattle.bpf_slow.specs.declared.ending.End.{End}
 use Rattle.bpf_slow.specs.declared.ending.End.TheVariants as end
 
--- how many bytes a record's context has
-abbrev pub context_size : ℕ
-context_size = 128
-
 -- one of the first steps, so many at most, traps for this reason, and it is the step at this slot
 pub record TrapsWithin (size : ℕ) (slots : List Slot) (outcome : Outcome) (limit place : ℕ) (reason : TrapReason) : Type 0 where
   pub before : ℕ

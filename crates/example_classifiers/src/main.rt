@@ -3,6 +3,7 @@
 //! the lines of `NAME.jsonl`. For an argument `NAME.replay` it replays the events of that file.
 #![tactic(auto)]
 
+use counted_io::Counted;
 use sidecar_commands::command;
 use std::alloc::Global;
 use std::io::{Error, ErrorKind, Write};
@@ -10,10 +11,12 @@ use std::{env, fs, io};
 
 /// Lets a command print what it answers to its words and the input, and answers its status.
 fn answer(alloc: Global, words: &[&str], input: &str, out: &mut impl Write) -> io::Result<u8> {
-    let mut err = Vec::new(alloc);
-    let status = command(alloc, words, &mut input.as_bytes(), out, &mut err);
-    if err.is_empty() {
-        Ok(status)
+    let mut reader = Counted::new(input.as_bytes());
+    let mut counted = Counted::new(out);
+    let mut err = Counted::new(Vec::new(alloc));
+    let status = command(alloc, words, &mut reader, &mut counted, &mut err);
+    if err.inner.is_empty() {
+        Ok(status.code())
     } else {
         Err(Error::from(ErrorKind::InvalidInput))
     }

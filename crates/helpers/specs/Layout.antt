@@ -1,7 +1,6 @@
 -- Where each field stands in a context.
-use Rattle.std.specs.Prelude.{ℕ, List, ◌++◌, drop}
-use Rattle.bpf_profile.specs.Outcomes.{Outcome}
-use Rattle.byteorder.specs.Endian.{little_bytes, little_number}
+use Rattle.std.specs.Prelude.{ℕ, List, ◌++◌}
+use Rattle.byteorder.specs.Endian.{little_bytes}
 use Rattle.helpers.specs.declared.fields.Fields.{Fields}
 use Rattle.helpers.specs.declared.fields.Kind.{Kind}
 use Rattle.helpers.specs.declared.fields.Kind.TheVariants as kind
@@ -41,7 +40,3 @@ context_of f =
     ++ little_bytes 8 f.body_length
     ++ little_bytes 8 0
     ++ f.front
-
--- how long the call took, in milliseconds
-abbrev pub duration_of : Outcome → ℕ
-duration_of outcome = little_number 8 (drop 8 outcome.context)

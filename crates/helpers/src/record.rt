@@ -3,9 +3,8 @@ ghost use Rattle.std.specs.Prelude.{◌≡◌, ◌≤◌, ◌<◌, ◌+◌, ◌%
 ghost use Rattle.std.specs.List.{starts_with};
 ghost use Rattle.byteorder.specs.Endian.{little_number};
 ghost use Rattle.bpf_profile.specs.Helpers.{front, tag_front};
-ghost use Rattle.bpf_profile.specs.Outcomes.{IsOutcome};
+ghost use Rattle.bpf_profile.specs.Outcomes.{IsOutcome, duration_of};
 ghost use Rattle.bpf_profile.specs.Words.{bytes_in};
-ghost use Rattle.helpers.specs.Layout.{duration_of};
 
 use crate::bytes::{show_bytes, show_words, write_padded};
 use crate::tag::Tag;

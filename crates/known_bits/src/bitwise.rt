@@ -2,7 +2,7 @@
 ghost use Rattle.std.specs.Prelude.{◌≡◌};
 ghost use Rattle.known_bits.specs.KnownBitsTable.{without};
 
-/// The bits of the first that the second doesn't have.
+/// The ones of the first that are 0 in the second.
 pub(crate) fn without(a: u64, b: u64) -> u64
     ensures { result ≡ without a b }
 {

@@ -1,4 +1,4 @@
-//! Words whose bits are partly known, and what the operations make of them.
+//! Words whose bits are partly known, and the operations on them.
 ghost use Rattle.std.specs.Prelude.{◌≡◌, ◌≤◌, ◌<◌};
 ghost use Rattle.known_bits.specs.KnownBitsTable.{known_word, known_any, known_join, known_low, low_bits, known_and, known_or, known_xor, known_shift, known_conversion, known_both, known_apart, known_fixed, clashes};
 
@@ -8,8 +8,7 @@ use abs_domain::{Bits, Conversion, Shift};
 use bpf_profile::Size;
 use std::marker::Model;
 
-/// Words whose bits are those of `value`, but where a bit of `unknown` is 1. No bit is known to be 1
-/// and unknown.
+/// The words that have the bits of `value` wherever the bit of `unknown` is 0. No bit is 1 in both.
 #[derive(Clone, Copy, Debug, PartialEq, Eq)]
 pub struct KnownBits {
     value: u64,
@@ -30,21 +29,21 @@ impl Model for KnownBits {
 }
 
 impl KnownBits {
-    /// The bits that are known, and 0 where a bit is not.
+    /// The known bits, with 0 for each unknown bit.
     pub fn value(self) -> u64
         ensures { result ≡ self.value }
     {
         self.value
     }
 
-    /// A 1 for each bit that is not known.
+    /// The mask of the unknown bits.
     pub fn unknown(self) -> u64
         ensures { result ≡ self.unknown }
     {
         self.unknown
     }
 
-    /// Every bit known.
+    /// A word, of which every bit is known.
     pub(crate) fn word(word: u64) -> Self
         ensures { result ≡ known_word word }
     {
@@ -54,7 +53,7 @@ impl KnownBits {
         }
     }
 
-    /// No bit known.
+    /// Any word: no bit is known.
     pub(crate) fn any() -> Self
         ensures { result ≡ known_any }
     {
@@ -64,7 +63,7 @@ impl KnownBits {
         }
     }
 
-    /// Known where both are, and agree.
+    /// The join: a bit is known where it is known in both values, and is the same.
     pub(crate) fn joined(self, other: Self) -> Self
         ensures { result ≡ known_join self other }
     {
@@ -75,7 +74,7 @@ impl KnownBits {
         }
     }
 
-    /// How many of the lowest bits are known in both, up to 64.
+    /// The number of consecutive lowest bits that are known in both values, up to 64.
     pub(crate) fn known_low(self, other: Self) -> u32
         ensures known { result ≡ known_low self other }
         ensures at_most { result ≤ 64 }
@@ -83,7 +82,7 @@ impl KnownBits {
         (self.unknown | other.unknown).trailing_zeros()
     }
 
-    /// A word of which the lowest bits are known, so many, up to 64.
+    /// A value whose lowest `count` bits, up to 64, are known: they are those of `word`.
     pub(crate) fn low_of(count: u32, word: u64) -> Self
         requires { count ≤ 64 }
         ensures { result ≡ low_bits count word }
@@ -128,7 +127,7 @@ impl KnownBits {
         }
     }
 
-    /// Each known bit goes where a shift by a count, from 0 to 63, takes it.
+    /// A shift by a count, from 0 to 63, of the known and of the unknown bits.
     pub(crate) fn shifted(self, shift: Shift, count: u32) -> Self
         requires { count < 64 }
         ensures { result ≡ known_shift shift self count }
@@ -139,7 +138,7 @@ impl KnownBits {
         }
     }
 
-    /// Each known bit goes where a conversion of the low bytes takes it.
+    /// A conversion of the low bytes, of the known and of the unknown bits.
     pub(crate) fn converted(self, conversion: Conversion, size: Size) -> Self
         ensures { result ≡ known_conversion conversion size self }
     {
@@ -149,7 +148,7 @@ impl KnownBits {
         }
     }
 
-    /// The bits that both know, and know to differ.
+    /// The bits that are known in both values, and differ.
     pub(crate) fn clashes(self, other: Self) -> u64
         ensures { result ≡ clashes self other }
     {
@@ -159,7 +158,7 @@ impl KnownBits {
         )
     }
 
-    /// What either knows.
+    /// The bits that are known in either value, where no known bits differ.
     pub(crate) fn both(self, other: Self) -> Self
         ensures { result ≡ known_both self other }
     {
@@ -169,7 +168,8 @@ impl KnownBits {
         }
     }
 
-    /// This value, without the 1 bits of the other where the other is one word.
+    /// This value, refined by the fact that it has no 1 in common with the other: where the other is a
+    /// known constant, its ones are known to be 0.
     pub(crate) fn apart(self, other: Self) -> Self
         ensures { result ≡ known_apart self other }
     {
@@ -182,7 +182,7 @@ impl KnownBits {
         self
     }
 
-    /// This value, with the bits that are known besides.
+    /// This value, with the known bits of `bits` added.
     pub(crate) fn fixed(self, bits: Bits) -> Self
         ensures { result ≡ known_fixed self bits }
     {

@@ -1,4 +1,4 @@
-//! The domain of ranges: what an analysis knows of a word by two bounds without a sign.
+//! The domain of ranges: a word lies between two unsigned bounds.
 #![tactic(auto)]
 
 mod range;

@@ -1,4 +1,4 @@
-//! Ranges of words, as a domain.
+//! Ranges of words as a domain.
 ghost use Rattle.std.specs.Prelude.{◌≡◌, ◌≤◌, ◌<◌};
 ghost use Rattle.ranges.specs.RangeTable.{between, range_any};
 
@@ -19,8 +19,8 @@ use abs_domain::{Binary, Bits, Bounds, Conversion, Domain, Relation, Shift};
 use bpf_profile::Size;
 use std::marker::Model;
 
-/// The words from one to another, both included, in the order without a sign (RFC 9669, section 4.3).
-/// There is at least one.
+/// The words from `low` to `high`, both included, as unsigned numbers (RFC 9669, section 4.3). A range is
+/// never empty.
 #[derive(Clone, Copy, Debug, PartialEq, Eq)]
 pub struct Range {
     low: u64,

@@ -1,3 +1,4 @@
 pub mod Taking
 pub mod Running
 pub mod Parts
+pub mod Causing

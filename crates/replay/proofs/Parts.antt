@@ -1,37 +1,16 @@
 -- Beginnings of replays.
-use Rattle.std.proofs.Common.{◌≡◌, inl, inr, ℕ, ◌+◌, ◌-◌, ◌≤◌, true, List, [], ◌∷◌, ◌++◌, length, take, drop, Option, Some, None, refl, ap, sym, subst, ◌∙◌, append_assoc, arith}
-use Rattle.std.proofs.lemmas.Grind.{common_steps}
-use Rattle.std.proofs.lemmas.List.{append-nil, take-append-drop}
-use Rattle.std.proofs.Math.Seq.{take-add}
-use Rattle.std.specs.Io.KnownBytes.{Appends, Keeps}
-use Rattle.book.specs.declared.configuration.ConfigParts.{ConfigParts}
-use Rattle.book.specs.Events.{History}
+use Rattle.std.proofs.Common.{◌≡◌, inl, inr, ℕ, true, List, [], ◌∷◌, ◌++◌, Option, Some, None, refl, ap, sym, subst, ◌∙◌, append_assoc}
+use Rattle.std.proofs.lemmas.List.{append-nil}
+use Rattle.counted_io.specs.Counting.{IsBeginning}
+use Rattle.counted_io.proofs.Pieces.{appends_none, appends_more}
+use Rattle.service_profile.specs.declared.configuration.ConfigParts.{ConfigParts}
+use Rattle.service_profile.specs.Events.{History}
 use Rattle.replay.specs.declared.replaying.Ended.TheVariants as ended
 use Rattle.replay.specs.Answering.{AreAnswered, answer_line}
 use Rattle.replay.specs.Lines.{TakesTold}
-use Rattle.replay.specs.Parts.{IsBeginning, AppendsPart, IsLinePart, AreEventsPart, IsPart, IsReplayedPart}
+use Rattle.replay.specs.Parts.{IsLinePart, AreEventsPart, IsPart, IsReplayedPart}
 use Rattle.replay.specs.Replaying.{IsOpened, IsReplayOf, Begins, IsBegun, IsLineAnswered}
-use Rattle.replay.proofs.Running.{appends_none, appends_more, told_after, some_told}
-
--- ---- writing in pieces
-
-pub appends_kept : (a b c : Option (List ℕ)) (x : List ℕ) → Appends a b x → Keeps b c → Appends a c x
-appends_kept None b c x h k = tt
-appends_kept (Some p) None c x h k = absurd h
-appends_kept (Some p) (Some q) None x h k = absurd k
-appends_kept (Some p) (Some q) (Some r) x h k = k ∙ h
-
--- the first pieces went out, and then the front of the rest
-pub appends_next : (a b c : Option (List ℕ)) (s : List ℕ) (i n : ℕ) → Appends a b (take i s) → Appends b c (take n (take (length s - i) (drop i s))) → Appends a c (take (i + n) s)
-appends_next a b c s i n h k =
-    let whole : take (length s - i) (drop i s) ≡ drop i s = grind (arith, common_steps) in
-    rw (take-add i n s) (appends_more a b c (take i s) (take n (drop i s)) h (rw whole at k))
-
-pub sent_fits : (s : List ℕ) (i n : ℕ) → i ≤ length s → n ≤ length (take (length s - i) (drop i s)) → i + n ≤ length s
-sent_fits s i n h k = grind (arith, common_steps)
-
-pub taken_part : (a b : Option (List ℕ)) (s : List ℕ) (i : ℕ) → Appends a b (take i s) → AppendsPart a b s
-taken_part a b s i h = (take i s, (drop i s, sym (take-append-drop i s)), h)
+use Rattle.replay.proofs.Running.{told_after, some_told}
 
 -- ---- lines
 

@@ -1,24 +1,13 @@
 -- Replays, line after line.
-use Rattle.std.proofs.Common.{◌≡◌, ℕ, true, false, List, [], ◌∷◌, ◌++◌, Option, Some, None, refl, ap, sym, subst, ◌∙◌, append_assoc}
-use Rattle.std.proofs.lemmas.List.{append-nil}
-use Rattle.std.specs.Io.KnownBytes.{Appends}
-use Rattle.book.specs.declared.configuration.ConfigParts.{ConfigParts}
-use Rattle.book.specs.Events.{History}
+use Rattle.std.proofs.Common.{◌≡◌, ℕ, true, false, List, [], ◌∷◌, ◌++◌, Option, Some, None, refl, ap, sym, subst, ◌∙◌}
+use Rattle.counted_io.proofs.Pieces.{appends_none, appends_more}
+use Rattle.service_profile.specs.declared.configuration.ConfigParts.{ConfigParts}
+use Rattle.service_profile.specs.Events.{History}
 use Rattle.requests.specs.Configurations.{config_in}
 use Rattle.replay.specs.declared.replaying.Ended.TheVariants as ended
 use Rattle.replay.specs.Answering.{AreAnswered, answer_line}
 use Rattle.replay.specs.Lines.{told, AreTold, TakesTold}
 use Rattle.replay.specs.Replaying.{IsOpened, IsReplayOf, IsReplay, IsReplayed, Begins, IsBegun, IsLineAnswered, AreEventsAnswered}
-
-pub appends_none : (v : Option (List ℕ)) → Appends v v []
-appends_none None = tt
-appends_none (Some p) = sym (append-nil p)
-
-pub appends_more : (a b c : Option (List ℕ)) (x y : List ℕ) → Appends a b x → Appends b c y → Appends a c (x ++ y)
-appends_more None b c x y h k = tt
-appends_more (Some p) None c x y h k = absurd h
-appends_more (Some p) (Some q) None x y h k = absurd k
-appends_more (Some p) (Some q) (Some r) x y h k = k ∙ ap (λ t. t ++ y) h ∙ append_assoc p x y
 
 -- ---- lines
 

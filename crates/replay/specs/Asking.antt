@@ -6,52 +6,27 @@ use Rattle.serde_json.specs.Data.{Data}
 use Rattle.refusals.specs.declared.RefusalNumber.{RefusalNumber}
 use Rattle.refusals.specs.declared.RefusalNumber.TheVariants as refusal
 use Rattle.helpers.specs.Json.{◌>>=◌}
-use Rattle.book.specs.declared.states.State.{State}
-use Rattle.requests.specs.declared.reports.Report.{Report}
 use Rattle.requests.specs.Programs.{program_of}
 use Rattle.requests.specs.Reports.{report_of}
 use Rattle.requests.specs.Text.{json_of}
 use Rattle.requests.specs.Transitions.{state_of}
 use Rattle.requests.specs.Values.{number_at, text_at}
 use Rattle.replay.specs.declared.asking.Asked.{Asked}
-use Rattle.replay.specs.declared.asking.Call.{Call}
-use Rattle.replay.specs.declared.asking.Call.TheVariants as call
-
--- what is to be done; a program is its bytes
-pub data Want : Type 0 where
-  acquire : Want
-  report : Report → Want
-  release : ℕ → Want
-  move : State → Want
-  reset : Want
-  install : List ℕ → Want
-  read : Want
-  cut : Want
+use Rattle.service.specs.Asked.{RequestData, acquire, report, release, install, move, reset, read, cut, request_data}
 
 -- what is to be done, and at which moment
 pub record Wish : Type 0 where
   pub moment : ℕ
-  pub want : Want
+  pub want : RequestData
 
--- ---- what the program's own values stand for
-
-abbrev pub wanted : Call → Want
-wanted call.Acquire = acquire
-wanted (call.Report reported) = report reported
-wanted (call.Release ticket) = release ticket
-wanted (call.Transition state) = move state
-wanted call.Reset = reset
-wanted (call.Install program) = install program.items
-wanted call.Read = read
-wanted call.Cut = cut
-
+-- what the program's own values stand for
 abbrev pub wished : Asked → Wish
-wished asked = record { moment = asked.moment; want = wanted asked.call }
+wished asked = record { moment = asked.moment; want = request_data asked.request }
 
 -- ---- what a line asks for
 
 -- what is asked under a name other than `install`; None where nothing is, or its values can't be used
-unfoldable pub plain_named : List ℕ → Data → Option Want
+unfoldable pub plain_named : List ℕ → Data → Option RequestData
 plain_named name d =
     if bytes_eq name (codes "acquire") then Some acquire
     else (if bytes_eq name (codes "report") then option_map report (report_of d)
@@ -63,7 +38,7 @@ plain_named name d =
     else None))))))
 
 -- what is asked under a name; an install names a program
-unfoldable pub want_named : List ℕ → Data → Option Want
+unfoldable pub want_named : List ℕ → Data → Option RequestData
 want_named name d = if bytes_eq name (codes "install") then option_map install (program_of d) else plain_named name d
 
 -- what a JSON value asks for; None where it is no object, or a value is missing, of the wrong kind or out of range

@@ -1,5 +1,5 @@
 -- The lines of a text.
-use Rattle.std.specs.Prelude.{◌≡◌, ℕ, ◌==◌, not, ◌||◌, Bool, true, false, if◌then◌else◌, List, [], ◌∷◌, filter, Option, Some, None, ⊤}
+use Rattle.std.specs.Prelude.{◌≡◌, ℕ, ◌+◌, ◌-◌, ◌^◌, ◌≤◌, ◌==◌, not, ◌||◌, Bool, true, false, if◌then◌else◌, List, [], ◌∷◌, length, filter, Option, Some, None, ⊤}
 use Rattle.std.specs.List.{list_all}
 
 abbrev pub in_first : ℕ → List (List ℕ) → List (List ℕ)
@@ -44,3 +44,20 @@ TakesTold (Some text) left there line = (rest : List ℕ) × (left ≡ Some rest
 abbrev pub SaysTheSame : Option (List ℕ) → Option (List ℕ) → Type 0
 SaysTheSame None left = ⊤
 SaysTheSame (Some text) left = (rest : List ℕ) × (left ≡ Some rest) × (told text ≡ told rest)
+
+-- ---- how many lines
+
+-- a text, where it is known, has 2^64 - 1 lines or more
+abbrev pub HasManyLines : Option (List ℕ) → Type 0
+HasManyLines None = ⊤
+HasManyLines (Some text) = 2 ^ 64 - 1 ≤ length (lines text)
+
+-- what is left of a text has fewer lines, by this many at least
+abbrev pub LosesLines : ℕ → Option (List ℕ) → Option (List ℕ) → Type 0
+LosesLines count None left = ⊤
+LosesLines count (Some text) left = (rest : List ℕ) × (left ≡ Some rest) × (count + length (lines rest) ≤ length (lines text))
+
+-- a line was taken off a text, where there was one
+abbrev pub LosesLine : Bool → Option (List ℕ) → Option (List ℕ) → Type 0
+LosesLine true text left = LosesLines 1 text left
+LosesLine false text left = ⊤

@@ -1,20 +1,14 @@
 -- What was written where a replay failed on its way.
 use Rattle.std.specs.Prelude.{◌≡◌, ◌⊎◌, ℕ, List, [], ◌++◌, Option}
 use Rattle.std.specs.Io.KnownBytes.{Appends}
-use Rattle.book.specs.Events.{History}
+use Rattle.counted_io.specs.Counting.{IsBeginning, AppendsPart}
+use Rattle.service_profile.specs.Events.{History}
 use Rattle.answers.specs.declared.answer.Answer.{Answer}
 use Rattle.replay.specs.declared.replaying.Ended.TheVariants as ended
 use Rattle.replay.specs.Answering.{AreAnswered, IsAnswered, answer_line}
 use Rattle.replay.specs.Asking.{asked}
 use Rattle.replay.specs.Lines.{AreTold}
 use Rattle.replay.specs.Replaying.{IsReplay}
-
--- a beginning of a text, or all of it
-abbrev pub IsBeginning : List ℕ → List ℕ → Type 0
-IsBeginning part whole = (rest : List ℕ) × (whole ≡ part ++ rest)
-
-abbrev pub AppendsPart : Option (List ℕ) → Option (List ℕ) → List ℕ → Type 0
-AppendsPart before after text = (part : List ℕ) × IsBeginning part text × Appends before after part
 
 -- nothing was written, or a beginning of the answer to a line
 abbrev pub IsLinePart : History → List ℕ → Option (List ℕ) → Option (List ℕ) → Type 0

@@ -2,13 +2,13 @@
 use Rattle.std.specs.Prelude.{◌≡◌, ℕ, List, [], ◌∷◌, Option, Some, None}
 use Rattle.std.specs.Io.KnownBytes.{Appends}
 use Rattle.bpf_profile.specs.Safety.{IsSafe}
-use Rattle.bpf_profile.specs.Spelling.{Spells}
-use Rattle.verifier.specs.Analysis.{context_size}
+use Rattle.bpf_profile.specs.Outcomes.{context_size}
 use Rattle.verifier.specs.DefaultClassifier.{default_classifier_bytes}
-use Rattle.verifier.specs.Programs.{VerifiedProgram}
-use Rattle.book.specs.declared.configuration.ConfigParts.{ConfigParts}
-use Rattle.book.specs.Books.{first_opening, history_of}
-use Rattle.book.specs.Events.{History}
+use Rattle.bpf_profile.specs.Programs.{VerifiedProgram}
+use Rattle.verifier.specs.Verifying.{IsVerification}
+use Rattle.service_profile.specs.declared.configuration.ConfigParts.{ConfigParts}
+use Rattle.service_profile.specs.Openings.{first_opening}
+use Rattle.service_profile.specs.Events.{history_of, History}
 use Rattle.requests.specs.Configurations.{config_in}
 use Rattle.answers.specs.declared.answer.Answer.{Answer}
 use Rattle.replay.specs.declared.replaying.Ended.{Ended}
@@ -20,7 +20,7 @@ use Rattle.replay.specs.Lines.{AreTold}
 -- a service that opens with a configuration and the default classifier
 abbrev pub IsOpened : ConfigParts → History → Type 0
 IsOpened parts history =
-    (program : VerifiedProgram) × Spells default_classifier_bytes program.slots × IsSafe context_size program.slots program.budget
+    (program : VerifiedProgram) × IsVerification default_classifier_bytes program × IsSafe context_size program.slots program.budget
     × (history ≡ history_of (first_opening parts program) [])
 
 -- the lines after a configuration

@@ -1,70 +1,55 @@
 //! What a line asks for.
 ghost use Rattle.std.specs.Prelude.{◌≡◌, IfOk, option_map};
 ghost use Rattle.serde_json.specs.View.{view};
-ghost use Rattle.book.specs.Answers.{map_ok};
+ghost use Rattle.service_profile.specs.Answers.{map_ok};
 ghost use Rattle.requests.specs.Programs.{program_of};
-ghost use Rattle.replay.specs.Asking.{install, wanted, wished, plain_named, want_named, asked_in, asked};
+ghost use Rattle.service.specs.Asked.{install, request_data};
+ghost use Rattle.replay.specs.Asking.{wished, plain_named, want_named, asked_in, asked};
 
-use book::State;
 use refusals::RefusalNumber;
-use requests::{Report, json, number_at, program, state, text_at};
+use requests::{json, number_at, program, report, state, text_at};
 use serde_json::Value;
+use service::Request;
 use std::alloc::{AllocError, Global};
-
-/// What is done.
-#[derive(Drop)]
-pub(crate) enum Call {
-    Acquire,
-    Report(Report),
-    /// The ticket that ends.
-    Release(u64),
-    /// The state to which the breaker is moved.
-    Transition(State),
-    Reset,
-    /// The bytecode of the program.
-    Install(Vec<u8>),
-    Read,
-    Cut,
-}
 
 /// What is asked for, and at which moment, in milliseconds.
 #[derive(Drop)]
 pub(crate) struct Asked {
     pub moment: u64,
-    pub call: Call,
+    pub request: Request,
 }
 
 /// The install that a value describes. The error is want of memory.
-fn install_of(alloc: Global, value: &Value) -> Result<Option<Call>, AllocError>
-    ensures { IfOk result (λ call. option_map wanted call ≡ option_map install (program_of (view value.now))) }
+fn install_of(alloc: Global, value: &Value) -> Result<Option<Request>, AllocError>
+    ensures { IfOk result (λ call. option_map request_data call ≡ option_map install (program_of (view value.now))) }
 {
     match program(alloc, value)? {
-        Some(bytes) => Ok(Some(Call::Install(bytes))),
+        Some(bytes) => Ok(Some(Request::Install(bytes))),
         None => Ok(None),
     }
 }
 
 /// What is asked under a name beside an install.
 #[tactic(auto, unfolding(crate::specs::Asking::plain_named))]
-fn plain_named(name: &str, value: &Value) -> Option<Call>
-    ensures { option_map wanted result ≡ plain_named name.now (view value.now) }
+fn plain_named(name: &str, value: &Value) -> Option<Request>
+    ensures { option_map request_data result ≡ plain_named name.now (view value.now) }
 {
     match name {
-        "acquire" => Some(Call::Acquire),
-        "report" => Some(Call::Report(Report::from_json(value)?)),
-        "release" => Some(Call::Release(number_at(value, "ticket")?)),
-        "transition" => Some(Call::Transition(state(value)?)),
-        "reset" => Some(Call::Reset),
-        "read" => Some(Call::Read),
-        "cut" => Some(Call::Cut),
+        "acquire" => Some(Request::Acquire),
+        "report" => Some(Request::Report(report(value)?)),
+        "release" => Some(Request::Release(number_at(value, "ticket")?)),
+        "transition" => Some(Request::Move(state(value)?)),
+        "reset" => Some(Request::Reset),
+        "read" => Some(Request::Read),
+        "cut" => Some(Request::Cut),
         _ => None,
     }
 }
 
 /// What is asked under a name. The error is want of memory.
 #[tactic(auto, unfolding(crate::specs::Asking::want_named))]
-fn call_named(alloc: Global, name: &str, value: &Value) -> Result<Option<Call>, AllocError>
-    ensures { IfOk result (λ call. option_map wanted call ≡ want_named name.now (view value.now)) }
+fn call_named(alloc: Global, name: &str, value: &Value) -> Result<Option<Request>, AllocError>
+    ensures { IfOk result (λ call. option_map request_data call ≡ want_named name.now (view value.now)) }
 {
     match name {
         "install" => install_of(alloc, value),
@@ -84,7 +69,7 @@ fn asked_in(alloc: Global, value: &Value) -> Result<Option<Asked>, AllocError>
         return Ok(None);
     };
     match call_named(alloc, name, value)? {
-        Some(call) => Ok(Some(Asked { moment, call })),
+        Some(request) => Ok(Some(Asked { moment, request })),
         None => Ok(None),
     }
 }

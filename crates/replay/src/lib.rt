@@ -3,10 +3,15 @@
 
 mod answering;
 mod asking;
+mod error;
+#[cfg(test)]
+mod event_tests;
 mod lines;
-mod output;
 mod replaying;
+#[cfg(test)]
+mod service_tests;
 #[cfg(test)]
 mod tests;
 
+pub use error::ReplayError;
 pub use replaying::{Ended, replay};

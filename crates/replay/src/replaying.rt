@@ -1,16 +1,19 @@
 //! A replay: the configuration of a service, and then its events.
-ghost use Rattle.std.specs.Prelude.{◌≡◌, IfOk, OnOk};
+ghost use Rattle.std.specs.Prelude.{◌≡◌, IfOk, IfSome, OnOk};
+ghost use Rattle.replay.specs.Lines.{LosesLines};
+ghost use Rattle.replay.specs.Causes.{IsCause, IsReadCause};
 ghost use Rattle.replay.specs.Parts.{AreEventsPart, IsReplayedPart};
 ghost use Rattle.replay.specs.Replaying.{IsOpened, IsReplayed, IsBegun, AreEventsAnswered};
 ghost use Rattle.requests.specs.Configurations.{config_in};
 
 use crate::answering::answer_to;
+use crate::error::ReplayError;
 use crate::lines::next_line;
 use book::{Book, Config};
+use counted_io::Counted;
 use requests::{config, json};
 use std::alloc::{AllocError, Global};
-use std::io;
-use std::io::{BufRead, BufReader, Read, Write};
+use std::io::{Read, Write};
 use verifier::default_classifier;
 
 /// How a replay ended.
@@ -33,8 +36,13 @@ fn config_in(alloc: Global, line: &[u8]) -> Result<Option<Config>, AllocError>
 }
 
 /// The configuration on the first line.
-fn first_config<B: BufRead>(alloc: Global, reader: &mut B) -> io::Result<Option<Config>>
-    ensures { IfOk result (λ found. IsBegun (B.remaining reader.old) (B.remaining reader.new) found) }
+fn first_config<R: Read>(
+    alloc: Global,
+    reader: &mut Counted<R>,
+) -> Result<Option<Config>, ReplayError>
+    ensures begun { IfOk result (λ found. IsBegun (R.remaining reader.old.inner) (R.remaining reader.new.inner) found) }
+    ensures fewer { IfOk result (λ found. IfSome found (λ config. LosesLines 0 (R.remaining reader.old.inner) (R.remaining reader.new.inner))) }
+    ensures cause { IsReadCause result reader.old.failures reader.new.failures (R.remaining reader.old.inner) }
 {
     let mut line = Vec::new(alloc);
     if !next_line(reader, &mut line)? {
@@ -55,39 +63,26 @@ fn open(alloc: Global, config: Config) -> Result<Book, AllocError>
 }
 
 /// Answers the events, one after another.
-fn answer_all<B: BufRead, W: Write>(
+fn answer_all<R: Read, W: Write>(
     alloc: Global,
     book: &mut Book,
-    reader: &mut B,
-    out: &mut W,
-) -> io::Result<()>
-    ensures answered { OnOk result (AreEventsAnswered (B.remaining reader.old) book.old book.new (W.contents out.old) (W.contents out.new)) }
-    ensures part { AreEventsPart (B.remaining reader.old) book.old (W.contents out.old) (W.contents out.new) }
+    reader: &mut Counted<R>,
+    out: &mut Counted<W>,
+) -> Result<(), ReplayError>
+    ensures answered { OnOk result (AreEventsAnswered (R.remaining reader.old.inner) book.old book.new (W.contents out.old.inner) (W.contents out.new.inner)) }
+    ensures part { AreEventsPart (R.remaining reader.old.inner) book.old (W.contents out.old.inner) (W.contents out.new.inner) }
+    ensures cause { IsCause result reader.old.failures reader.new.failures out.old.failures out.new.failures (R.remaining reader.old.inner) }
 {
     let mut line = Vec::new(alloc);
-    'events: for _ in 0..u64::MAX {
+    let mut answered = 0;
+    'events: while answered < u64::MAX {
         if !next_line(reader, &mut line)? {
             return Ok(());
         }
         answer_to(alloc, book, &line, out)?;
+        answered += 1;
     }
-    Err(io::Error::from(io::ErrorKind::TimedOut))
-}
-
-fn replay_lines<B: BufRead, W: Write>(
-    alloc: Global,
-    reader: &mut B,
-    out: &mut W,
-) -> io::Result<Ended>
-    ensures replayed { IfOk result (λ ended. IsReplayed (B.remaining reader.old) ended (W.contents out.old) (W.contents out.new)) }
-    ensures part { IsReplayedPart (B.remaining reader.old) (W.contents out.old) (W.contents out.new) }
-{
-    let Some(config) = first_config(alloc, reader)? else {
-        return Ok(Ended::BadConfig);
-    };
-    let mut book = open(alloc, config)?;
-    answer_all(alloc, &mut book, reader, out)?;
-    Ok(Ended::Done)
+    Err(ReplayError::TooLong)
 }
 
 /// Replays events on a service that opens with a configuration and the default classifier. The first
@@ -99,12 +94,24 @@ fn replay_lines<B: BufRead, W: Write>(
 /// is no JSON is answered with `BadJson`, one whose values are missing, of the wrong kind or out of
 /// range with `BadValue`, and a program that is not accepted with its refusal and slot.
 ///
-/// One line is held at a time. Errors are those of the reader and the writer, and want of memory. What
-/// was written up to then is a beginning of the answers.
-pub fn replay<R: Read, W: Write>(alloc: Global, reader: &mut R, out: &mut W) -> io::Result<Ended>
-    ensures replayed { IfOk result (λ ended. IsReplayed (R.remaining reader.old) ended (W.contents out.old) (W.contents out.new)) }
-    ensures part { IsReplayedPart (R.remaining reader.old) (W.contents out.old) (W.contents out.new) }
+/// One line is held at a time, and read byte by byte: give it a reader that is buffered. One failed
+/// read or write ends the replay, also one that was interrupted. What was written up to then is a
+/// beginning of the answers.
+pub fn replay<R: Read, W: Write>(
+    alloc: Global,
+    reader: &mut Counted<R>,
+    out: &mut Counted<W>,
+) -> Result<Ended, ReplayError>
+    ensures replayed { IfOk result (λ ended. IsReplayed (R.remaining reader.old.inner) ended (W.contents out.old.inner) (W.contents out.new.inner)) }
+    ensures part { IsReplayedPart (R.remaining reader.old.inner) (W.contents out.old.inner) (W.contents out.new.inner) }
+    // `ReadFailed` and `WriteFailed` come where that count went up by one, and `TooLong` for an input of
+    // 2^64 - 1 lines alone; in each other case no call failed.
+    ensures cause { IsCause result reader.old.failures reader.new.failures out.old.failures out.new.failures (R.remaining reader.old.inner) }
 {
-    let mut buffered = BufReader::new(alloc, reader)?;
-    replay_lines(alloc, &mut buffered, out)
+    let Some(config) = first_config(alloc, reader)? else {
+        return Ok(Ended::BadConfig);
+    };
+    let mut book = open(alloc, config)?;
+    answer_all(alloc, &mut book, reader, out)?;
+    Ok(Ended::Done)
 }

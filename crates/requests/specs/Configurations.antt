@@ -5,10 +5,10 @@ use Rattle.std.specs.Result.{result_ok}
 use Rattle.serde_json.specs.Data.{Data, Members, no_members, member}
 use Rattle.serde_json.specs.Find.{get, as_str, as_object}
 use Rattle.helpers.specs.Json.{◌>>=◌, if_there}
-use Rattle.book.specs.declared.configuration.ConfigParts.{ConfigParts}
-use Rattle.book.specs.declared.configuration.SlidingWindowType.{SlidingWindowType}
-use Rattle.book.specs.declared.configuration.SlidingWindowType.TheVariants as window
-use Rattle.book.specs.Configuration.{configured, default_parts}
+use Rattle.service_profile.specs.declared.configuration.ConfigParts.{ConfigParts}
+use Rattle.service_profile.specs.declared.configuration.SlidingWindowType.{SlidingWindowType}
+use Rattle.service_profile.specs.declared.configuration.SlidingWindowType.TheVariants as window
+use Rattle.service_profile.specs.Configuration.{configured, default_parts}
 use Rattle.requests.specs.Text.{json_of}
 use Rattle.requests.specs.Values.{number_or}
 

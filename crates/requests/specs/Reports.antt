@@ -4,7 +4,7 @@ use Rattle.serde_json.specs.Data.{Data}
 use Rattle.serde_json.specs.Find.{get}
 use Rattle.bpf_profile.specs.Outcomes.{Outcome}
 use Rattle.helpers.specs.Json.{◌>>=◌, outcome_of}
-use Rattle.requests.specs.declared.reports.Report.{Report}
+use Rattle.service.specs.declared.request.Report.{Report}
 use Rattle.requests.specs.Values.{number_at}
 
 abbrev pub outcome_at : List ℕ → Data → Option Outcome

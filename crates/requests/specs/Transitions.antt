@@ -2,8 +2,8 @@
 use Rattle.std.specs.Prelude.{ℕ, List, Option, Some, None, option_and_then, if◌then◌else◌, codes}
 use Rattle.std.specs.Str.{bytes_eq}
 use Rattle.serde_json.specs.Data.{Data}
-use Rattle.book.specs.declared.states.State.{State}
-use Rattle.book.specs.declared.states.State.TheVariants as state
+use Rattle.service_profile.specs.declared.states.State.{State}
+use Rattle.service_profile.specs.declared.states.State.TheVariants as state
 use Rattle.requests.specs.Values.{text_at}
 
 -- the states by the names that the Resilience4j documentation gives them

@@ -3,6 +3,7 @@
 #![tactic(auto)]
 
 mod configurations;
+mod hexadecimal;
 mod programs;
 mod reports;
 #[cfg(test)]
@@ -12,8 +13,9 @@ mod transitions;
 mod values;
 
 pub use configurations::config;
+pub use hexadecimal::hex_bytes;
 pub use programs::program;
-pub use reports::Report;
+pub use reports::report;
 pub use text::json;
 pub use transitions::state;
 pub use values::{number_at, text_at};

@@ -6,15 +6,7 @@ ghost use Rattle.requests.specs.Reports.{outcome_at, report_of};
 use crate::values::number_at;
 use helpers::Record;
 use serde_json::Value;
-
-/// What is reported of a call.
-#[derive(Clone, Copy, Debug)]
-pub struct Report {
-    /// The ticket under which the call was made.
-    pub ticket: u64,
-    /// The record of its outcome.
-    pub outcome: Record,
-}
+use service::Report;
 
 /// The record of the outcome under a key; None where it is missing or can't be used.
 fn outcome_at(value: &Value, key: &str) -> Option<Record>
@@ -26,16 +18,14 @@ fn outcome_at(value: &Value, key: &str) -> Option<Record>
     }
 }
 
-impl Report {
-    /// The report that a JSON object describes: `ticket`, a number below 2^64, and `outcome`, as
-    /// `Record::from_json` reads it. Other keys are ignored. None where one of them is missing, of the
-    /// wrong kind or out of range, or the value is no object: the refusal `BadValue`.
-    #[tactic(auto, unfolding(crate::specs::Reports::report_of))]
-    pub fn from_json(value: &Value) -> Option<Report>
-        ensures { result ≡ report_of (view value.now) }
-    {
-        let ticket = number_at(value, "ticket")?;
-        let outcome = outcome_at(value, "outcome")?;
-        Some(Report { ticket, outcome })
-    }
+/// The report that a JSON object describes: `ticket`, a number below 2^64, and `outcome`, as
+/// `Record::from_json` reads it. Other keys are ignored. None where one of them is missing, of the
+/// wrong kind or out of range, or the value is no object: the refusal `BadValue`.
+#[tactic(auto, unfolding(crate::specs::Reports::report_of))]
+pub fn report(value: &Value) -> Option<Report>
+    ensures { result ≡ report_of (view value.now) }
+{
+    let ticket = number_at(value, "ticket")?;
+    let outcome = outcome_at(value, "outcome")?;
+    Some(Report { ticket, outcome })
 }

@@ -1,5 +1,5 @@
 //! That requests are read with ample memory, and what numbers in JSON are.
-use crate::{Report, config, json, number_at, program, state, text_at};
+use crate::{config, json, number_at, program, report, state, text_at};
 use book::{ConfigParts, SlidingWindowType, State};
 use serde_json::Value;
 use std::alloc::Global;
@@ -161,9 +161,9 @@ fn reports_are_read(rt: HostRuntime) {
         rt.alloc(),
         "{\"outcome\":{\"duration_ms\":7},\"ticket\":3,\"other\":null}",
     );
-    let report = Report::from_json(&good).expect(&rt, "a report");
-    assert_eq!(rt; report.ticket, 3);
-    assert_eq!(rt; report.outcome.duration(), 7);
+    let reported = report(&good).expect(&rt, "a report");
+    assert_eq!(rt; reported.ticket, 3);
+    assert_eq!(rt; reported.outcome.duration(), 7);
     for text in [
         "{}",
         "{\"ticket\":3}",
@@ -174,6 +174,6 @@ fn reports_are_read(rt: HostRuntime) {
         "[3, {}]",
     ] {
         let value = value(&rt, rt.alloc(), text);
-        assert!(rt; Report::from_json(&value).is_none(), "{text}");
+        assert!(rt; report(&value).is_none(), "{text}");
     }
 }

@@ -1,7 +1,9 @@
 //! The program `sidecar`: passes its arguments, its input and its output on to the commands.
 #![tactic(auto)]
 
+use counted_io::Counted;
 use sidecar_commands::command;
+use std::io::BufReader;
 use std::process::ExitCode;
 use std::{env, io};
 
@@ -15,13 +17,10 @@ fn run(rt: &HostRuntime) -> io::Result<u8> {
         .iter()
         .map(|word| word.as_str())
         .collect(rt.alloc())?;
-    Ok(command(
-        rt.alloc(),
-        &words,
-        &mut rt.stdin(),
-        &mut rt.stdout(),
-        &mut rt.stderr(),
-    ))
+    let mut reader = Counted::new(BufReader::new(rt.alloc(), rt.stdin())?);
+    let mut out = Counted::new(rt.stdout());
+    let mut err = Counted::new(rt.stderr());
+    Ok(command(rt.alloc(), &words, &mut reader, &mut out, &mut err).code())
 }
 
 fn main(rt: HostRuntime) -> ExitCode {

@@ -1,9 +1,9 @@
 -- What was asked for was done: so what the words ask for.
-use Rattle.std.proofs.Common.{◌≡◌, ℕ, List, Option, inl, inr, sym, ap, ◌∙◌, subst}
+use Rattle.std.proofs.Common.{ℕ, List, Option, inl, inr, subst}
 use Rattle.sidecar_commands.specs.declared.commands.Request.{Request}
 use Rattle.sidecar_commands.specs.declared.commands.Request.TheVariants as request
 use Rattle.sidecar_commands.specs.declared.commands.Status.{Status}
-use Rattle.sidecar_commands.specs.Commands.{Words, word, IsRequest, IsDone, HasAnswered, HasJudged, HasVerified, HasDisassembled}
+use Rattle.sidecar_commands.specs.Commands.{Words, IsRequest, IsDone, HasAnswered, HasJudged, HasVerified, HasDisassembled}
 
 pub answered : (words : Words) (r : Request) (known : Option (List ℕ)) (ended : Status) (before after : Option (List ℕ)) → IsRequest words r → IsDone r known ended before after → HasAnswered words known ended before after
 answered words (request.Judge program) known ended before after asked done = inl (asked.0, subst (λ (p : List ℕ). HasJudged p known ended before after) asked.1 done)

@@ -4,24 +4,23 @@ use Rattle.serde_json.specs.Data.{Data}
 use Rattle.refusals.specs.declared.RefusalNumber.TheVariants.{ProgramOutOfMemory, BadHex, BadJson, BadValue}
 use Rattle.bpf_profile.specs.declared.slot.Slot.{Slot}
 use Rattle.bpf_profile.specs.Meaning.{Judges}
-use Rattle.bpf_profile.specs.Outcomes.{Outcome}
+use Rattle.bpf_profile.specs.Outcomes.{Outcome, context_size}
 use Rattle.bpf_profile.specs.Safety.{IsSafe}
-use Rattle.bpf_profile.specs.Spelling.{Spells}
 use Rattle.helpers.specs.Json.{outcome_of}
 use Rattle.requests.specs.Text.{json_of}
-use Rattle.verifier.specs.Analysis.{context_size}
-use Rattle.verifier.specs.Programs.{VerifiedProgram}
-use Rattle.verifier.specs.Verifying.{IsAccepted, IsRefused}
+use Rattle.bpf_profile.specs.Programs.{VerifiedProgram}
+use Rattle.verifier.specs.Verifying.{IsVerification, IsRefused}
 use Rattle.sidecar_commands.specs.declared.answer.Answer.{Answer}
 use Rattle.sidecar_commands.specs.declared.answer.Answer.TheVariants as answer
 use Rattle.sidecar_commands.specs.declared.answer.Fault.{Fault}
-use Rattle.sidecar_commands.specs.Hexadecimal.{hex_of}
+use Rattle.requests.specs.Hexadecimal.{hex_of}
 
 -- ---- programs
 
--- the text is hexadecimal of a program with these slots, which flow and analysis accept, and which is safe with this budget
+-- the text is hexadecimal of a program with these slots, which flow and analysis accept; the budget is that of its flow, and with it the program is safe
 abbrev pub IsAdmitted : List ℕ → List Slot → ℕ → Type 0
-IsAdmitted text slots budget = (bytes : List ℕ) × (hex_of text ≡ Some bytes) × Spells bytes slots × IsAccepted slots × IsSafe context_size slots budget
+IsAdmitted text slots budget =
+    (bytes : List ℕ) × (hex_of text ≡ Some bytes) × IsVerification bytes (record { slots = slots; budget = budget }) × IsSafe context_size slots budget
 
 -- why the text is no program that is accepted: memory ran out, it is no hexadecimal, or its bytes are refused for their first fault
 abbrev pub IsTextRefused : List ℕ → Fault → Type 0

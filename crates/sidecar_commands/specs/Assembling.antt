@@ -1,5 +1,5 @@
 -- What `asm` and `dis` answer.
-use Rattle.std.specs.Prelude.{◌≡◌, ◌⊎◌, ℕ, ◌+◌, ◌==◌, List, length, take, filter, Option, Some, None, Result, Ok, Err}
+use Rattle.std.specs.Prelude.{◌≡◌, ◌⊎◌, ℕ, ◌+◌, ◌==◌, List, length, take, filter, Some, None, Err}
 use Rattle.std.specs.Str.{IsUtf8, IsValidUpTo}
 use Rattle.hex.specs.Hex.{encode_lower}
 use Rattle.refusals.specs.declared.RefusalNumber.TheVariants.{ProgramOutOfMemory, AssemblerOutOfMemory, UnknownWord, BadHex}
@@ -8,7 +8,7 @@ use Rattle.bpf_profile.specs.Spelling.{Spells, first_fault}
 use Rattle.bpf_asm.specs.Assembly.{Assembles, assembly_of}
 use Rattle.bpf_asm.specs.Canonical.{text_of}
 use Rattle.sidecar_commands.specs.declared.answer.Fault.{Fault}
-use Rattle.sidecar_commands.specs.Hexadecimal.{hex_of}
+use Rattle.requests.specs.Hexadecimal.{hex_of}
 
 -- the line of the byte at an index: one more than there are line feeds before it
 abbrev pub line_at : List ℕ → ℕ → ℕ

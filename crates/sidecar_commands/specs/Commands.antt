@@ -5,6 +5,8 @@ use Rattle.std.specs.Io.KnownBytes.{Appends}
 use Rattle.refusals.specs.declared.RefusalNumber.TheVariants.{BadConfig}
 use Rattle.replay.specs.declared.Ended.{Ended}
 use Rattle.replay.specs.declared.Ended.TheVariants as ended
+use Rattle.replay.specs.declared.ReplayError.{ReplayError}
+use Rattle.replay.specs.declared.ReplayError.TheVariants as error
 use Rattle.replay.specs.Replaying.{IsReplayed}
 use Rattle.sidecar_commands.specs.declared.answer.Answer.{Answer}
 use Rattle.sidecar_commands.specs.declared.answer.Answer.TheVariants as answer
@@ -57,6 +59,22 @@ abbrev pub code_of : Status → ℕ
 code_of status.Done = 0
 code_of status.Refused = 1
 code_of status.WrongArguments = 2
+code_of status.UsageFailed = 2
+code_of status.ReadFailed = 1
+code_of status.WriteFailed = 1
+code_of status.OutOfMemory = 1
+code_of status.TooLong = 1
+
+-- how a command ends that failed
+abbrev pub status_of_error : ReplayError → Status
+status_of_error error.ReadFailed = status.ReadFailed
+status_of_error error.WriteFailed = status.WriteFailed
+status_of_error error.OutOfMemory = status.OutOfMemory
+status_of_error error.TooLong = status.TooLong
+
+-- the command's answer was printed: it is done, or refused
+abbrev pub IsSettled : Status → Type 0
+IsSettled ended = (ended ≡ status.Done) ⊎ (ended ≡ status.Refused)
 
 -- an answer was printed as a line, and the command ends with its status
 abbrev pub IsPrinted : Answer → Status → Option (List ℕ) → Option (List ℕ) → Type 0

@@ -1,5 +1,5 @@
 pub mod Answers
 pub mod Commands
-pub mod Hexadecimal
 pub mod Text
 pub mod Assembling
+pub mod Endings

@@ -1,16 +1,10 @@
 -- The text of an answer.
 use Rattle.std.specs.Prelude.{ℕ, ◌++◌, nat_le, ◌&&◌, if◌then◌else◌, List, codes, decimal}
-use Rattle.bpf_profile.specs.declared.machine.Verdict.{Verdict}
-use Rattle.bpf_profile.specs.declared.machine.Verdict.TheVariants as verdict
+use Rattle.answers.specs.Texts.{verdict_name}
 use Rattle.refusals.specs.Table.{number_of, name_of}
 use Rattle.sidecar_commands.specs.declared.answer.Answer.{Answer}
 use Rattle.sidecar_commands.specs.declared.answer.Answer.TheVariants as answer
 use Rattle.sidecar_commands.specs.declared.answer.Fault.{Fault}
-
-abbrev pub verdict_text : Verdict → List ℕ
-verdict_text verdict.Success = codes "success"
-verdict_text verdict.Failure = codes "failure"
-verdict_text verdict.Ignored = codes "ignored"
 
 -- number and name, the slot for the refusals of programs for their bytes, and the line for those of texts
 abbrev pub fault_text : Fault → List ℕ
@@ -22,6 +16,6 @@ fault_text fault =
 
 -- the line of an answer, without its end
 abbrev pub answer_text : Answer → List ℕ
-answer_text (answer.Judged verdict steps budget) = verdict_text verdict ++ (codes " steps=" ++ (decimal steps ++ (codes " budget=" ++ decimal budget)))
+answer_text (answer.Judged verdict steps budget) = verdict_name verdict ++ (codes " steps=" ++ (decimal steps ++ (codes " budget=" ++ decimal budget)))
 answer_text (answer.Accepted budget slots) = codes "accepted budget=" ++ (decimal budget ++ (codes " slots=" ++ decimal slots))
 answer_text (answer.Refused fault) = fault_text fault

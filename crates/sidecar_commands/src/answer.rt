@@ -1,7 +1,6 @@
 //! What the commands print.
-ghost use Rattle.std.specs.Prelude.{◌≡◌};
-ghost use Rattle.sidecar_commands.specs.Text.{verdict_text};
 
+use answers::verdict_name;
 use bpf_profile::Verdict;
 use refusals::RefusalNumber;
 use std::fmt;
@@ -38,17 +37,6 @@ pub enum Answer {
     Refused(Fault),
 }
 
-/// The word for a verdict.
-fn verdict_word(verdict: Verdict) -> &'static str
-    ensures { result.now ≡ verdict_text verdict }
-{
-    match verdict {
-        Verdict::Success => "success",
-        Verdict::Failure => "failure",
-        Verdict::Ignored => "ignored",
-    }
-}
-
 impl fmt::Display for Fault {
     ghost use Rattle.std.specs.Prelude.{Some};
     ghost use Rattle.sidecar_commands.specs.Text.{fault_text};
@@ -81,7 +69,7 @@ impl fmt::Display for Answer {
                 steps,
                 budget,
             } => {
-                let verdict = verdict_word(*verdict);
+                let verdict = verdict_name(*verdict);
                 write!(f, "{verdict} steps={steps} budget={budget}")
             }
             Answer::Accepted { budget, slots } => {

@@ -1,18 +1,21 @@
 //! The answers of the commands.
 ghost use Rattle.std.specs.Prelude.{◌≡◌, Some, None, IfOk, IfErr};
 ghost use Rattle.helpers.specs.Json.{outcome_of};
+ghost use Rattle.replay.specs.Causes.{IsReadCause};
 ghost use Rattle.serde_json.specs.View.{view};
 ghost use Rattle.sidecar_commands.specs.Answers.{IsAdmitted, IsTextRefused, IsOutcomeRead, IsOutcomeRefused, IsVerifyAnswer, IsJudgement, IsJudgeAnswer};
 
 use crate::answer::{Answer, Fault};
 use crate::hexadecimal::hex_bytes;
+use crate::input::read_all;
 use bpf_run::run;
+use counted_io::Counted;
 use helpers::Record;
 use refusals::RefusalNumber;
+use replay::ReplayError;
 use requests::json;
 use serde_json::Value;
 use std::alloc::{AllocError, Global};
-use std::io;
 use std::io::Read;
 use verifier::Verified;
 
@@ -98,14 +101,18 @@ fn judge_outcome(alloc: Global, program: &Verified, text: &[u8]) -> Result<Answe
 /// The verdict of a program in hexadecimal on the outcome whose JSON is read, or why one of them is
 /// refused. The program comes first: nothing is read where it is refused. An error comes where
 /// reading fails, or memory runs out behind the program.
-pub fn judge<R: Read>(alloc: Global, text: &str, reader: &mut R) -> io::Result<Answer>
-    ensures { IfOk result (λ answer. IsJudgeAnswer text.now (R.remaining reader.old) answer) }
+pub fn judge<R: Read>(
+    alloc: Global,
+    text: &str,
+    reader: &mut Counted<R>,
+) -> Result<Answer, ReplayError>
+    ensures judged { IfOk result (λ answer. IsJudgeAnswer text.now (R.remaining reader.old.inner) answer) }
+    ensures cause { IsReadCause result reader.old.failures reader.new.failures (R.remaining reader.old.inner) }
 {
     let program = match admitted(alloc, text) {
         Ok(program) => program,
         Err(fault) => return Ok(Answer::Refused(fault)),
     };
-    let mut outcome = Vec::new(alloc);
-    reader.read_to_end(&mut outcome)?;
+    let outcome = read_all(alloc, reader)?;
     Ok(judge_outcome(alloc, &program, &outcome)?)
 }

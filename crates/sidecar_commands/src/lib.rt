@@ -2,20 +2,15 @@
 //! disassemble them, and replay events of a service.
 #![tactic(auto)]
 
-#[cfg(test)]
-mod analysis_tests;
 mod answer;
 mod assembling;
 mod commands;
 mod hexadecimal;
+mod input;
 mod judging;
-#[cfg(test)]
-mod replay_tests;
-#[cfg(test)]
-mod service_tests;
 #[cfg(test)]
 mod tests;
 #[cfg(test)]
 mod text_tests;
 
-pub use commands::command;
+pub use commands::{Status, command};

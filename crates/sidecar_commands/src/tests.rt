@@ -1,8 +1,9 @@
 //! The lines that commands print, and the statuses that they end with.
-use crate::commands::command;
+use crate::Status;
+use counted_io::Counted;
 use std::alloc::Global;
 use std::io;
-use std::io::Read;
+use std::io::{Read, Write};
 use std::process::Abort;
 use std::test::Fail;
 
@@ -12,6 +13,20 @@ const BY_STATUS: &str =
     "6112000000000000550204000000000061120400000000003502 0200f4010000 B700000000000000 9500000000000000 b700000001000000 9500000000000000";
 
 const USAGE: &str = "usage: sidecar judge|asm|dis|verify|replay|serve\n";
+
+/// The status with which the program ends.
+pub(crate) fn command<R: Read, O: Write, E: Write>(
+    alloc: Global,
+    words: &[&str],
+    reader: &mut R,
+    out: &mut O,
+    err: &mut E,
+) -> u8 {
+    let mut reader = Counted::new(reader);
+    let mut out = Counted::new(out);
+    let mut err = Counted::new(err);
+    crate::command(alloc, words, &mut reader, &mut out, &mut err).code()
+}
 
 /// That the words end so on this input.
 pub(crate) fn ends(
@@ -47,7 +62,7 @@ impl Read for Broken {
 #[derive(Drop)]
 struct Full;
 
-impl io::Write for Full {
+impl Write for Full {
     fn write(&mut self, _bytes: &[u8]) -> io::Result<usize> {
         Err(io::Error::from(io::ErrorKind::StorageFull))
     }
@@ -66,19 +81,7 @@ fn programs_are_verified(rt: HostRuntime) -> Result<(), Fail> {
             1,
             "refused 22 AnswerRange slot 1\n",
         ),
-        ("9500000000000000", 1, "refused 12 UnsetRegister slot 0\n"),
-        ("b70000000000000095000000", 1, "refused 1 Length slot 0\n"),
         ("", 1, "refused 1 Length slot 0\n"),
-        (
-            "55010000000000009500000000000000",
-            1,
-            "refused 13 PointerUsed slot 0\n",
-        ),
-        (
-            "71108000000000009500000000000000",
-            1,
-            "refused 16 OutOfBounds slot 0\n",
-        ),
         ("9g", 1, "refused 46 BadHex\n"),
         ("9", 1, "refused 46 BadHex\n"),
     ] {
@@ -91,24 +94,6 @@ fn programs_are_verified(rt: HostRuntime) -> Result<(), Fail> {
 fn outcomes_are_judged(rt: HostRuntime) -> Result<(), Fail> {
     for (program, outcome, status, printed) in [
         (FAILURE, "{}", 0, "failure steps=2 budget=2\n"),
-        (
-            BY_STATUS,
-            "{\"status\":499}",
-            0,
-            "success steps=6 budget=6\n",
-        ),
-        (
-            BY_STATUS,
-            "{\"status\":500}",
-            0,
-            "failure steps=6 budget=6\n",
-        ),
-        (
-            BY_STATUS,
-            "{\"kind\":\"timeout\"}",
-            0,
-            "failure steps=4 budget=6\n",
-        ),
         (FAILURE, "", 1, "refused 58 BadJson\n"),
         (FAILURE, "[]", 1, "refused 59 BadField\n"),
         (FAILURE, "{\"status\":null}", 1, "refused 59 BadField\n"),
@@ -145,6 +130,24 @@ fn wrong_words_are_answered_with_the_usage(rt: HostRuntime) -> Result<(), Fail> 
     ends(&rt, alloc, &["judge"], b"{}", 2, "")?;
     ends(&rt, alloc, &["judge", FAILURE, FAILURE], b"{}", 2, "")?;
     ends(&rt, alloc, &["frob", "x"], b"{}", 2, "")
+}
+
+/// Replays, whose answers are tested in the crate below.
+#[test]
+fn events_are_replayed(rt: HostRuntime) -> Result<(), Fail> {
+    let alloc = rt.alloc();
+    let events = b"{}\n{\"at\":1000,\"do\":\"acquire\"}\n".as_slice();
+    let acquired = "200 {\"state\":\"CLOSED\",\"ticket\":1,\"version\":1}\n";
+    ends(&rt, alloc, &["replay"], events, 0, acquired)?;
+    ends(
+        &rt,
+        alloc,
+        &["replay"],
+        b"[]\n",
+        1,
+        "refused 47 BadConfig\n",
+    )?;
+    ends(&rt, alloc, &["replay", "x"], b"{}", 2, "")
 }
 
 #[test]
@@ -200,6 +203,50 @@ fn failures_of_readers_and_writers_print_nothing(rt: HostRuntime) {
     assert_eq!(rt; status, 1);
     assert!(rt; err.is_empty());
     let status = command(alloc, &["judge"], &mut outcome, &mut out, &mut Full);
-    assert_eq!(rt; status, 1);
+    assert_eq!(rt; status, 2);
     assert!(rt; out.is_empty());
+}
+
+/// How the words end with a reader and writers that fail, and how many calls of each did.
+fn fails(rt: &impl Abort, alloc: Global, words: &[&str], status: Status, failures: [u64; 3]) {
+    let mut reader = Counted::new(Broken);
+    let mut out = Counted::new(Full);
+    let mut err = Counted::new(Full);
+    let found = crate::command(alloc, words, &mut reader, &mut out, &mut err);
+    assert_eq!(rt; found, status, "{words:?}");
+    assert_eq!(rt;
+        [reader.failures, out.failures, err.failures],
+        failures,
+        "{words:?}"
+    );
+}
+
+#[test]
+fn failures_are_told_apart(rt: HostRuntime) {
+    let alloc = rt.alloc();
+    fails(
+        &rt,
+        alloc,
+        &["judge", FAILURE],
+        Status::ReadFailed,
+        [1, 0, 0],
+    );
+    fails(&rt, alloc, &["replay"], Status::ReadFailed, [1, 0, 0]);
+    fails(&rt, alloc, &["asm"], Status::ReadFailed, [1, 0, 0]);
+    fails(&rt, alloc, &["judge", "zz"], Status::WriteFailed, [0, 1, 0]);
+    fails(
+        &rt,
+        alloc,
+        &["verify", FAILURE],
+        Status::WriteFailed,
+        [0, 1, 0],
+    );
+    fails(
+        &rt,
+        alloc,
+        &["dis", FAILURE],
+        Status::WriteFailed,
+        [0, 1, 0],
+    );
+    fails(&rt, alloc, &["judge"], Status::UsageFailed, [0, 0, 1]);
 }

@@ -14,9 +14,9 @@ use refusals::RefusalNumber;
 const STACK: u64 = 512;
 
 impl<D: Domain> StackState<D> {
-    /// What is known of a loaded value, where the context has so many bytes. It is refused with
-    /// `Misaligned`, then with `OutOfBounds`; on the stack a part of a stored pointer is refused with
-    /// `PointerUsed`, and a byte that may be unset with `UnsetStack`.
+    /// The abstract value that a load gives, where the context has `context_size` bytes. It is refused with
+    /// `Misaligned`, then with `OutOfBounds`; on the stack then with `PointerUsed` where it reads a part
+    /// of a stored pointer, and with `UnsetStack` where it reads a byte that may be unset.
     pub fn load(
         &self,
         context_size: u64,
@@ -32,9 +32,9 @@ impl<D: Domain> StackState<D> {
         }
     }
 
-    /// The same with a value stored. It is refused with `ContextWrite`, `Misaligned`, `OutOfBounds`,
-    /// `UnsetRegister` where the value may be unset, and `PointerUsed` where a pointer isn't stored
-    /// whole.
+    /// The state after a store. It is refused, in this order, with `ContextWrite`, `Misaligned`,
+    /// `OutOfBounds`, `UnsetRegister` where the value may be unset, and `PointerUsed` where a pointer isn't
+    /// stored as a whole.
     pub fn store(
         self,
         address: Address<D>,
@@ -85,7 +85,7 @@ fn zeros_of(size: Size) -> u32
     }
 }
 
-/// Any number of so many bytes, extended.
+/// Any number of this size, extended to a word.
 fn any_loaded<D: Domain>(extension: Extension, size: Size) -> D
     ensures { result ≡ any_loaded ⟦<D as Domain>⟧ extension size }
 {
@@ -115,7 +115,8 @@ fn load_context<D: Domain>(
     Ok(AbsVal::Number(any_loaded(extension, size)))
 }
 
-/// How many bytes of the stack lie before an access.
+/// The index in the stack of the first byte of an access at an offset. It is refused with `Misaligned`,
+/// then with `OutOfBounds`.
 fn stack_place(offset: u64, size: Size) -> Result<usize, RefusalNumber>
     ensures place { result ≡ stack_place offset size }
     ensures within { IfOk result (λ place. place % 8 + bytes_in size ≤ 8) }
@@ -143,7 +144,7 @@ impl<D: Domain> Cell<D> {
         }
     }
 
-    /// A load of fewer bytes, of which a pointer has none.
+    /// A load of a part of the cell. A part of a pointer is refused.
     fn load_part(
         self,
         place: usize,
@@ -160,7 +161,7 @@ impl<D: Domain> Cell<D> {
         }
     }
 
-    /// A load from a place of the stack that lies in this cell.
+    /// A load from this cell. `place` is the index of its first byte in the stack.
     fn load(
         self,
         place: usize,
@@ -176,8 +177,8 @@ impl<D: Domain> Cell<D> {
         }
     }
 
-    /// The cell once a value was stored at a place of the stack that lies in it. A pointer is stored
-    /// whole.
+    /// The cell after a store to it. `place` is the index of its first byte in the stack. A pointer has
+    /// to be stored as a whole.
     fn store(self, value: AbsVal<D>, place: usize, size: Size) -> Result<Self, RefusalNumber>
         requires { place % 8 + bytes_in size ≤ 8 }
         ensures { result ≡ stored_cell self value place size }

@@ -1,22 +1,22 @@
-//! What an analysis knows of eight bytes of the stack.
+//! The abstract state of eight bytes of the stack.
 ghost use Rattle.std.specs.Prelude.{◌≡◌};
 ghost use Rattle.stack_track.specs.Cells.{joined_cell, mask_of, kept};
 
 use abs_domain::Domain;
 use abs_regs::AbsVal;
 
-/// What is known of a cell, eight bytes whose lowest offset is a multiple of 8.
+/// The abstract state of a cell: eight bytes of the stack whose lowest offset is a multiple of 8.
 #[derive(Clone, Copy, Debug, PartialEq, Eq)]
 pub enum Cell<D> {
-    /// The bytes whose bits are 1 hold numbers, the lowest bit for the lowest offset; the others may be
-    /// unset or anything.
+    /// A mask with a bit for each byte, the lowest bit for the lowest offset. A byte whose bit is 1 is
+    /// set and part of a number; of the others nothing is known.
     Bytes(u8),
-    /// The bytes of a value that was stored whole.
+    /// All eight bytes are those of this value, which was stored as a whole.
     Kept(AbsVal<D>),
 }
 
 impl<D: Domain> Cell<D> {
-    /// A bit for each byte that holds a number.
+    /// The mask of the bytes that are known to be set and part of a number.
     pub(crate) fn mask(self) -> u8
         ensures { result ≡ mask_of self }
     {
@@ -27,7 +27,7 @@ impl<D: Domain> Cell<D> {
         }
     }
 
-    /// What is known where either of two paths was taken.
+    /// The join: what is known where two paths meet.
     pub(crate) fn join(self, other: Self) -> Self
         ensures { result ≡ joined_cell ⟦<D as Domain>⟧ self other }
     {

@@ -1,5 +1,5 @@
-//! What an analysis knows of the stack, over any domain: 64 cells of eight bytes, and what loads and stores
-//! make of them.
+//! The abstract state of the stack, over any domain: 64 cells of eight bytes, and the effect of loads and
+//! stores on them.
 #![tactic(auto)]
 
 mod accesses;

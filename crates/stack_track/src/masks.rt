@@ -1,4 +1,4 @@
-//! Which bytes of a cell an access touches, a bit for each.
+//! Masks of the bytes of a cell that an access touches.
 ghost use Rattle.std.specs.Prelude.{◌≡◌, ◌+◌, ◌-◌, ◌%◌, ◌^◌, ◌≤◌};
 ghost use Rattle.bpf_profile.specs.Words.{bytes_in};
 ghost use Rattle.stack_track.specs.Cells.{mask_of, bits_at, are_set};
@@ -8,7 +8,7 @@ use crate::cell::Cell;
 use abs_domain::Domain;
 use bpf_profile::Size;
 
-/// A bit for each byte of an access, from the lowest on.
+/// As many ones as the access has bytes, from the lowest bit on.
 fn ones(size: Size) -> u8
     ensures { result ≡ 2 ^ bytes_in size - 1 }
 {
@@ -20,7 +20,7 @@ fn ones(size: Size) -> u8
     }
 }
 
-/// The bits of an access at a place of the stack, within its cell.
+/// The mask of an access within its cell. `place` is the index of its first byte in the stack.
 fn bits_at(place: usize, size: Size) -> u8
     requires { place % 8 + bytes_in size ≤ 8 }
     ensures { result ≡ bits_at place (bytes_in size) }
@@ -29,7 +29,7 @@ fn bits_at(place: usize, size: Size) -> u8
 }
 
 impl<D: Domain> Cell<D> {
-    /// Whether all bytes of an access are known to hold numbers.
+    /// Whether all bytes of an access are known to be set and part of numbers.
     pub(crate) fn is_set(self, place: usize, size: Size) -> bool
         requires { place % 8 + bytes_in size ≤ 8 }
         ensures { result ≡ are_set (mask_of self) place (bytes_in size) }
@@ -38,8 +38,8 @@ impl<D: Domain> Cell<D> {
         self.mask() & bits == bits
     }
 
-    /// What is known once numbers were written to the bytes of an access. A kept value is gone, but that
-    /// its bytes hold numbers.
+    /// The cell after a store of a number to the bytes of an access. A value that was kept is forgotten,
+    /// but for which of its bytes are part of a number.
     pub(crate) fn with_numbers(self, place: usize, size: Size) -> Self
         requires { place % 8 + bytes_in size ≤ 8 }
         ensures { result ≡ with_numbers self place (bytes_in size) }

@@ -1,4 +1,4 @@
-//! What an analysis knows of the stack at a slot.
+//! The abstract state of the stack before an instruction.
 ghost use Rattle.std.specs.Prelude.{◌≡◌, ℕ, ◌<◌, slice_set};
 ghost use Rattle.stack_track.specs.Cells.{cell_in, entry_cells, joined_cells};
 
@@ -7,8 +7,8 @@ use abs_domain::Domain;
 use std::alloc::AllocError;
 use std::marker::Model;
 
-/// What is known of the 512 bytes of the stack. Contracts see the list of its cells, the lowest offsets
-/// first.
+/// The abstract state of the 512 bytes of the stack. Contracts see the list of its cells, the lowest
+/// offsets first.
 #[derive(Copy, Debug)]
 pub struct StackState<D> {
     cells: [Cell<D>; 64],
@@ -17,7 +17,7 @@ pub struct StackState<D> {
 impl<D: Copy> Clone for StackState<D> {
     ghost use Rattle.std.specs.Prelude.{◌≡◌, ⊤};
 
-    /// A copy is the same, and takes no memory.
+    /// A clone equals its original, and takes no memory.
     ghost is_clone = { λ stack copy. copy ≡ stack };
 
     ghost is_infallible = { λ _. ⊤ };
@@ -39,7 +39,7 @@ impl<D> Model for StackState<D> {
 }
 
 impl<D: Domain> StackState<D> {
-    /// Before the first instruction: no byte is known to hold a number.
+    /// The state before the first instruction: no byte is known to be set.
     pub fn entry() -> Self
         ensures { result ≡ entry_cells }
     {
@@ -48,7 +48,7 @@ impl<D: Domain> StackState<D> {
         }
     }
 
-    /// Cell by cell, what is known where either of two paths was taken.
+    /// The join, cell by cell: what is known where two paths meet.
     pub fn join(self, other: Self) -> Self
         ensures { result ≡ joined_cells ⟦<D as Domain>⟧ self other }
     {
@@ -57,7 +57,7 @@ impl<D: Domain> StackState<D> {
         }
     }
 
-    /// What is known of the cell with this number, from 0 to 63.
+    /// The cell with this index, from 0 to 63.
     pub(crate) fn cell(&self, number: usize) -> Cell<D>
         requires { number < 64 }
         ensures { result ≡ cell_in self.now number }
@@ -65,7 +65,7 @@ impl<D: Domain> StackState<D> {
         self.cells[number]
     }
 
-    /// The same, but for the cell with this number, from 0 to 63.
+    /// This state, with the cell of this index, from 0 to 63, replaced.
     pub(crate) fn with(mut self, number: usize, cell: Cell<D>) -> Self
         requires { number < 64 }
         ensures { result ≡ slice_set self number cell }
@@ -75,7 +75,7 @@ impl<D: Domain> StackState<D> {
     }
 }
 
-/// Cell by cell, what is known where either of two paths was taken.
+/// The join of two arrays, cell by cell.
 fn joined_arrays<D: Domain>(one: [Cell<D>; 64], other: [Cell<D>; 64]) -> [Cell<D>; 64]
     ensures { result ≡ joined_cells ⟦<D as Domain>⟧ one other }
 {

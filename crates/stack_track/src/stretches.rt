@@ -1,4 +1,4 @@
-//! Stretches of single bytes, which helper functions read and write.
+//! Byte ranges of the stack, which helper functions read and write.
 ghost use Rattle.std.specs.Prelude.{◌≡◌, ◌+◌, ◌/◌, ◌<◌, ◌≤◌, slice_set};
 ghost use Rattle.stack_track.specs.Cells.{cell_in, mask_of, are_set};
 ghost use Rattle.stack_track.specs.Accesses.{with_numbers, stretch_is_set, stretch_written};
@@ -8,8 +8,8 @@ use abs_domain::Domain;
 use bpf_profile::Size;
 
 impl<D: Domain> StackState<D> {
-    /// Whether each of so many bytes, from the place with so many bytes of the stack before it on, is
-    /// known to hold a number.
+    /// Whether each byte of a range is known to be set and part of a number. `place` is the index of its
+    /// first byte in the stack, from 0 at the lowest offset on, and `count` its length.
     pub fn stretch_is_set(&self, place: u64, count: u64) -> bool
         requires { place + count ≤ 512 }
         ensures { result ≡ stretch_is_set self.now place count }
@@ -22,8 +22,8 @@ impl<D: Domain> StackState<D> {
         true
     }
 
-    /// The same once numbers were written to so many bytes, from the place with so many bytes of the
-    /// stack before it on.
+    /// The state after bytes were written to a range. `place` is the index of its first byte in the
+    /// stack, and `count` its length.
     pub fn stretch_written(self, place: u64, count: u64) -> Self
         requires { place + count ≤ 512 }
         ensures { result ≡ stretch_written self place count }
@@ -35,7 +35,7 @@ impl<D: Domain> StackState<D> {
         state
     }
 
-    /// Whether the byte at a place is known to hold a number.
+    /// Whether the byte at an index is known to be set and part of a number.
     fn byte_is_set(&self, place: usize) -> bool
         requires { place < 512 }
         ensures { result ≡ are_set (mask_of (cell_in self.now (place / 8))) place 1 }
@@ -43,7 +43,7 @@ impl<D: Domain> StackState<D> {
         self.cell(place / 8).is_set(place, Size::Byte)
     }
 
-    /// The same once a number was written to the byte at a place.
+    /// The state after a byte was written at an index.
     fn with_byte(self, place: usize) -> Self
         requires { place < 512 }
         ensures { result ≡ slice_set self (place / 8) (with_numbers (cell_in self (place / 8)) place 1) }

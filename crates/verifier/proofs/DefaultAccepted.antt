@@ -14,8 +14,9 @@ use Rattle.bpf_profile.specs.Opcodes.{operation_of, comparison_of, size_of, arit
 use Rattle.bpf_profile.specs.Slots.{instruction_of, read_fields}
 use Rattle.bpf_profile.specs.Spelling.{IsProgram, Fault, first_fault, fault_from as decoding_fault_from, slots_at}
 use Rattle.known_bits.specs.KnownBitsTable.{without}
-use Rattle.product_domain.specs.declared.both.Both.{Both}
-use Rattle.verifier.specs.Analysis.{context_size, sent_with, fault_with, fault_from, analysis_fault}
+use Rattle.abs_domain.specs.declared.product.Both.{Both}
+use Rattle.bpf_profile.specs.Outcomes.{context_size}
+use Rattle.verifier.specs.Analysis.{sent_with, fault_with, fault_from, analysis_fault}
 use Rattle.verifier.specs.DefaultClassifier.{default_classifier_bytes}
 use Rattle.verifier.specs.Passes.{state_of, entry_states, delivered_all}
 use Rattle.verifier.specs.Product.{product}

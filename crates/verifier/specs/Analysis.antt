@@ -12,10 +12,6 @@ use Rattle.bpf_profile.specs.declared.slot.Slot.{Slot}
 use Rattle.bpf_profile.specs.Meaning.{instruction_at}
 use Rattle.bpf_profile.specs.Spelling.{Fault}
 
--- the size of the context
-abbrev pub context_size : ℕ
-context_size = 128
-
 -- ---- what is known at a slot
 
 -- what is known at a slot to which an edge leads

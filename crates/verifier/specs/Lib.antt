@@ -4,5 +4,4 @@ pub mod Kept
 pub mod Memory
 pub mod Passes
 pub mod Product
-pub mod Programs
 pub mod Verifying

@@ -4,8 +4,8 @@ use Rattle.abs_domain.specs.declared.operations.Bits.{Bits}
 use Rattle.abs_domain.specs.declared.operations.Bounds.{Bounds}
 use Rattle.known_bits.specs.contracts.domain.KnownBitsDomain.TheImpl as bits
 use Rattle.known_bits.specs.contracts.known.KnownBits as bits_type
-use Rattle.product_domain.specs.contracts.both.BothDomain.TheImpl as both
-use Rattle.product_domain.specs.declared.both.Both.{Both}
+use Rattle.abs_domain.specs.contracts.product.BothDomain.TheImpl as both
+use Rattle.abs_domain.specs.declared.product.Both.{Both}
 use Rattle.ranges.specs.contracts.range.Range as range_type
 use Rattle.ranges.specs.contracts.range.RangeDomain.TheImpl as range
 use Rattle.std.specs.declared.clone.Clone.{Ghosts as Clones}

@@ -4,9 +4,10 @@ use Rattle.refusals.specs.declared.RefusalNumber.TheVariants.{ProgramOutOfMemory
 use Rattle.bpf_profile.specs.declared.slot.Slot.{Slot}
 use Rattle.bpf_profile.specs.Flow.{flow_fault, successors, IsBudget}
 use Rattle.bpf_profile.specs.Spelling.{Spells, Fault, first_fault}
-use Rattle.verifier.specs.Analysis.{analysis_fault, context_size}
+use Rattle.bpf_profile.specs.Outcomes.{context_size}
+use Rattle.verifier.specs.Analysis.{analysis_fault}
 use Rattle.verifier.specs.Product.{product}
-use Rattle.verifier.specs.Programs.{VerifiedProgram}
+use Rattle.bpf_profile.specs.Programs.{VerifiedProgram}
 use Rattle.verifier.specs.declared.refusal.Refusal.{Refusal}
 
 -- the refusal that says that memory ran out

@@ -3,7 +3,8 @@ ghost use Rattle.std.specs.Prelude.{◌≡◌, ◌⊎◌, ◌<◌, ℕ, length, 
 ghost use Rattle.std.specs.List.{range_with_len};
 ghost use Rattle.bpf_profile.specs.Flow.{flow_fault, successors, IsBudget};
 ghost use Rattle.bpf_profile.specs.Safety.{IsSafe};
-ghost use Rattle.verifier.specs.Analysis.{context_size, analysis_fault, AreKnown};
+ghost use Rattle.bpf_profile.specs.Outcomes.{context_size};
+ghost use Rattle.verifier.specs.Analysis.{analysis_fault, AreKnown};
 ghost use Rattle.verifier.specs.Memory.{StateFits};
 ghost use Rattle.verifier.specs.Passes.{entry_states};
 ghost use Rattle.verifier.specs.Verifying.{out_of_memory, fault_of};

@@ -2,7 +2,7 @@
 ghost use Rattle.std.specs.Prelude.{◌≡◌, IfOk, IfErr};
 ghost use Rattle.bpf_profile.specs.Safety.{IsSafe};
 ghost use Rattle.bpf_profile.specs.Spelling.{Spells};
-ghost use Rattle.verifier.specs.Analysis.{context_size};
+ghost use Rattle.bpf_profile.specs.Outcomes.{context_size};
 ghost use Rattle.verifier.specs.DefaultClassifier.{default_classifier_bytes};
 ghost use Rattle.verifier.specs.Verifying.{IsVerification, out_of_memory};
 

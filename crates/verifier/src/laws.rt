@@ -5,13 +5,13 @@ ghost use Rattle.bpf_profile.specs.Faults.{IsLeastFault, IsFaultless};
 ghost use Rattle.bpf_profile.specs.Flow.{flow_fault, IsBudget};
 ghost use Rattle.bpf_profile.specs.Safety.{IsSafe};
 ghost use Rattle.bpf_profile.specs.Spelling.{IsProgram, Fault};
-ghost use Rattle.verifier.specs.Analysis.{context_size, analysis_fault, fault_at};
-ghost use Rattle.verifier.specs.Programs.{VerifiedProgram};
+ghost use Rattle.bpf_profile.specs.Outcomes.{context_size};
+ghost use Rattle.verifier.specs.Analysis.{analysis_fault, fault_at};
+ghost use Rattle.bpf_profile.specs.Programs.{VerifiedProgram};
 ghost use Rattle.verifier.specs.Verifying.{IsVerification};
 
-use abs_domain::Domain;
+use abs_domain::{Both, Domain};
 use known_bits::KnownBits;
-use product_domain::Both;
 use ranges::Range;
 
 /// A program in which neither its flow nor an analysis finds a fault is safe within its budget,

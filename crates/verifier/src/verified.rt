@@ -5,17 +5,18 @@ ghost use Rattle.bpf_profile.specs.Meaning.{instruction_at};
 ghost use Rattle.bpf_profile.specs.Safety.{IsSafe};
 ghost use Rattle.bpf_profile.specs.Spelling.{Spells};
 ghost use Rattle.bpf_profile.specs.Flow.{flow_fault, IsBudget};
-ghost use Rattle.verifier.specs.Analysis.{context_size, analysis_fault};
+ghost use Rattle.bpf_profile.specs.Outcomes.{context_size};
+ghost use Rattle.verifier.specs.Analysis.{analysis_fault};
 ghost use Rattle.verifier.specs.Verifying.{out_of_memory, fault_of, IsAccepted, IsProgramRefused, IsRefused, IsVerification};
 
 use crate::analysis::analyse;
 use crate::decoded::decoded;
 use crate::refusal::Refusal;
+use abs_domain::Both;
 use bpf_decode::Program;
 use bpf_profile::Instruction;
 use flow_check::check;
 use known_bits::KnownBits;
-use product_domain::Both;
 use ranges::Range;
 use std::alloc::{AllocError, Global};
 use std::marker::Model;
@@ -31,7 +32,7 @@ pub struct Verified {
 }
 
 impl Model for Verified {
-    ghost use Rattle.verifier.specs.Programs.{VerifiedProgram};
+    ghost use Rattle.bpf_profile.specs.Programs.{VerifiedProgram};
 
     ghost Value = { VerifiedProgram };
 

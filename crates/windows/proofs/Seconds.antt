@@ -2,8 +2,8 @@
 use Rattle.std.proofs.Common.{◌≡◌, ℕ, ◌+◌, ◌/◌, ◌^◌, ◌<◌, nat_le, nat_lt, min, Bool, true, false, arith, refl, ap, sym, ◌∙◌}
 use Rattle.std.proofs.lemmas.Bool.{lt-ltb, leb-true, leb-false}
 use Rattle.std.proofs.Math.Nat.{min-eq_left, min-eq_right}
-use Rattle.windows.specs.declared.notes.Note.{Note}
-use Rattle.windows.specs.Notes.{is_recent}
+use Rattle.service_profile.specs.declared.notes.Note.{Note}
+use Rattle.service_profile.specs.Windows.{is_recent}
 
 -- a sum that stops at the greatest word, beside a second, which is far below it
 pub recent_by : (seconds now : ℕ) (note : Note) → now < 2 ^ 64 → note.moment < 2 ^ 64 → nat_lt (now / 1000) (min (note.moment / 1000 + seconds) 18446744073709551615) ≡ is_recent seconds now note

@@ -1,10 +1,11 @@
 //! The window over the last notes.
 ghost use Rattle.std.specs.Prelude.{◌≡◌, ℕ, List, [], IfOk};
-ghost use Rattle.windows.specs.declared.notes.Note.{Note as ANote};
-ghost use Rattle.windows.specs.Notes.{last};
+ghost use Rattle.service_profile.specs.declared.notes.Note.{Note as ANote};
+ghost use Rattle.service_profile.specs.Windows.{last};
 
-use crate::notes::{Note, Totals, totals_of};
+use crate::notes::totals_of;
 use crate::window::Window;
+use service_profile::{Note, Totals};
 use std::alloc::{AllocError, Global};
 use std::marker::Model;
 
@@ -46,7 +47,7 @@ impl CountWindow {
 
 impl Window for CountWindow {
     ghost use Rattle.std.specs.Prelude.{◌≡◌};
-    ghost use Rattle.windows.specs.Notes.{last};
+    ghost use Rattle.service_profile.specs.Windows.{last};
 
     ghost keeps = { λ window notes. window.notes ≡ notes };
 

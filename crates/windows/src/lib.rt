@@ -10,6 +10,6 @@ mod time;
 mod window;
 
 pub use count::CountWindow;
-pub use notes::{Note, Totals};
+pub use service_profile::{Note, Totals};
 pub use time::TimeWindow;
 pub use window::Window;

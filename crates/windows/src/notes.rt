@@ -1,26 +1,9 @@
-//! Notes of calls, and their totals.
+//! Totals of notes.
 ghost use Rattle.std.specs.Prelude.{◌≡◌, ◌≤◌, ◌+◌, length};
 ghost use Rattle.std.specs.List.{filter};
-ghost use Rattle.windows.specs.Notes.{totals_of};
+ghost use Rattle.service_profile.specs.Windows.{totals_of};
 
-/// What a recorded verdict leaves.
-#[derive(Clone, Copy, Debug, PartialEq, Eq)]
-pub struct Note {
-    /// Milliseconds.
-    pub moment: u64,
-    /// Whether the verdict is a failure.
-    pub failed: bool,
-    /// Whether the call took longer than the threshold.
-    pub slow: bool,
-}
-
-/// How many notes a window has, and of which kinds.
-#[derive(Clone, Copy, Debug, PartialEq, Eq)]
-pub struct Totals {
-    pub total: u64,
-    pub failed: u64,
-    pub slow: u64,
-}
+use service_profile::{Note, Totals};
 
 #[tactic(auto, using(crate::proofs::Lists::length_filter_le))]
 fn failures(notes: &[Note]) -> usize

@@ -1,11 +1,12 @@
 //! The window over the notes of the last seconds.
 ghost use Rattle.std.specs.Prelude.{◌≡◌, ℕ, List, length, [], IfOk};
 ghost use Rattle.std.specs.List.{filter};
-ghost use Rattle.windows.specs.declared.notes.Note.{Note as ANote};
-ghost use Rattle.windows.specs.Notes.{is_recent, recent};
+ghost use Rattle.service_profile.specs.declared.notes.Note.{Note as ANote};
+ghost use Rattle.service_profile.specs.Windows.{is_recent};
+ghost use Rattle.windows.specs.Notes.{recent};
 
-use crate::notes::{Note, Totals};
 use crate::window::Window;
+use service_profile::{Note, Totals};
 use std::alloc::{AllocError, Global};
 use std::marker::Model;
 

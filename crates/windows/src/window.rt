@@ -1,9 +1,10 @@
 //! What a breaker asks of a sliding window.
 ghost use Rattle.std.specs.Prelude.{◌≡◌, ◌≤◌, ◌++◌, ◌∷◌, [], ℕ, List, OnOk, OnErr};
-ghost use Rattle.windows.specs.declared.notes.Note.{Note as ANote};
-ghost use Rattle.windows.specs.Notes.{totals_of, AreNotAfter};
+ghost use Rattle.service_profile.specs.declared.notes.Note.{Note as ANote};
+ghost use Rattle.service_profile.specs.Windows.{totals_of};
+ghost use Rattle.windows.specs.Notes.{AreNotAfter};
 
-use crate::notes::Totals;
+use service_profile::Totals;
 use std::alloc::AllocError;
 
 /// A sliding window. Contracts speak of the whole list of notes since the window was made or cleared, the

@@ -7,14 +7,14 @@ use Rattle.bpf_profile.specs.Opcodes.{operation_of, comparison_of, size_of, conv
 use Rattle.bpf_profile.specs.Slots.{read_fields, instruction_of}
 use Rattle.bpf_profile.specs.Spelling.{is_tail, FollowsWide, IsProgram, Spells}
 use Rattle.abs_states.specs.Transfers.{transfer_in}
-use Rattle.verifier.specs.Analysis.{context_size, arriving, fault_at, fault_from, analysis_fault}
+use Rattle.bpf_profile.specs.Outcomes.{context_size}
+use Rattle.verifier.specs.Analysis.{arriving, fault_at, fault_from, analysis_fault}
 use Rattle.verifier.specs.Product.{product}
-use Rattle.verifier.specs.Programs.{VerifiedProgram}
+use Rattle.bpf_profile.specs.Programs.{VerifiedProgram}
 use Rattle.std.specs.Prelude.{Contains}
 use Rattle.verifier.specs.Verifying.{IsVerification}
-use Rattle.book.specs.Books.{first_opening}
-use Rattle.book.specs.Configuration.{default_parts}
-use Rattle.book.specs.Sound.{IsOpening}
+use Rattle.service_profile.specs.Openings.{first_opening, IsOpening}
+use Rattle.service_profile.specs.Configuration.{default_parts}
 
 -- a move of 0 into R0, and an exit
 abbrev pub zero_slots : List Slot

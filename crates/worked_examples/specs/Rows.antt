@@ -2,12 +2,12 @@
 use Rattle.std.specs.Prelude.{ℕ, List, [], ◌∷◌, ◌++◌, Some, None}
 use Rattle.bpf_profile.specs.declared.machine.Verdict.TheVariants as verdict
 use Rattle.refusals.specs.declared.RefusalNumber.TheVariants as refusal
-use Rattle.book.specs.declared.configuration.ConfigParts.{ConfigParts}
-use Rattle.book.specs.declared.configuration.SlidingWindowType.TheVariants as window
-use Rattle.book.specs.declared.replies.Fate.TheVariants as fate
-use Rattle.book.specs.declared.replies.Reply.TheVariants as reply
-use Rattle.book.specs.declared.states.State.TheVariants as state
-use Rattle.book.specs.Configuration.{default_parts}
+use Rattle.service_profile.specs.declared.configuration.ConfigParts.{ConfigParts}
+use Rattle.service_profile.specs.declared.configuration.SlidingWindowType.TheVariants as window
+use Rattle.service_profile.specs.declared.replies.Fate.TheVariants as fate
+use Rattle.service_profile.specs.declared.replies.Reply.TheVariants as reply
+use Rattle.service_profile.specs.declared.states.State.TheVariants as state
+use Rattle.service_profile.specs.Configuration.{default_parts}
 use Rattle.book.specs.Interleavings.{Act, acquire, release, install, move, reset, read, cut_off}
 use Rattle.worked_examples.specs.Services.{default_classifier, ignoring_classifier, response, by_caller, reports, Heard, says, shows, hands_out, withholds}
 

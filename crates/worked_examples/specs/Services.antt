@@ -6,15 +6,15 @@ use Rattle.bpf_profile.specs.declared.slot.Slot.{Slot}
 use Rattle.bpf_profile.specs.declared.slot.Slot.TheVariants.{Ins}
 use Rattle.bpf_profile.specs.Outcomes.{Outcome}
 use Rattle.refusals.specs.declared.RefusalNumber.{RefusalNumber}
-use Rattle.verifier.specs.Programs.{VerifiedProgram}
-use Rattle.book.specs.declared.configuration.ConfigParts.{ConfigParts}
-use Rattle.book.specs.declared.readings.Reading.{Reading}
-use Rattle.book.specs.declared.replies.Reply.{Reply}
-use Rattle.book.specs.Books.{first_opening}
-use Rattle.book.specs.Configuration.{default_parts}
-use Rattle.book.specs.Events.{Opening}
+use Rattle.bpf_profile.specs.Programs.{VerifiedProgram}
+use Rattle.service_profile.specs.declared.configuration.ConfigParts.{ConfigParts}
+use Rattle.service_profile.specs.declared.readings.Reading.{Reading}
+use Rattle.service_profile.specs.declared.replies.Reply.{Reply}
+use Rattle.service_profile.specs.Openings.{first_opening}
+use Rattle.service_profile.specs.Configuration.{default_parts}
+use Rattle.service_profile.specs.Events.{Opening}
 use Rattle.book.specs.Interleavings.{Step, look, judge, finish, ample, Act, Given, replied, found, shown, handed, nothing, course, begun}
-use Rattle.book.specs.Machine.{decision}
+use Rattle.service_profile.specs.Machine.{decision}
 
 -- ---- programs and outcomes
 

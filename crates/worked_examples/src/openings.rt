@@ -1,7 +1,7 @@
 //! That the premises of the laws can be met.
-ghost use Rattle.book.specs.Events.{Opening};
+ghost use Rattle.service_profile.specs.Events.{Opening};
 ghost use Rattle.book.specs.Safe.{IsVerifiedProgram};
-ghost use Rattle.book.specs.Sound.{IsOpening};
+ghost use Rattle.service_profile.specs.Openings.{IsOpening};
 
 /// A good opening exists, with a program that decoding, flow and the analysis accept.
 pub fn a_good_opening_exists()

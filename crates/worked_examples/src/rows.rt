@@ -1,6 +1,6 @@
 //! What is heard on fresh services.
 ghost use Rattle.std.specs.Prelude.{◌≡◌};
-ghost use Rattle.book.specs.Configuration.{default_parts};
+ghost use Rattle.service_profile.specs.Configuration.{default_parts};
 ghost use Rattle.worked_examples.specs.Services.{heard_on};
 ghost use Rattle.worked_examples.specs.Rows.{ten_seconds, note_passes_out, note_passed_out, two_permitted, ignored_call_frees, ignored_call_freed, ticket_goes_stale, ticket_went_stale, one_place, full_bulkhead_refuses, full_bulkhead_refused, states_are_forced, states_were_forced, book_is_cut, book_was_cut, ticket_is_released, ticket_was_released};
 ghost use Rattle.worked_examples.specs.Stays.{half_a_second, stay_ends, stay_ended, stay_ends_at_a_move, stay_ended_at_a_move};

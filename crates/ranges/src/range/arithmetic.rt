@@ -1,18 +1,19 @@
 //! Sums, differences, products, quotients and remainders of ranges (RFC 9669, section 4.1). Each result
-//! contains what the operation makes of a word of the first range and one of the second.
+//! contains what the operation makes of any word of the first range and any word of the second.
 ghost use Rattle.std.specs.Prelude.{◌≡◌};
 ghost use Rattle.ranges.specs.RangeTable.{range_sum, range_difference, range_product, range_quotient, range_remainder, range_signed_quotient, range_signed_remainder, have_no_sign};
 
 use crate::range::Range;
 
-/// Whether every word of both is below 2^63, so that its signed reading is the word itself.
+/// Whether all words of both ranges are below 2^63, so that their signed values are their unsigned ones.
 fn have_no_sign(a: Range, b: Range) -> bool
     ensures { result ≡ have_no_sign a b }
 {
     a.high < 1 << 63 && b.high < 1 << 63
 }
 
-/// A sum that wraps for some words only may be any word.
+/// The sum. Where it wraps for all words, so do its bounds; where it wraps for some words only, it is any
+/// word.
 pub fn sum(a: Range, b: Range) -> Range
     ensures { result ≡ range_sum a b }
 {
@@ -31,7 +32,8 @@ pub fn sum(a: Range, b: Range) -> Range
     }
 }
 
-/// A difference that wraps for some words only may be any word.
+/// The difference. Where it wraps for all words, so do its bounds; where it wraps for some words only, it
+/// is any word.
 pub fn difference(a: Range, b: Range) -> Range
     ensures { result ≡ range_difference a b }
 {
@@ -50,7 +52,7 @@ pub fn difference(a: Range, b: Range) -> Range
     }
 }
 
-/// A product that wraps may be any word.
+/// The product. Where it may wrap, it is any word.
 pub fn product(a: Range, b: Range) -> Range
     ensures { result ≡ range_product a b }
 {
@@ -63,7 +65,7 @@ pub fn product(a: Range, b: Range) -> Range
     }
 }
 
-/// The quotient by 0 is 0, so where the divisor may be 0, it may be that.
+/// The quotient. A division by 0 gives 0, so where the divisor may be 0 the result may be 0.
 pub fn quotient(a: Range, b: Range) -> Range
     ensures { result ≡ range_quotient a b }
 {
@@ -79,7 +81,7 @@ pub fn quotient(a: Range, b: Range) -> Range
     }
 }
 
-/// The remainder by 0 is the dividend; else it is less than the divisor.
+/// The remainder. By 0 it is the dividend; else it is less than the divisor.
 pub fn remainder(a: Range, b: Range) -> Range
     ensures { result ≡ range_remainder a b }
 {
@@ -95,7 +97,7 @@ pub fn remainder(a: Range, b: Range) -> Range
     }
 }
 
-/// As `quotient` where every word is below 2^63; else it may be any word.
+/// The signed quotient: that of `quotient` where all words are below 2^63, else any word.
 pub fn signed_quotient(a: Range, b: Range) -> Range
     ensures { result ≡ range_signed_quotient a b }
 {
@@ -106,7 +108,7 @@ pub fn signed_quotient(a: Range, b: Range) -> Range
     }
 }
 
-/// As `remainder` where every word is below 2^63; else it may be any word.
+/// The signed remainder: that of `remainder` where all words are below 2^63, else any word.
 pub fn signed_remainder(a: Range, b: Range) -> Range
     ensures { result ≡ range_signed_remainder a b }
 {

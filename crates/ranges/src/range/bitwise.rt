@@ -1,11 +1,12 @@
 //! The bitwise operations on ranges (RFC 9669, section 4.1). Each result contains what the operation
-//! makes of a word of the first range and one of the second.
+//! makes of any word of the first range and any word of the second.
 ghost use Rattle.std.specs.Prelude.{◌≡◌, ◌≤◌, ℕ};
 ghost use Rattle.ranges.specs.RangeTable.{IsOnes, ones_over, ones_over_both, range_and, range_or, range_xor};
 
 use crate::range::Range;
 
-/// The least number of the form 2^k - 1 that is at least the word: no word up to it has more bits.
+/// The least number of the form 2^k - 1 that is at least the word: as many ones as the word has bits,
+/// without leading zeros.
 pub fn ones_over(word: u64) -> u64
     ensures value { result ≡ ones_over word }
     ensures ones { IsOnes result }
@@ -18,7 +19,7 @@ pub fn ones_over(word: u64) -> u64
     u64::MAX >> word.leading_zeros()
 }
 
-/// All bits up to the highest one that a word of either has.
+/// Ones up to the highest bit that a word of either range may have.
 fn ones_over_both(a: Range, b: Range) -> u64
     ensures value { result ≡ ones_over_both a b }
     ensures over { (a.high ≤ result) × (b.high ≤ result) }
@@ -26,7 +27,7 @@ fn ones_over_both(a: Range, b: Range) -> u64
     ones_over(a.high.max(b.high))
 }
 
-/// No word is over either.
+/// The bitwise and, which is at most either operand.
 pub fn bitwise_and(a: Range, b: Range) -> Range
     ensures { result ≡ range_and a b }
 {
@@ -36,7 +37,7 @@ pub fn bitwise_and(a: Range, b: Range) -> Range
     }
 }
 
-/// No word is under either, and none has more bits than they have.
+/// The bitwise or, which is at least either operand, and has no bit above the highest one of both.
 pub fn bitwise_or(a: Range, b: Range) -> Range
     ensures { result ≡ range_or a b }
 {
@@ -46,7 +47,7 @@ pub fn bitwise_or(a: Range, b: Range) -> Range
     }
 }
 
-/// No word has more bits than they have.
+/// The exclusive or, which has no bit above the highest one of both operands.
 pub fn bitwise_xor(a: Range, b: Range) -> Range
     ensures { result ≡ range_xor a b }
 {

@@ -1,4 +1,4 @@
-//! What is made of the low bytes of a range's words (RFC 9669, sections 4.1 and 4.2).
+//! Conversions of the low bytes of a range's words (RFC 9669, sections 4.1 and 4.2).
 ghost use Rattle.std.specs.Prelude.{◌≡◌, ◌-◌, ◌^◌};
 ghost use Rattle.bpf_profile.specs.Words.{bits_in};
 ghost use Rattle.ranges.specs.RangeTable.{range_conversion, range_of_size};
@@ -7,7 +7,7 @@ use crate::range::Range;
 use abs_domain::Conversion;
 use bpf_profile::Size;
 
-/// The greatest word of a size's low bytes.
+/// The greatest word of this size.
 fn last_of_size(size: Size) -> u64
     ensures { result ≡ 2 ^ bits_in size - 1 }
 {
@@ -19,7 +19,7 @@ fn last_of_size(size: Size) -> u64
     }
 }
 
-/// The words of a size's low bytes.
+/// All words of this size.
 fn of_size(size: Size) -> Range
     ensures { result ≡ range_of_size size }
 {
@@ -29,8 +29,9 @@ fn of_size(size: Size) -> Range
     }
 }
 
-/// A word that its low bytes hold, below half of their words where the sign counts, stays; reversed bytes
-/// may be any.
+/// The conversion. A range whose words all fit into the low bytes, for a sign extension without their
+/// highest bit, stays as it is. Else zero extension gives all words of the size, and sign extension any
+/// word. A byte swap always gives all words of the size.
 pub fn converted(a: Range, conversion: Conversion, size: Size) -> Range
     ensures { result ≡ range_conversion conversion size a }
 {

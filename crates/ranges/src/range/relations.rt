@@ -1,10 +1,11 @@
-//! What comparisons tell of two ranges (RFC 9669, section 4.3).
+//! Refinement of ranges by comparisons (RFC 9669, section 4.3).
 ghost use Rattle.std.specs.Prelude.{◌≡◌};
 ghost use Rattle.ranges.specs.RangeTable.{range_common, range_without, range_parted, range_above, range_below, range_at_least, range_at_most};
 
 use crate::range::Range;
 
-/// The words of both, if there are any.
+/// `a`, refined by the fact that its word equals one of `b`: the intersection, or `a` itself where that
+/// is empty.
 pub fn common(a: Range, b: Range) -> Range
     ensures { result ≡ range_common a b }
 {
@@ -13,7 +14,8 @@ pub fn common(a: Range, b: Range) -> Range
     if low <= high { Range { low, high } } else { a }
 }
 
-/// Without the one word of the other, where that is the first or the last one of several.
+/// `a`, refined by the fact that its word differs from that of `b`: where `b` is one word, and this is a
+/// bound of `a`, the range without it. A range of one word stays.
 pub fn parted(a: Range, b: Range) -> Range
     ensures { result ≡ range_parted a b }
 {
@@ -35,7 +37,7 @@ pub fn parted(a: Range, b: Range) -> Range
     }
 }
 
-/// Without words of which the other has no lesser one.
+/// `a`, refined by the fact that its word is greater than one of `b`; `a` itself where that can't be.
 pub fn above(a: Range, b: Range) -> Range
     ensures { result ≡ range_above a b }
 {
@@ -48,7 +50,7 @@ pub fn above(a: Range, b: Range) -> Range
     }
 }
 
-/// Without words of which the other has no greater one.
+/// `a`, refined by the fact that its word is less than one of `b`; `a` itself where that can't be.
 pub fn below(a: Range, b: Range) -> Range
     ensures { result ≡ range_below a b }
 {
@@ -61,7 +63,7 @@ pub fn below(a: Range, b: Range) -> Range
     }
 }
 
-/// Without words that are less than every word of the other.
+/// `a`, refined by the fact that its word is at least one of `b`; `a` itself where that can't be.
 pub fn at_least(a: Range, b: Range) -> Range
     ensures { result ≡ range_at_least a b }
 {
@@ -74,7 +76,7 @@ pub fn at_least(a: Range, b: Range) -> Range
     }
 }
 
-/// Without words that are greater than every word of the other.
+/// `a`, refined by the fact that its word is at most one of `b`; `a` itself where that can't be.
 pub fn at_most(a: Range, b: Range) -> Range
     ensures { result ≡ range_at_most a b }
 {

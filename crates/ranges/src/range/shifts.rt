@@ -6,7 +6,7 @@ use crate::range::Range;
 use abs_domain::Shift;
 use abs_domain::words::shifted;
 
-/// By a count from 0 to 63. Words that lose bits may become any word.
+/// A shift to the left by a count, from 0 to 63. Where a word may lose bits, the result is any word.
 pub fn shift_left(a: Range, count: u32) -> Range
     requires { count < 64 }
     ensures { result ≡ range_shift_left a count }
@@ -21,7 +21,7 @@ pub fn shift_left(a: Range, count: u32) -> Range
     }
 }
 
-/// By a count from 0 to 63.
+/// A logical shift to the right by a count, from 0 to 63.
 pub fn shift_right(a: Range, count: u32) -> Range
     requires { count < 64 }
     ensures { result ≡ range_shift_right a count }
@@ -32,8 +32,8 @@ pub fn shift_right(a: Range, count: u32) -> Range
     }
 }
 
-/// By a count from 0 to 63. Words below 2^63 and words from there on keep their order, but a range of both
-/// may become any word.
+/// An arithmetic shift to the right by a count, from 0 to 63. Words that all have the same sign bit keep
+/// their order; where the sign bits differ, the result is any word.
 pub fn arithmetic_shift_right(a: Range, count: u32) -> Range
     requires { count < 64 }
     ensures { result ≡ range_arithmetic_shift_right a count }

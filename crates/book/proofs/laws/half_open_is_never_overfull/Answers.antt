@@ -1,5 +1,5 @@
 use Rattle.std.proofs.Common.{arith, ap}
-use Rattle.book.specs.Events.{Opening}
+use Rattle.service_profile.specs.Events.{Opening}
 use Rattle.book.proofs.Applying.{same_opening}
 use Rattle.book.proofs.Lawful.{service_sound}
 use Rattle.book.proofs.laws.half_open_is_never_overfull.Goals as goal

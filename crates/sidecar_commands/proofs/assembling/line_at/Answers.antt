@@ -1,4 +1,4 @@
-use Rattle.std.proofs.Common.{ℕ, ◌==◌, not, take, length, refl, arith}
+use Rattle.std.proofs.Common.{ℕ, ◌==◌, not, take, refl, arith}
 use Rattle.std.proofs.lemmas.List.{length-take}
 use Rattle.std.proofs.lemmas.List.Filters.{length-filter_both}
 use Rattle.sidecar_commands.proofs.assembling.line_at.Goals as goal

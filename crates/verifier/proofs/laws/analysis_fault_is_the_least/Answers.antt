@@ -1,6 +1,7 @@
 use Rattle.std.proofs.Common.{length, sym, ◌∙◌}
 use Rattle.bpf_profile.proofs.FirstFaults.{least_is, is_least, none_is, is_none}
-use Rattle.verifier.specs.Analysis.{context_size, fault_at}
+use Rattle.bpf_profile.specs.Outcomes.{context_size}
+use Rattle.verifier.specs.Analysis.{fault_at}
 use Rattle.verifier.proofs.FirstFault.{analysis_is}
 use Rattle.verifier.proofs.laws.analysis_fault_is_the_least.Goals as goal
 

@@ -1,4 +1,4 @@
-use Rattle.verifier.specs.Analysis.{context_size}
+use Rattle.bpf_profile.specs.Outcomes.{context_size}
 use Rattle.verifier.proofs.Sound.{sound, are_words}
 use Rattle.verifier.proofs.laws.faultless_programs_are_safe.Goals as goal
 

@@ -1,5 +1,6 @@
 use Rattle.std.proofs.Common.{◌≤◌, length, sym, ap, ◌∙◌, subst, arith}
-use Rattle.verifier.specs.Analysis.{context_size, fault_from}
+use Rattle.bpf_profile.specs.Outcomes.{context_size}
+use Rattle.verifier.specs.Analysis.{fault_from}
 use Rattle.verifier.proofs.Edges.{forward}
 use Rattle.verifier.proofs.Known.{Sent, none_sent, sent_more, all_known, fault_here, fault_on, fault_ends, fault_done}
 use Rattle.verifier.proofs.passes.pass_all.Goals as goal

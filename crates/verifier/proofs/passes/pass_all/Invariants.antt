@@ -1,5 +1,6 @@
 use Rattle.std.proofs.Common.{◌≡◌, ◌-◌, length}
-use Rattle.verifier.specs.Analysis.{context_size, fault_from}
+use Rattle.bpf_profile.specs.Outcomes.{context_size}
+use Rattle.verifier.specs.Analysis.{fault_from}
 use Rattle.verifier.proofs.Known.{Sent}
 use Rattle.verifier.proofs.passes.pass_all.Given as goal
 

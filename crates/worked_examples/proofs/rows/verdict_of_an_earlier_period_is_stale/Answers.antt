@@ -3,8 +3,8 @@ use Rattle.bpf_profile.specs.Meaning.{effect_of, step}
 use Rattle.bpf_profile.specs.Opcodes.{operation_of, comparison_of, size_of, convert_opcode, arithmetic_opcode, jump_opcode, immediate_opcode, load_opcode, store_opcode, store_register_opcode, opcode_of}
 use Rattle.bpf_profile.specs.Slots.{read_fields, instruction_of}
 use Rattle.book.specs.Interleavings.{course}
-use Rattle.book.specs.Machine.{decision}
-use Rattle.book.specs.Verdicts.{ending_within, judgement}
+use Rattle.service_profile.specs.Machine.{decision}
+use Rattle.service_profile.specs.Verdicts.{ending_within, judgement}
 use Rattle.worked_examples.proofs.rows.verdict_of_an_earlier_period_is_stale.Goals as goal
 
 pub returns : goal.returns

@@ -1,6 +1,6 @@
 use Rattle.std.proofs.Common.{◌≡◌, [], ◌∷◌, map, ap}
 use Rattle.std.specs.Arc.{arc_value}
-use Rattle.verifier.specs.Programs.{VerifiedProgram}
+use Rattle.bpf_profile.specs.Programs.{VerifiedProgram}
 use Rattle.book.specs.Books.{opening_of}
 use Rattle.book.proofs.Openings.{first_book, begun_situation, legal_opened, sound_opened}
 use Rattle.book.proofs.books.Book.begin.Goals as goal

@@ -1,6 +1,6 @@
 use Rattle.std.proofs.Common.{◌≡◌, suc, ◌+◌, ◌-◌, length, arith, ap, ◌∙◌}
-use Rattle.book.specs.Events.{History}
-use Rattle.book.specs.Histories.{past_of, next_line}
+use Rattle.service_profile.specs.Events.{History}
+use Rattle.service_profile.specs.Histories.{past_of, next_line}
 use Rattle.book.proofs.Applying.{line_fits}
 use Rattle.book.proofs.Openings.{line_least, next_line_is}
 use Rattle.book.proofs.books.Book.last_number.Goals as goal

@@ -1,12 +1,10 @@
-use Rattle.std.proofs.Common.{◌≡◌, ◌≤◌, ◌<◌, Some, sym, ◌∙◌, arith}
-use Rattle.book.specs.Machine.{open_ticket}
+use Rattle.std.proofs.Common.{◌≡◌, Some, sym, ◌∙◌}
+use Rattle.service_profile.specs.Machine.{open_ticket}
 use Rattle.book.specs.Situations.{situation}
 use Rattle.book.proofs.Openings.{looked_open}
 use Rattle.book.proofs.registry.Registry.look.Goals as goal
 
 pub returns : goal.returns
 returns c = λ config breaker held.
-    let least : 1 ≤ c.args.ticket = omega (arith, c.if-ticket-eq0.false) in
-    let less : c.args.ticket < c.args.self.now.next_ticket = omega (arith, c.if-ticket-self.false) in
     let found : open_ticket c.args.self.now.open_tickets.items c.args.ticket ≡ Some c.in-Some.open = sym c.open_ticket.ensures ∙ c.in-Some.is in
-    c.looked_under.ensures config breaker held ∙ sym (looked_open (situation config breaker c.args.self.now held) c.args.ticket c.in-Some.open least less found)
+    c.looked_under.ensures config breaker held ∙ sym (looked_open (situation config breaker c.args.self.now held) c.args.ticket c.in-Some.open (sym c.if-not-is_issued.ensures) found)

@@ -1,6 +1,0 @@
-pub mod Branched
-mod Compared
-pub mod Contained
-mod Halves
-mod Shifts
-mod Signed

@@ -1,2 +1,0 @@
-pub mod Arithmetic
-pub mod Branches

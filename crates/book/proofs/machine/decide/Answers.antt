@@ -1,0 +1,15 @@
+use Rattle.std.proofs.Common.{sym}
+use Rattle.book.specs.Seen.{seen}
+use Rattle.book.specs.Situations.{situation_in}
+use Rattle.book.proofs.Configured.{no_stay}
+use Rattle.book.proofs.Planned.{full_plan, decided_plan}
+use Rattle.book.proofs.machine.decide.Goals as goal
+
+pub returns-then-is_full : goal.returns-then-is_full
+returns-then-is_full c =
+    full_plan (situation_in c.args.service.now c.args.held) c.args.moment (seen c.args.event.now) c.refused.result (sym c.if-is_full.ensures) c.refused.ensures
+
+pub returns : goal.returns
+returns c =
+    decided_plan (situation_in c.args.service.now c.args.held) c.args.moment (seen c.args.event.now) c.decided.result (sym c.if-is_full.ensures)
+    (no_stay (situation_in c.args.service.now c.args.held) c.args.moment c.know_config.ensures) (c.decided.ensures c.args.held)

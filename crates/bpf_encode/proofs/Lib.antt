@@ -1,4 +1,0 @@
-pub mod Numbers
-pub mod Readings
-pub mod Inverse
-pub mod Fits

@@ -1,5 +1,0 @@
-use Rattle.bpf_encode.proofs.Fits.{first_fits, second_fits}
-use Rattle.bpf_encode.proofs.laws.encoded_fits.Goals as goal
-
-pub returns : goal.returns
-returns c = λ i h. (first_fits i h, second_fits i h)

@@ -1,5 +1,0 @@
-use Rattle.bpf_encode.proofs.Readings.{read_again}
-use Rattle.bpf_encode.proofs.laws.encoded_is_read.Goals as goal
-
-pub returns : goal.returns
-returns c = read_again

@@ -1,5 +1,0 @@
-use Rattle.bpf_encode.proofs.Numbers.{numbers_name}
-use Rattle.bpf_encode.proofs.laws.opcode_numbers_name.Goals as goal
-
-pub returns : goal.returns
-returns c = numbers_name

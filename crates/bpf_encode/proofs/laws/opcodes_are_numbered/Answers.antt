@@ -1,5 +1,0 @@
-use Rattle.bpf_encode.proofs.Numbers.{names_number}
-use Rattle.bpf_encode.proofs.laws.opcodes_are_numbered.Goals as goal
-
-pub returns : goal.returns
-returns c = names_number

@@ -1,2 +1,0 @@
-pub mod OpcodeNumbers
-pub mod Encoding

@@ -1,0 +1,9 @@
+//! Readers and writers whose failed calls are counted.
+#![tactic(auto)]
+
+mod counted;
+#[cfg(test)]
+mod tests;
+mod whole;
+
+pub use counted::Counted;

@@ -1,0 +1,44 @@
+//! Reading byte by byte, and writing whole texts. One failed call ends each.
+ghost use Rattle.std.specs.Prelude.{◌≡◌, is_err, IfOk, OnOk};
+ghost use Rattle.std.specs.Io.KnownBytes.{Appends};
+ghost use Rattle.counted_io.specs.Counting.{counted, TakesByte, AppendsPart};
+
+use crate::Counted;
+use std::io;
+use std::io::{ErrorKind, Read, Write};
+
+impl<R: Read> Counted<R> {
+    /// Reads the next byte; None at the end. It makes one call, so what lies inside should be
+    /// buffered. The error is that of the failed read, also where it was interrupted.
+    pub fn next_byte(&mut self) -> io::Result<Option<u8>>
+        ensures byte { IfOk result (λ found. TakesByte (R.remaining self.old.inner) (R.remaining self.new.inner) found) }
+        ensures failures { self.new.failures ≡ counted (is_err result) self.old.failures }
+    {
+        let mut byte = [0; 1];
+        let count = self.read(&mut byte)?;
+        if count == 0 {
+            return Ok(None);
+        }
+        Ok(Some(byte[0]))
+    }
+}
+
+impl<W: Write> Counted<W> {
+    /// Writes a text. Where a write fails, also where it was interrupted, a beginning of the text
+    /// was written, and that failure is the error.
+    pub fn send(&mut self, text: &[u8]) -> io::Result<()>
+        ensures whole { OnOk result (Appends (W.contents self.old.inner) (W.contents self.new.inner) text.now) }
+        ensures part { AppendsPart (W.contents self.old.inner) (W.contents self.new.inner) text.now }
+        ensures failures { self.new.failures ≡ counted (is_err result) self.old.failures }
+    {
+        let mut sent = 0;
+        'pieces: while sent < text.len() {
+            let count = self.write(&text[sent..])?;
+            if count == 0 {
+                return Err(io::Error::from(ErrorKind::WriteZero));
+            }
+            sent += count;
+        }
+        Ok(())
+    }
+}

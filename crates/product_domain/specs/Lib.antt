@@ -1,3 +1,0 @@
-pub mod Reduction
-pub mod ProductTable
-pub mod ReductionLaws

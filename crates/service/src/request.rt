@@ -1,0 +1,35 @@
+//! What a service is asked for.
+use book::State;
+use helpers::Record;
+
+/// What is reported of a call.
+#[derive(Clone, Copy, Debug)]
+pub struct Report {
+    /// The ticket under which the call was made.
+    pub ticket: u64,
+    /// The record of its outcome.
+    pub outcome: Record,
+}
+
+/// What a service is asked for.
+#[derive(Drop)]
+pub enum Request {
+    /// A ticket, before a call.
+    Acquire,
+    /// To judge the outcome of a call, and to end its ticket.
+    Report(Report),
+    /// To end a ticket without an outcome.
+    Release(u64),
+    /// To verify the program of this bytecode, and to make it the current version.
+    Install(Vec<u8>),
+    /// To move the breaker to a state.
+    Move(State),
+    /// To move the breaker to CLOSED.
+    Reset,
+    /// How it stands.
+    Read,
+    /// At most 100 entries of the journal, from this number on.
+    Page(u64),
+    /// All entries; the book opens anew.
+    Cut,
+}

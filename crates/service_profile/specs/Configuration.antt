@@ -1,0 +1,74 @@
+-- The configuration of a service (the configuration properties of CircuitBreaker and Bulkhead in the Resilience4j documentation), with the ranges that this product takes.
+use Rattle.std.specs.Prelude.{◌≡◌, ℕ, ◌^◌, nat_le, ◌==◌, ◌&&◌, Bool, true, false, if◌then◌else◌, Option, Some, None, Result, Ok, Err}
+use Rattle.refusals.specs.declared.RefusalNumber.TheVariants as refusal
+use Rattle.service_profile.specs.declared.configuration.BadConfig.{BadConfig}
+use Rattle.service_profile.specs.declared.configuration.ConfigField.{ConfigField}
+use Rattle.service_profile.specs.declared.configuration.ConfigField.TheVariants as field
+use Rattle.service_profile.specs.declared.configuration.ConfigParts.{ConfigParts}
+use Rattle.service_profile.specs.declared.configuration.SlidingWindowType.{SlidingWindowType}
+use Rattle.service_profile.specs.declared.configuration.SlidingWindowType.TheVariants as window
+
+abbrev pub is_within : ℕ → ℕ → ℕ → Bool
+is_within least most number = nat_le least number && nat_le number most
+
+abbrev pub is_count_based : SlidingWindowType → Bool
+is_count_based window.CountBased = true
+is_count_based window.TimeBased = false
+
+-- the greatest size of a window, in calls or in seconds
+abbrev pub most_size : SlidingWindowType → ℕ
+most_size window.CountBased = 10000
+most_size window.TimeBased = 3600
+
+-- the field where its value is out of range, else a later field that is
+abbrev pub checked : Bool → ConfigField → Option ConfigField → Option ConfigField
+checked good field later = if good then later else Some field
+
+abbrev pub bad_limit : ConfigParts → Option ConfigField
+bad_limit parts =
+    checked (is_within 1 (most_size parts.sliding_window_type) parts.sliding_window_size) field.SlidingWindowSize
+    (checked (is_within 1 1000000 parts.minimum_number_of_calls) field.MinimumNumberOfCalls
+    (checked (is_within 1 (2 ^ 40) parts.wait_duration_in_open_state) field.WaitDurationInOpenState
+    (checked (is_within 1 10000 parts.max_concurrent_calls) field.MaxConcurrentCalls
+    (checked (parts.max_wait_duration == 0) field.MaxWaitDuration None))))
+
+-- the first field whose value is out of range, where a stay in HALF_OPEN may be limited to so many milliseconds at most
+abbrev pub bad_field_up_to : ℕ → ConfigParts → Option ConfigField
+bad_field_up_to stay parts =
+    checked (is_within 1 100 parts.failure_rate_threshold) field.FailureRateThreshold
+    (checked (is_within 1 100 parts.slow_call_rate_threshold) field.SlowCallRateThreshold
+    (checked (is_within 1 (2 ^ 32) parts.slow_call_duration_threshold) field.SlowCallDurationThreshold
+    (checked (is_within 1 10000 parts.permitted_number_of_calls_in_half_open_state) field.PermittedNumberOfCallsInHalfOpenState
+    (checked (is_within 0 stay parts.max_wait_duration_in_half_open_state) field.MaxWaitDurationInHalfOpenState
+    (bad_limit parts)))))
+
+-- what a service can be configured with today: a stay in HALF_OPEN has no limit, which is written 0
+abbrev pub bad_field : ConfigParts → Option ConfigField
+bad_field parts = bad_field_up_to 0 parts
+
+-- the ranges over which the documented machine and its laws are stated: a stay in HALF_OPEN may end by itself
+abbrev pub IsInRange : ConfigParts → Type 0
+IsInRange parts = bad_field_up_to (2 ^ 40) parts ≡ None
+
+-- what each key stands for where it is missing
+abbrev pub default_parts : ConfigParts
+default_parts = record {
+  failure_rate_threshold = 50;
+  slow_call_rate_threshold = 100;
+  slow_call_duration_threshold = 60000;
+  permitted_number_of_calls_in_half_open_state = 10;
+  max_wait_duration_in_half_open_state = 0;
+  sliding_window_type = window.CountBased;
+  sliding_window_size = 100;
+  minimum_number_of_calls = 100;
+  wait_duration_in_open_state = 60000;
+  max_concurrent_calls = 25;
+  max_wait_duration = 0;
+}
+
+abbrev pub configured_by : ConfigParts → Option ConfigField → Result ConfigParts BadConfig
+configured_by parts None = Ok parts
+configured_by parts (Some bad) = Err (record { field = bad; number = refusal.BadConfig })
+
+abbrev pub configured : ConfigParts → Result ConfigParts BadConfig
+configured parts = configured_by parts (bad_field parts)

@@ -1,0 +1,12 @@
+pub mod Configuration
+pub mod Windows
+pub mod Standings
+pub mod Rates
+pub mod Events
+pub mod Verdicts
+pub mod Machine
+pub mod Histories
+pub mod Answers
+pub mod Openings
+pub mod MeantVerdicts
+pub mod Seats

@@ -1,0 +1,23 @@
+-- Where a history may begin: with a configuration in range, and numbers that leave room.
+use Rattle.std.specs.Prelude.{◌^◌, ◌<◌, ◌≤◌}
+use Rattle.bpf_profile.specs.Programs.{VerifiedProgram}
+use Rattle.service_profile.specs.declared.configuration.ConfigParts.{ConfigParts}
+use Rattle.service_profile.specs.Configuration.{IsInRange}
+use Rattle.service_profile.specs.Events.{Opening}
+
+-- the first opening of a service
+abbrev pub first_opening : ConfigParts → VerifiedProgram → Opening
+first_opening config program = record { config = config; program = program; version = 1; period = 1; ticket = 1; line = 1; moment = 0 }
+
+-- an opening whose configuration is in range, and whose numbers begin at 1 or later and leave room
+pub record IsOpening (opening : Opening) : Type 0 where
+  pub config : IsInRange opening.config
+  pub version : opening.version ≤ 2 ^ 63
+  pub first_version : 1 ≤ opening.version
+  pub period : opening.period ≤ 2 ^ 63
+  pub first_period : 1 ≤ opening.period
+  pub ticket : opening.ticket ≤ 2 ^ 63
+  pub first_ticket : 1 ≤ opening.ticket
+  pub line : opening.line ≤ 2 ^ 63
+  pub first_line : 1 ≤ opening.line
+  pub moment : opening.moment < 2 ^ 64

@@ -1,0 +1,218 @@
+//! The configuration of a service's breaker and bulkhead, with the names, defaults and ranges that
+//! the Resilience4j documentation and this product give.
+ghost use Rattle.std.specs.Prelude.{◌≡◌, None};
+ghost use Rattle.service_profile.specs.Configuration.{bad_field, bad_limit, configured, is_within, is_count_based, most_size};
+
+use refusals::RefusalNumber;
+use std::marker::Model;
+use thiserror::Error;
+
+/// How a sliding window is measured.
+#[derive(Clone, Copy, Debug, PartialEq, Eq)]
+pub enum SlidingWindowType {
+    /// The last calls, so many.
+    CountBased,
+    /// The calls of the last seconds, so many.
+    TimeBased,
+}
+
+impl SlidingWindowType {
+    /// Whether a window is measured in calls.
+    pub fn is_count_based(self) -> bool
+        ensures { result ≡ is_count_based self }
+    {
+        match self {
+            SlidingWindowType::CountBased => true,
+            SlidingWindowType::TimeBased => false,
+        }
+    }
+}
+
+/// The values that a configuration is made of.
+#[derive(Clone, Copy, Debug, PartialEq, Eq)]
+pub struct ConfigParts {
+    /// Whole percent, 1 to 100.
+    pub failure_rate_threshold: u64,
+    /// Whole percent, 1 to 100.
+    pub slow_call_rate_threshold: u64,
+    /// Milliseconds, 1 to 2^32. A call is slow when it took longer.
+    pub slow_call_duration_threshold: u64,
+    /// 1 to 10,000 calls.
+    pub permitted_number_of_calls_in_half_open_state: u64,
+    /// 0 alone: HALF_OPEN doesn't end by itself.
+    pub max_wait_duration_in_half_open_state: u64,
+    /// What the window's size counts.
+    pub sliding_window_type: SlidingWindowType,
+    /// 1 to 10,000 calls, or 1 to 3,600 seconds.
+    pub sliding_window_size: u64,
+    /// 1 to 1,000,000 calls.
+    pub minimum_number_of_calls: u64,
+    /// Milliseconds, 1 to 2^40.
+    pub wait_duration_in_open_state: u64,
+    /// 1 to 10,000 calls.
+    pub max_concurrent_calls: u64,
+    /// 0 alone: a call doesn't wait for a place.
+    pub max_wait_duration: u64,
+}
+
+impl ConfigParts {
+    /// The documented defaults.
+    pub const DEFAULT: ConfigParts = ConfigParts {
+        failure_rate_threshold: 50,
+        slow_call_rate_threshold: 100,
+        slow_call_duration_threshold: 60_000,
+        permitted_number_of_calls_in_half_open_state: 10,
+        max_wait_duration_in_half_open_state: 0,
+        sliding_window_type: SlidingWindowType::CountBased,
+        sliding_window_size: 100,
+        minimum_number_of_calls: 100,
+        wait_duration_in_open_state: 60_000,
+        max_concurrent_calls: 25,
+        max_wait_duration: 0,
+    };
+}
+
+/// The fields of a configuration.
+#[derive(Clone, Copy, Debug, PartialEq, Eq)]
+pub enum ConfigField {
+    FailureRateThreshold,
+    SlowCallRateThreshold,
+    SlowCallDurationThreshold,
+    PermittedNumberOfCallsInHalfOpenState,
+    MaxWaitDurationInHalfOpenState,
+    SlidingWindowType,
+    SlidingWindowSize,
+    MinimumNumberOfCalls,
+    WaitDurationInOpenState,
+    MaxConcurrentCalls,
+    MaxWaitDuration,
+}
+
+/// A field of a configuration is out of its range. Its text names the field behind the refusal, as
+/// `refused 47 BadConfig SlidingWindowSize`.
+#[derive(Clone, Copy, Debug, PartialEq, Eq, Error)]
+#[error("refused {} {} {:?}", .number.number(), .number.name(), .field)]
+pub struct BadConfig {
+    /// The first such field, in the order of `ConfigParts`.
+    pub field: ConfigField,
+    /// `BadConfig`.
+    pub number: RefusalNumber,
+}
+
+/// The greatest longest stay in HALF_OPEN that is taken, in milliseconds; 0 is no limit.
+const LONGEST_STAY_IN_HALF_OPEN: u64 = 0;
+
+/// A configuration in which each value is in its range. Contracts see its parts.
+#[derive(Clone, Copy, Debug, PartialEq, Eq)]
+pub struct Config {
+    parts: ConfigParts,
+}
+
+impl Model for Config {
+    ghost use Rattle.std.specs.Prelude.{◌≡◌, None};
+    ghost use Rattle.service_profile.specs.declared.configuration.ConfigParts.{ConfigParts};
+
+    ghost Value = { ConfigParts };
+
+    ghost use Rattle.service_profile.specs.Configuration.{bad_field};
+
+    ghost view = { λ c. c.parts };
+
+    ghost invariant = { λ c. bad_field c.parts ≡ None };
+
+    ghost inverse = { λ parts. record { parts = parts } };
+}
+
+/// Whether a number lies in a range, both ends included.
+fn is_within(least: u64, most: u64, number: u64) -> bool
+    ensures { result ≡ is_within least most number }
+{
+    least <= number && number <= most
+}
+
+/// The greatest size of a window, in calls or in seconds.
+fn most_size(window: SlidingWindowType) -> u64
+    ensures { result ≡ most_size window }
+{
+    match window {
+        SlidingWindowType::CountBased => 10_000,
+        SlidingWindowType::TimeBased => 3_600,
+    }
+}
+
+/// The first field of a window or of what limits calls that is out of its range.
+fn bad_limit(parts: &ConfigParts) -> Option<ConfigField>
+    ensures { result ≡ bad_limit parts.now }
+{
+    let most = most_size(parts.sliding_window_type);
+    if !is_within(1, most, parts.sliding_window_size) {
+        return Some(ConfigField::SlidingWindowSize);
+    }
+    if !is_within(1, 1_000_000, parts.minimum_number_of_calls) {
+        return Some(ConfigField::MinimumNumberOfCalls);
+    }
+    if !is_within(1, 1 << 40, parts.wait_duration_in_open_state) {
+        return Some(ConfigField::WaitDurationInOpenState);
+    }
+    if !is_within(1, 10_000, parts.max_concurrent_calls) {
+        return Some(ConfigField::MaxConcurrentCalls);
+    }
+    if parts.max_wait_duration != 0 {
+        return Some(ConfigField::MaxWaitDuration);
+    }
+    None
+}
+
+/// The first field that is out of its range.
+fn bad_field(parts: &ConfigParts) -> Option<ConfigField>
+    ensures { result ≡ bad_field parts.now }
+{
+    if !is_within(1, 100, parts.failure_rate_threshold) {
+        return Some(ConfigField::FailureRateThreshold);
+    }
+    if !is_within(1, 100, parts.slow_call_rate_threshold) {
+        return Some(ConfigField::SlowCallRateThreshold);
+    }
+    if !is_within(1, 1 << 32, parts.slow_call_duration_threshold) {
+        return Some(ConfigField::SlowCallDurationThreshold);
+    }
+    if !is_within(
+        1,
+        10_000,
+        parts.permitted_number_of_calls_in_half_open_state,
+    ) {
+        return Some(ConfigField::PermittedNumberOfCallsInHalfOpenState);
+    }
+    if !is_within(
+        0,
+        LONGEST_STAY_IN_HALF_OPEN,
+        parts.max_wait_duration_in_half_open_state,
+    ) {
+        return Some(ConfigField::MaxWaitDurationInHalfOpenState);
+    }
+    bad_limit(parts)
+}
+
+impl Config {
+    /// The configuration of these parts, or the first field that is out of its range. It takes no
+    /// memory.
+    pub fn new(parts: ConfigParts) -> Result<Config, BadConfig>
+        ensures { result ≡ configured parts }
+    {
+        match bad_field(&parts) {
+            Some(field) => Err(BadConfig {
+                field,
+                number: RefusalNumber::BadConfig,
+            }),
+            None => Ok(Config { parts }),
+        }
+    }
+
+    /// The parts, each in its range.
+    pub fn parts(&self) -> ConfigParts
+        ensures parts { result ≡ self.now }
+        ensures ranges { bad_field result ≡ None }
+    {
+        self.parts
+    }
+}

@@ -1,0 +1,25 @@
+//! Services, as their definitions and the plain types that the crates above share: states of a circuit breaker,
+//! configurations, notes, tickets, replies, and in `specs/` the documented machine and legal histories
+//! (CircuitBreaker and Bulkhead in the Resilience4j documentation).
+#![tactic(auto)]
+
+mod configuration;
+mod decisions;
+pub mod laws;
+mod notes;
+mod readings;
+mod replies;
+mod standings;
+mod states;
+#[cfg(test)]
+mod tests;
+mod tickets;
+
+pub use configuration::{BadConfig, Config, ConfigField, ConfigParts, SlidingWindowType};
+pub use decisions::{Decision, Judgement, Permission};
+pub use notes::{Note, Totals};
+pub use readings::Reading;
+pub use replies::{Fate, Reply};
+pub use standings::Standing;
+pub use states::State;
+pub use tickets::OpenTicket;

@@ -1,0 +1,36 @@
+//! What a breaker notes of calls, and totals of notes.
+ghost use Rattle.std.specs.Prelude.{◌≡◌, ◌<◌, ◌^◌};
+ghost use Rattle.service_profile.specs.Windows.{with_note};
+
+/// What a recorded verdict leaves.
+#[derive(Clone, Copy, Debug, PartialEq, Eq)]
+pub struct Note {
+    /// Milliseconds.
+    pub moment: u64,
+    /// Whether the verdict is a failure.
+    pub failed: bool,
+    /// Whether the call took longer than the threshold.
+    pub slow: bool,
+}
+
+/// How many notes a window has, and of which kinds.
+#[derive(Clone, Copy, Debug, PartialEq, Eq)]
+pub struct Totals {
+    pub total: u64,
+    pub failed: u64,
+    pub slow: u64,
+}
+
+impl Totals {
+    /// The totals with one note more.
+    pub fn with(self, note: Note) -> Totals
+        requires { (self.total < 2 ^ 48) × (self.failed < 2 ^ 48) × (self.slow < 2 ^ 48) }
+        ensures { result ≡ with_note self note }
+    {
+        Totals {
+            total: self.total + 1,
+            failed: self.failed + u64::from(note.failed),
+            slow: self.slow + u64::from(note.slow),
+        }
+    }
+}
