@@ -1,4 +1,4 @@
--- How steps of the machine follow what is known of its registers.
+-- Soundness of the register steps: what the machine makes of registers that abstract values describe.
 use Rattle.std.specs.Prelude.{◌≡◌, ℕ, ◌+◌, ◌≤◌, Bool, if◌then◌else◌, List, length, slice_index_or, Result, Ok}
 use Rattle.abs_domain.specs.declared.domain.Domain.{Ghosts}
 use Rattle.abs_regs.specs.declared.address.Address.{Address}
@@ -17,12 +17,12 @@ use Rattle.bpf_profile.specs.declared.machine.Value.TheVariants as value
 use Rattle.bpf_profile.specs.Machine.{State, Address as Place, branched, jumps, target_of}
 use Rattle.bpf_profile.specs.Words.{IsWord}
 
--- the machine's registers are as known, register by register
+-- abstract values describe the machine's registers, one by one
 pub record AreAs {X : Type 0} (domain : Ghosts X) (registers : List (AbsVal X)) (values : List Value) : Type 0 where
   pub long : length registers ≤ length values
   pub each : (r : ℕ) → IsAs domain (value_in registers r) (slice_index_or values r value.Unset)
 
--- a result that doesn't trap, and is as known
+-- a result of the machine that is no trap, and that the abstract value describes
 abbrev pub Gives : {X : Type 0} → Ghosts X → AbsVal X → Result Value TrapReason → Type 0
 Gives domain a r = (v : Value) × (r ≡ Ok v) × IsAs domain a v
 
@@ -31,12 +31,12 @@ abbrev pub HasWord : Operand → Type 0
 HasWord (operand.Register r) = Unit {0}
 HasWord (operand.Immediate n) = IsWord n
 
--- a place that is as known
+-- an abstract address describes an address of the machine
 abbrev pub IsAt : {X : Type 0} → Ghosts X → Address X → Place → Type 0
 IsAt domain (address.Stack offset) at = at ≡ record { region = region.Stack; offset = offset }
 IsAt domain (address.Context a) at = (offset : ℕ) × (at ≡ record { region = region.Context; offset = offset }) × domain.contains a offset
 
--- a conditional jump of the machine doesn't trap; it goes on as its comparison holds, and what that tells of the registers is so
+-- a conditional jump of the machine doesn't trap; it goes along the edge that its comparison says, and the refined abstract values of that edge describe the registers
 pub record Branches {X : Type 0} (domain : Ghosts X) (s : State) (registers : List (AbsVal X)) (comparison : Comparison) (width : Width) (left : ℕ) (right : Operand) (distance : ℕ) : Type 0 where
   pub holds : Bool
   pub goes : branched s comparison width left right distance ≡ Ok (jumps s (if holds then target_of s.slot distance else s.slot + 1))

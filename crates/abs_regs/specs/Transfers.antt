@@ -1,4 +1,4 @@
--- What instructions make of values that are known, or what is wrong with them, the first in the order in which it is tried.
+-- What instructions make of abstract values, or the first check that they fail.
 use Rattle.std.specs.Prelude.{ℕ, ◌-◌, ◌^◌, ◌==◌, Bool, if◌then◌else◌, List, slice_set, Result, Ok, Err}
 use Rattle.refusals.specs.declared.RefusalNumber.{RefusalNumber}
 use Rattle.refusals.specs.declared.RefusalNumber.TheVariants as refusal
@@ -54,7 +54,7 @@ operand_in domain registers (operand.Immediate n) = known.Number (domain.of_word
 
 -- ---- arithmetic (RFC 9669, section 4.1)
 
--- a pointer into the stack plus or minus a number, which has to be known
+-- a pointer into the stack plus or minus a number, which has to be a known constant
 abbrev pub moved_stack : {X : Type 0} → Ghosts X → Operation → Width → ℕ → X → Result (AbsVal X) RefusalNumber
 moved_stack domain operation.Add width.Bits64 offset b =
     if (domain.bounds_of b).low == (domain.bounds_of b).high then Ok (known.Stack (word_sum offset (domain.bounds_of b).low)) else Err refusal.BadPointerSum
@@ -113,7 +113,7 @@ abbrev pub compared_in : {X : Type 0} → Ghosts X → Width → List (AbsVal X)
 compared_in domain width registers (operand.Register r) = value_in registers r
 compared_in domain width registers (operand.Immediate n) = known.Number (domain.of_word (low (bits_of width) n))
 
--- what is left of the registers where the comparison holds, or doesn't; of a register with itself nothing is learnt
+-- the registers, refined where the comparison holds, or where it doesn't; a comparison of a register with itself refines nothing
 abbrev pub learnt_in : {X : Type 0} → Ghosts X → Comparison → Width → Bool → List (AbsVal X) → ℕ → Operand → X → X → List (AbsVal X)
 learnt_in domain comparison width holds registers left (operand.Register right) a b =
     if left == right then registers

@@ -16,11 +16,13 @@ use Rattle.abs_regs.specs.declared.value.AbsVal.TheVariants as known
 use Rattle.abs_regs.specs.Steps.{AreAs}
 use Rattle.abs_regs.specs.Transfers.{◌>>=◌ as ◌then◌}
 use Rattle.abs_regs.specs.Values.{IsAs, value_in}
-use Rattle.abs_states.specs.Calls.{argument_in, pointer_argument, count_in, placed_in, stretch_in, up_to, fact_in, front_byte_in, copy_tag_in, tag_starts_in, answer_in, written_in, without_arguments, called_values}
+use Rattle.abs_states.specs.Calls.{argument_in, pointer_argument, count_in, placed_in, stretch_in, up_to, fact_in, front_byte_in, copy_tag_in, tag_starts_in, answered_in, answer_in, written_in, without_arguments, called_values}
 use Rattle.abs_states.specs.declared.calls.Answered.{Answered}
 use Rattle.abs_states.specs.declared.calls.Stretch.{Stretch}
 use Rattle.abs_states.specs.declared.state.AbsState.{AbsState}
 use Rattle.abs_states.specs.States.{IsKnown}
+use Rattle.bpf_profile.specs.declared.helper.Helper.{Helper}
+use Rattle.bpf_profile.specs.declared.helper.Helper.TheVariants as helper
 use Rattle.bpf_profile.specs.declared.instruction.Size.TheVariants as size
 use Rattle.bpf_profile.specs.declared.machine.Cell.TheVariants as byte
 use Rattle.bpf_profile.specs.declared.machine.Region.TheVariants as region
@@ -28,9 +30,10 @@ use Rattle.bpf_profile.specs.declared.machine.TrapReason.{TrapReason}
 use Rattle.bpf_profile.specs.declared.machine.TrapReason.TheVariants as trap
 use Rattle.bpf_profile.specs.declared.machine.Value.{Value}
 use Rattle.bpf_profile.specs.declared.machine.Value.TheVariants as value
-use Rattle.bpf_profile.specs.Helpers.{front, Answer, number_argument, stack_offset, stretch_of, fact, front_byte, tag_front, copy_tag, bytes_or, tag_starts, helper_answer, after_call}
+use Rattle.bpf_profile.specs.Limits.{stack_size, front_offset, fact_count, most_tag_bytes}
+use Rattle.bpf_profile.specs.Helpers.{Answer, number_argument, stack_offset, stretch_of, fact, front_byte, tag_front, copy_tag, bytes_or, tag_starts, helper_of, answered_by, helper_answer, after_call}
 use Rattle.bpf_profile.specs.Helpers.{Stretch as Bytes}
-use Rattle.bpf_profile.specs.Machine.{State, ensured, register_of, set_value, number_or, stack_size, place_of, cell_bytes, overwritten, ◌>>=◌}
+use Rattle.bpf_profile.specs.Machine.{State, ensured, register_of, set_value, number_or, place_of, cell_bytes, overwritten, ◌>>=◌}
 use Rattle.bpf_profile.specs.Outcomes.{Outcome, IsOutcome, AreBytes}
 use Rattle.stack_track.proofs.Known.{Sound as SoundCells}
 use Rattle.stack_track.proofs.Runs.{stretch_reads, stretch_writes}
@@ -84,21 +87,21 @@ number_read s r n e = ap number_of e
 -- the bytes that the machine takes are those that are known
 record Takes (s : State) (to : Stretch) : Type 0 where
   is : stretch_of s ≡ Ok (record { place = to.place; count = to.count })
-  inside : to.place + to.count ≤ 512
+  inside : to.place + to.count ≤ stack_size
 
 abbrev stretch_from : Value → State → Result Bytes TrapReason
 stretch_from v s = do
   pointer ← set_value v
   offset ← stack_offset pointer
   count ← number_argument s 2
-  short ← ensured (nat_lt 0 count && nat_le count 32) trap.Argument
+  short ← ensured (nat_lt 0 count && nat_le count most_tag_bytes) trap.Argument
   inside ← ensured (nat_le (place_of region.Stack offset + count) stack_size) trap.Argument
   Ok (record { place = place_of region.Stack offset; count = count })
 
 abbrev stretch_with : ℕ → Result ℕ TrapReason → Result Bytes TrapReason
 stretch_with offset r = do
   count ← r
-  short ← ensured (nat_lt 0 count && nat_le count 32) trap.Argument
+  short ← ensured (nat_lt 0 count && nat_le count most_tag_bytes) trap.Argument
   inside ← ensured (nat_le (place_of region.Stack offset + count) stack_size) trap.Argument
   Ok (record { place = place_of region.Stack offset; count = count })
 
@@ -116,20 +119,20 @@ takes {X} domain laws s registers to p e =
     let bounds = domain.bounds_of number.0 in
     let is_pointer = pointer_held domain (value_in registers 1) offset (register_of s 1) (p.each 1) pointer.1 in
     let held = argument_held domain (value_in registers 2) number.0 (register_of s 2) (p.each 2) number.1 in
-    let few = if_ok ((bounds.low == bounds.high) && (nat_lt 0 bounds.low && nat_le bounds.low 32)) bounds.low counted.0 refusal.HelperArgument counted.1 in
-    let tests = both_true (bounds.low == bounds.high) (nat_lt 0 bounds.low && nat_le bounds.low 32) few.0 in
+    let few = if_ok ((bounds.low == bounds.high) && (nat_lt 0 bounds.low && nat_le bounds.low most_tag_bytes)) bounds.low counted.0 refusal.HelperArgument counted.1 in
+    let tests = both_true (bounds.low == bounds.high) (nat_lt 0 bounds.low && nat_le bounds.low most_tag_bytes) few.0 in
     let inside = laws.registers.sound.bounds number.0 held.0 held.2 in
     let same : held.0 ≡ counted.0 = (let b = eqb-true bounds.low bounds.high tests.0 in let c = few.1 in omega (arith, b, c, inside.0, inside.1)) in
-    let small : (nat_lt 0 counted.0 && nat_le counted.0 32) ≡ true = subst (λ (n : ℕ). (nat_lt 0 n && nat_le n 32) ≡ true) few.1 tests.1 in
+    let small : (nat_lt 0 counted.0 && nat_le counted.0 most_tag_bytes) ≡ true = subst (λ (n : ℕ). (nat_lt 0 n && nat_le n most_tag_bytes) ≡ true) few.1 tests.1 in
     let placed = if_ok (nat_le (place_of region.Stack offset + counted.0) stack_size) (record { place = place_of region.Stack offset; count = counted.0 }) to refusal.HelperArgument counted.2 in
     record {
       is =
           ap (λ (v : Value). stretch_from v s) is_pointer
           ∙ (ap (stretch_with offset) (number_read s 2 held.0 held.1)
           ∙ (ap (λ (n : ℕ). stretch_with offset (Ok n)) same
-          ∙ (two_tests (nat_lt 0 counted.0 && nat_le counted.0 32) (nat_le (place_of region.Stack offset + counted.0) stack_size) trap.Argument trap.Argument (Ok (record { place = place_of region.Stack offset; count = counted.0 })) small placed.0
+          ∙ (two_tests (nat_lt 0 counted.0 && nat_le counted.0 most_tag_bytes) (nat_le (place_of region.Stack offset + counted.0) stack_size) trap.Argument trap.Argument (Ok (record { place = place_of region.Stack offset; count = counted.0 })) small placed.0
           ∙ ap (λ (t : Stretch). Ok (record { place = t.place; count = t.count })) placed.1)));
-      inside = subst (λ (t : Stretch). t.place + t.count ≤ 512) placed.1 (leb-true (place_of region.Stack offset + counted.0) 512 placed.0);
+      inside = subst (λ (t : Stretch). t.place + t.count ≤ stack_size) placed.1 (leb-true (place_of region.Stack offset + counted.0) stack_size placed.0);
     }
 
 -- ---- answers
@@ -153,20 +156,20 @@ answers_at domain stack a b r e h = subst (λ (k : Answered _). AnswersAs domain
 abbrev fact_from : Outcome → State → Result ℕ TrapReason → Result Answer TrapReason
 fact_from outcome s r = do
   i ← r
-  known ← ensured (nat_lt i 16) trap.Argument
+  known ← ensured (nat_lt i fact_count) trap.Argument
   Ok (record { answer = slice_index outcome.facts i; stack = s.stack })
 
 fact_answers : {X : Type 0} (domain : Ghosts X) → Lawful domain → (size : ℕ) (outcome : Outcome) (s : State) (k : AbsState X) (a : Answered X) → IsKnown domain k s → IsOutcome size outcome → fact_in domain k ≡ Ok a → AnswersAs domain k.stack a (fact outcome s)
 fact_answers {X} domain laws size outcome s k a p is e =
-    let number = then_ok (argument_in (value_in k.registers 1)) (λ i. if nat_lt (domain.bounds_of i).high 16 then Ok (record { answer = domain.of_any; written = None }) else Err refusal.HelperArgument) a e in
+    let number = then_ok (argument_in (value_in k.registers 1)) (λ i. if nat_lt (domain.bounds_of i).high fact_count then Ok (record { answer = domain.of_any; written = None }) else Err refusal.HelperArgument) a e in
     let held = argument_held domain (value_in k.registers 1) number.0 (register_of s 1) (p.registers.each 1) number.1 in
-    let test = if_ok (nat_lt (domain.bounds_of number.0).high 16) (record { answer = domain.of_any; written = None }) a refusal.HelperArgument number.2 in
+    let test = if_ok (nat_lt (domain.bounds_of number.0).high fact_count) (record { answer = domain.of_any; written = None }) a refusal.HelperArgument number.2 in
     let inside = laws.registers.sound.bounds number.0 held.0 held.2 in
-    let small : nat_lt held.0 16 ≡ true = lt-ltb held.0 16 (let l = ltb-true (domain.bounds_of number.0).high 16 test.0 in omega (arith, l, inside.1)) in
+    let small : nat_lt held.0 fact_count ≡ true = lt-ltb held.0 fact_count (let l = ltb-true (domain.bounds_of number.0).high fact_count test.0 in omega (arith, l, inside.1)) in
     answers_at domain k.stack _ a _ test.1
     (record {
       found = record { answer = slice_index outcome.facts held.0; stack = s.stack };
-      is = ap (fact_from outcome s) (number_read s 1 held.0 held.1) ∙ ap (λ (r : Result (Unit {0}) TrapReason). r >>= (λ (u : Unit {0}). Ok (record { answer = slice_index outcome.facts held.0; stack = s.stack }))) (ensured_true (nat_lt held.0 16) trap.Argument small);
+      is = ap (fact_from outcome s) (number_read s 1 held.0 held.1) ∙ ap (λ (r : Result (Unit {0}) TrapReason). r >>= (λ (u : Unit {0}). Ok (record { answer = slice_index outcome.facts held.0; stack = s.stack }))) (ensured_true (nat_lt held.0 fact_count) trap.Argument small);
       contained = laws.registers.sound.any (slice_index outcome.facts held.0) (below_each (2 ^ 64) outcome.facts is.facts (omega arith) held.0);
       after = p.stack;
     })
@@ -174,29 +177,29 @@ fact_answers {X} domain laws size outcome s k a p is e =
 abbrev front_from : ℕ → Outcome → State → Result ℕ TrapReason → Result Answer TrapReason
 front_from size outcome s r = do
   i ← r
-  inside ← ensured (nat_lt (front + i) size) trap.Argument
-  Ok (record { answer = slice_index outcome.context (front + i); stack = s.stack })
+  inside ← ensured (nat_lt (front_offset + i) size) trap.Argument
+  Ok (record { answer = slice_index outcome.context (front_offset + i); stack = s.stack })
 
 front_answers : {X : Type 0} (domain : Ghosts X) → Lawful domain → (context : ℕ) (outcome : Outcome) (s : State) (k : AbsState X) (a : Answered X) → IsKnown domain k s → IsOutcome context outcome → front_byte_in domain context k ≡ Ok a
     → AnswersAs domain k.stack a (front_byte context outcome s)
 front_answers {X} domain laws context outcome s k a p is e =
     let byte = domain.converted conversion.Low size.Byte domain.of_any in
-    let number = then_ok (argument_in (value_in k.registers 1)) (λ i. if nat_lt (front + (domain.bounds_of i).high) context then Ok (record { answer = byte; written = None }) else Err refusal.HelperArgument) a e in
+    let number = then_ok (argument_in (value_in k.registers 1)) (λ i. if nat_lt (front_offset + (domain.bounds_of i).high) context then Ok (record { answer = byte; written = None }) else Err refusal.HelperArgument) a e in
     let held = argument_held domain (value_in k.registers 1) number.0 (register_of s 1) (p.registers.each 1) number.1 in
-    let test = if_ok (nat_lt (front + (domain.bounds_of number.0).high) context) (record { answer = byte; written = None }) a refusal.HelperArgument number.2 in
+    let test = if_ok (nat_lt (front_offset + (domain.bounds_of number.0).high) context) (record { answer = byte; written = None }) a refusal.HelperArgument number.2 in
     let inside = laws.registers.sound.bounds number.0 held.0 held.2 in
-    let small : nat_lt (front + held.0) context ≡ true = lt-ltb (front + held.0) context (let l = ltb-true (front + (domain.bounds_of number.0).high) context test.0 in omega (arith, l, inside.1)) in
-    let below : slice_index outcome.context (front + held.0) < 256 = below_each (2 ^ 8) outcome.context is.context (omega arith) (front + held.0) in
+    let small : nat_lt (front_offset + held.0) context ≡ true = lt-ltb (front_offset + held.0) context (let l = ltb-true (front_offset + (domain.bounds_of number.0).high) context test.0 in omega (arith, l, inside.1)) in
+    let below : slice_index outcome.context (front_offset + held.0) < 256 = below_each (2 ^ 8) outcome.context is.context (omega arith) (front_offset + held.0) in
     answers_at domain k.stack _ a _ test.1
     (record {
-      found = record { answer = slice_index outcome.context (front + held.0); stack = s.stack };
-      is = ap (front_from context outcome s) (number_read s 1 held.0 held.1) ∙ ap (λ (r : Result (Unit {0}) TrapReason). r >>= (λ (u : Unit {0}). Ok (record { answer = slice_index outcome.context (front + held.0); stack = s.stack }))) (ensured_true (nat_lt (front + held.0) context) trap.Argument small);
-      contained = subst (domain.contains byte) (mod-eq_of_lt below) (laws.registers.sound.conversions conversion.Low size.Byte domain.of_any _ (laws.registers.sound.any (slice_index outcome.context (front + held.0)) (omega (arith, below))));
+      found = record { answer = slice_index outcome.context (front_offset + held.0); stack = s.stack };
+      is = ap (front_from context outcome s) (number_read s 1 held.0 held.1) ∙ ap (λ (r : Result (Unit {0}) TrapReason). r >>= (λ (u : Unit {0}). Ok (record { answer = slice_index outcome.context (front_offset + held.0); stack = s.stack }))) (ensured_true (nat_lt (front_offset + held.0) context) trap.Argument small);
+      contained = subst (domain.contains byte) (mod-eq_of_lt below) (laws.registers.sound.conversions conversion.Low size.Byte domain.of_any _ (laws.registers.sound.any (slice_index outcome.context (front_offset + held.0)) (omega (arith, below))));
       after = p.stack;
     })
 
 -- a number of at most so much
-up_to_contains : {X : Type 0} (domain : Ghosts X) → Lawful domain → (most n : ℕ) → most ≤ 32 → n ≤ most → domain.contains (up_to domain most) n
+up_to_contains : {X : Type 0} (domain : Ghosts X) → Lawful domain → (most n : ℕ) → most ≤ most_tag_bytes → n ≤ most → domain.contains (up_to domain most) n
 up_to_contains domain laws most n small h = laws.registers.refines.second relation.GreaterOrEqual (domain.of_word most) domain.of_any most n (laws.registers.sound.constants most (omega (arith, small))) (laws.registers.sound.any n (omega (arith, small, h))) h
 
 -- ---- the tag
@@ -238,7 +241,7 @@ copied_from outcome s r = do
 copy_answers : {X : Type 0} (domain : Ghosts X) → Lawful domain → (size : ℕ) (outcome : Outcome) (s : State) (k : AbsState X) (a : Answered X) → IsKnown domain k s → IsOutcome size outcome → copy_tag_in domain k ≡ Ok a
     → AnswersAs domain k.stack a (copy_tag outcome s)
 copy_answers {X} domain laws size outcome s k a p is e =
-    let to = then_ok (stretch_in domain k.registers) (λ t. Ok (record { answer = up_to domain 32; written = Some t })) a e in
+    let to = then_ok (stretch_in domain k.registers) (λ t. Ok (record { answer = up_to domain most_tag_bytes; written = Some t })) a e in
     let taken = takes domain laws s k.registers to.0 p.registers to.1 in
     let bytes = tag_front outcome to.0.count in
     let counted = length_tag outcome to.0.count in
@@ -246,7 +249,7 @@ copy_answers {X} domain laws size outcome s k a p is e =
     (record {
       found = record { answer = length outcome.tag; stack = overwritten s.stack to.0.place (map byte.Byte bytes) };
       is = ap (copied_from outcome s) taken.is;
-      contained = up_to_contains domain laws 32 (length outcome.tag) (omega arith) is.short;
+      contained = up_to_contains domain laws most_tag_bytes (length outcome.tag) (omega arith) is.short;
       after = subst (λ (n : ℕ). AreCells domain (stretch_written k.stack to.0.place n) (overwritten s.stack to.0.place (map byte.Byte bytes))) counted
           (stretch_writes domain k.stack s.stack to.0.place bytes p.stack (let i = taken.inside in omega (arith, i, counted)) (bytes_of_front to.0.count (outcome.tag ++ replicate to.0.count 0) (bytes_of_both outcome.tag (replicate to.0.count 0) is.tag (zeros to.0.count))));
     })
@@ -277,29 +280,16 @@ starts_answers {X} domain laws outcome s k a p e =
 
 -- ---- by the helper's number
 
-pub answers_as : {X : Type 0} (domain : Ghosts X) → Lawful domain → (context : ℕ) (outcome : Outcome) (s : State) (k : AbsState X) (a : Answered X) (helper : ℕ) → IsKnown domain k s → IsOutcome context outcome → answer_in domain context k helper ≡ Ok a
-    → AnswersAs domain k.stack a (helper_answer context outcome s helper)
-answers_as {X} domain laws context outcome s k a helper p is e = first (helper == 1) e
+pub answers_as : {X : Type 0} (domain : Ghosts X) → Lawful domain → (context : ℕ) (outcome : Outcome) (s : State) (k : AbsState X) (a : Answered X) (number : ℕ) → IsKnown domain k s → IsOutcome context outcome → answer_in domain context k number ≡ Ok a
+    → AnswersAs domain k.stack a (helper_answer context outcome s number)
+answers_as {X} domain laws context outcome s k a number p is e = by_helper (helper_of number) e
   where
-    fourth : (t : Bool) → cond t (tag_starts_in domain k) (Err refusal.HelperUnknown) ≡ Ok a → AnswersAs domain k.stack a (cond t (tag_starts outcome s) (Err trap.Helper))
-    fourth true e = starts_answers domain laws outcome s k a p e
-    fourth false e = absurd (err_not_ok refusal.HelperUnknown a e)
-
-    third : (t : Bool) → cond t (copy_tag_in domain k) (if helper == 4 then tag_starts_in domain k else Err refusal.HelperUnknown) ≡ Ok a
-        → AnswersAs domain k.stack a (cond t (copy_tag outcome s) (if helper == 4 then tag_starts outcome s else Err trap.Helper))
-    third true e = copy_answers domain laws context outcome s k a p is e
-    third false e = fourth (helper == 4) e
-
-    second : (t : Bool) → cond t (front_byte_in domain context k) (if helper == 3 then copy_tag_in domain k else (if helper == 4 then tag_starts_in domain k else Err refusal.HelperUnknown)) ≡ Ok a
-        → AnswersAs domain k.stack a (cond t (front_byte context outcome s) (if helper == 3 then copy_tag outcome s else (if helper == 4 then tag_starts outcome s else Err trap.Helper)))
-    second true e = front_answers domain laws context outcome s k a p is e
-    second false e = third (helper == 3) e
-
-    first : (t : Bool)
-        → cond t (fact_in domain k) (if helper == 2 then front_byte_in domain context k else (if helper == 3 then copy_tag_in domain k else (if helper == 4 then tag_starts_in domain k else Err refusal.HelperUnknown))) ≡ Ok a
-        → AnswersAs domain k.stack a (cond t (fact outcome s) (if helper == 2 then front_byte context outcome s else (if helper == 3 then copy_tag outcome s else (if helper == 4 then tag_starts outcome s else Err trap.Helper))))
-    first true e = fact_answers domain laws context outcome s k a p is e
-    first false e = second (helper == 2) e
+    by_helper : (h : Option Helper) → answered_in domain context k h ≡ Ok a → AnswersAs domain k.stack a (answered_by context outcome s h)
+    by_helper (Some helper.Fact) e = fact_answers domain laws context outcome s k a p is e
+    by_helper (Some helper.FrontByte) e = front_answers domain laws context outcome s k a p is e
+    by_helper (Some helper.CopyTag) e = copy_answers domain laws context outcome s k a p is e
+    by_helper (Some helper.TagStarts) e = starts_answers domain laws outcome s k a p e
+    by_helper None e = absurd (err_not_ok refusal.HelperUnknown a e)
 
 -- ---- the registers after a call
 

@@ -1,4 +1,4 @@
--- How a step of the machine follows what is known before it.
+-- Soundness of one step: what the machine does from a state that an abstract state describes.
 use Rattle.std.specs.Prelude.{◌≡◌, ℕ, ◌≤◌, Bool, true, false, Option, Some, option_map, Result, Ok}
 use Rattle.abs_domain.specs.declared.domain.Domain.{Ghosts}
 use Rattle.abs_regs.specs.Steps.{HasWord}
@@ -21,18 +21,18 @@ HasWords (instruction.Store size base distance operand) = IsWord distance × Has
 HasWords (instruction.Branch comparison width left right distance) = HasWord right
 HasWords i = Unit {0}
 
--- the slot to which an instruction's jump leads, or the next one
+-- the slot at the end of an instruction's jump edge (true) or of its fall-through edge (false)
 abbrev pub edge_of : ℕ → Instruction → Bool → Option ℕ
 edge_of place i true = option_map (target_of place) (distance_of i)
 edge_of place i false = next_of place i
 
--- it answers at most 2
+-- the step ends the program, with an answer of at most 2
 pub record Answers (effect : Result Effect TrapReason) : Type 0 where
   pub answer : ℕ
   pub answers : effect ≡ Ok (answers answer)
   pub small : answer ≤ 2
 
--- or it goes to the next slot or to the target, and what is known on that way is so
+-- the step goes on along one of the two edges, to a state that the abstract state on that edge describes
 pub record Goes {X : Type 0} (domain : Ghosts X) (context : ℕ) (place : ℕ) (i : Instruction) (a : AbsState X) (effect : Result Effect TrapReason) : Type 0 where
   pub next : State
   pub goes : effect ≡ Ok (goes next)

@@ -1,4 +1,4 @@
--- What an instruction makes of what is known before it, or what is wrong with it, the first in the order in which it is tried.
+-- The transfer function: the abstract state after an instruction, from the one before it, or the first check that the instruction fails.
 use Rattle.std.specs.Prelude.{ℕ, nat_le, Bool, if◌then◌else◌, slice_set, Result, Ok, Err}
 use Rattle.refusals.specs.declared.RefusalNumber.{RefusalNumber}
 use Rattle.refusals.specs.declared.RefusalNumber.TheVariants as refusal
@@ -37,7 +37,7 @@ calls_in domain context s helper = answer_in domain context s helper >>= (λ a. 
 abbrev pub exits_in : {X : Type 0} → Ghosts X → AbsState X → Result (AbsState X) RefusalNumber
 exits_in domain s = number_in (value_in s.registers 0) >>= (λ n. if nat_le (domain.bounds_of n).high 2 then Ok s else Err refusal.AnswerRange)
 
--- what is known after an instruction, on the way to its target or to the next slot, over a context of so many bytes
+-- the abstract state on one edge of an instruction: the jump edge if `taken`, else the fall-through edge; the context has so many bytes
 unfoldable pub transfer_in : {X : Type 0} → Ghosts X → ℕ → AbsState X → Bool → Instruction → Result (AbsState X) RefusalNumber
 transfer_in domain context s taken (instruction.Arithmetic operation width dst operand) = sets_in s dst (result_in domain operation width (value_in s.registers dst) (operand_in domain s.registers operand))
 transfer_in domain context s taken (instruction.Negate width dst) = sets_in s dst (negated_in domain width (value_in s.registers dst))

@@ -1,22 +1,14 @@
 //! Calls of helper functions (RFC 9669, section 4.3.1).
 ghost use Rattle.std.specs.Prelude.{◌≡◌, ◌≤◌, ◌+◌, IfOk, IfSome};
 ghost use Rattle.abs_states.specs.Calls.{argument_in, pointer_argument, count_in, placed_in, stretch_in, up_to, fact_in, front_byte_in, copy_tag_in, tag_starts_in, answer_in, written_in, without_arguments, called_values};
+ghost use Rattle.bpf_profile.specs.Limits.{stack_size, most_tag_bytes};
 
 use crate::state::AbsState;
 use abs_domain::{Conversion, Domain, Relation};
 use abs_regs::{AbsVal, RegFile};
-use bpf_profile::{Register, Size};
+use bpf_profile::{FACT_COUNT, FRONT_OFFSET, Helper, MOST_TAG_BYTES, Register, STACK_SIZE, Size};
 use refusals::RefusalNumber;
 use stack_track::StackState;
-
-/// The size of the stack in bytes.
-const STACK: u64 = 512;
-
-/// The offset of the body's front in the context, in bytes.
-const FRONT: u64 = 64;
-
-/// How many facts there are.
-const FACTS: u64 = 16;
 
 /// A byte range of the stack: the index of its first byte, from 0 at the lowest offset on, and its length.
 #[derive(Clone, Copy, Debug)]
@@ -56,10 +48,10 @@ fn stack_argument<D: Domain>(value: AbsVal<D>) -> Result<u64, RefusalNumber>
 /// A length in bytes, which has to be a known constant from 1 to 32.
 fn known_count<D: Domain>(number: D) -> Result<u64, RefusalNumber>
     ensures count { result ≡ count_in ⟦<D as Domain>⟧ number }
-    ensures few { IfOk result (λ count. count ≤ 32) }
+    ensures few { IfOk result (λ count. count ≤ most_tag_bytes) }
 {
     let bounds = number.bounds();
-    if bounds.low == bounds.high && 0 < bounds.low && bounds.low <= 32 {
+    if bounds.low == bounds.high && 0 < bounds.low && bounds.low <= MOST_TAG_BYTES as u64 {
         Ok(bounds.low)
     } else {
         Err(RefusalNumber::HelperArgument)
@@ -68,12 +60,12 @@ fn known_count<D: Domain>(number: D) -> Result<u64, RefusalNumber>
 
 /// The byte range of a length from an offset on, which has to lie in the stack.
 fn stretch_at(offset: u64, count: u64) -> Result<Stretch, RefusalNumber>
-    requires { count ≤ 32 }
+    requires { count ≤ most_tag_bytes }
     ensures stretch { result ≡ placed_in offset count }
-    ensures inside { IfOk result (λ bytes. bytes.place + bytes.count ≤ 512) }
+    ensures inside { IfOk result (λ bytes. bytes.place + bytes.count ≤ stack_size) }
 {
-    let place = offset.wrapping_add(STACK);
-    if place <= STACK - count {
+    let place = offset.wrapping_add(STACK_SIZE as u64);
+    if place <= STACK_SIZE as u64 - count {
         Ok(Stretch { place, count })
     } else {
         Err(RefusalNumber::HelperArgument)
@@ -83,7 +75,7 @@ fn stretch_at(offset: u64, count: u64) -> Result<Stretch, RefusalNumber>
 /// The byte range that the arguments give: R1 points to it, and R2 is its length.
 fn bytes_argument<D: Domain>(registers: &RegFile<D>) -> Result<Stretch, RefusalNumber>
     ensures stretch { result ≡ stretch_in ⟦<D as Domain>⟧ registers.now }
-    ensures inside { IfOk result (λ bytes. bytes.place + bytes.count ≤ 512) }
+    ensures inside { IfOk result (λ bytes. bytes.place + bytes.count ≤ stack_size) }
 {
     let offset = stack_argument(registers.get(Register::new(1)))?;
     let number = number_argument(registers.get(Register::new(2)))?;
@@ -105,7 +97,7 @@ impl<D: Domain> AbsState<D> {
         ensures { result ≡ fact_in ⟦<D as Domain>⟧ self.now }
     {
         let number = number_argument(self.registers.get(Register::new(1)))?;
-        if number.bounds().high < FACTS {
+        if number.bounds().high < FACT_COUNT as u64 {
             Ok(Answered {
                 answer: D::top(),
                 written: None,
@@ -120,7 +112,8 @@ impl<D: Domain> AbsState<D> {
         ensures { result ≡ front_byte_in ⟦<D as Domain>⟧ context_size self.now }
     {
         let number = number_argument(self.registers.get(Register::new(1)))?;
-        if FRONT < context_size && number.bounds().high < context_size - FRONT {
+        let front = FRONT_OFFSET as u64;
+        if front < context_size && number.bounds().high < context_size - front {
             Ok(Answered {
                 answer: D::top().convert(Conversion::Low, Size::Byte),
                 written: None,
@@ -133,11 +126,11 @@ impl<D: Domain> AbsState<D> {
     /// Helper 3: the front of the tag is copied to the stack.
     fn copy_tag(&self) -> Result<Answered<D>, RefusalNumber>
         ensures answer { result ≡ copy_tag_in ⟦<D as Domain>⟧ self.now }
-        ensures inside { IfOk result (λ a. IfSome a.written (λ bytes. bytes.place + bytes.count ≤ 512)) }
+        ensures inside { IfOk result (λ a. IfSome a.written (λ bytes. bytes.place + bytes.count ≤ stack_size)) }
     {
         let bytes = bytes_argument(&self.registers)?;
         Ok(Answered {
-            answer: up_to(32),
+            answer: up_to(MOST_TAG_BYTES as u64),
             written: Some(bytes),
         })
     }
@@ -164,14 +157,14 @@ impl<D: Domain> AbsState<D> {
         helper: u32,
     ) -> Result<Answered<D>, RefusalNumber>
         ensures answer { result ≡ answer_in ⟦<D as Domain>⟧ context_size self.now helper }
-        ensures inside { IfOk result (λ a. IfSome a.written (λ bytes. bytes.place + bytes.count ≤ 512)) }
+        ensures inside { IfOk result (λ a. IfSome a.written (λ bytes. bytes.place + bytes.count ≤ stack_size)) }
     {
-        match helper {
-            1 => self.fact(),
-            2 => self.front_byte(context_size),
-            3 => self.copy_tag(),
-            4 => self.tag_starts(),
-            _ => Err(RefusalNumber::HelperUnknown),
+        match Helper::with_number(helper) {
+            Some(Helper::Fact) => self.fact(),
+            Some(Helper::FrontByte) => self.front_byte(context_size),
+            Some(Helper::CopyTag) => self.copy_tag(),
+            Some(Helper::TagStarts) => self.tag_starts(),
+            None => Err(RefusalNumber::HelperUnknown),
         }
     }
 }
@@ -181,7 +174,7 @@ pub(crate) fn stack_after<D: Domain>(
     stack: StackState<D>,
     written: Option<Stretch>,
 ) -> StackState<D>
-    requires { IfSome written (λ bytes. bytes.place + bytes.count ≤ 512) }
+    requires { IfSome written (λ bytes. bytes.place + bytes.count ≤ stack_size) }
     ensures { result ≡ written_in stack written }
 {
     match written {

@@ -4,6 +4,7 @@ use Rattle.refusals.specs.declared.RefusalNumber.TheVariants as refusal
 use Rattle.bpf_profile.specs.JudgedWork.{JudgedData}
 use Rattle.bpf_profile.specs.Programs.{VerifiedProgram}
 use Rattle.service_profile.specs.declared.replies.Reply.TheVariants as reply
+use Rattle.service_profile.specs.Limits.{most_versions}
 use Rattle.service_profile.specs.Events.{EventData, acquires, finishes, releases, installs, moves, resets}
 use Rattle.service_profile.specs.Machine.{Situation, decision, decided, is_full, at_moment, acquired, placed, permission_in, permissions_held, refused, finished, finished_under, finished_by, concluded, same_program, is_issued, open_ticket, program_from, released, released_under, installed, current_version}
 use Rattle.service_profile.specs.Verdicts.{judgement}
@@ -43,7 +44,7 @@ released_has s ticket =
 
 installed_has : (s : Situation) (program : VerifiedProgram) → has_status (installed s program).reply ≡ true
 installed_has s program =
-    elim (nat_le 256 (length s.programs))
+    elim (nat_le most_versions (length s.programs))
     as (λ b. has_status (cond b (refused s.standing refusal.VersionsFull) (record { reply = reply.Installed (s.first_version + length s.programs) program.budget; next = s.standing })).reply ≡ true)
     [ true ↦ refl | false ↦ refl ]
 

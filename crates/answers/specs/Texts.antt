@@ -1,5 +1,5 @@
 -- What services are answered with: the HTTP status (RFC 9110, section 15) and the body, as compact JSON (RFC 8259) with its keys in ascending byte order.
-use Rattle.std.specs.Prelude.{ℕ, List, [], ◌∷◌, Option, Some, None, unwrap_or, negsuc, codes}
+use Rattle.std.specs.Prelude.{ℕ, List, [], ◌∷◌, Option, Some, None, negsuc, codes}
 use Rattle.serde_json.specs.Data.{Data, number, unsigned, negative, string, object, Members, no_members, member}
 use Rattle.serde_json.specs.Written.{compact_text}
 use Rattle.bpf_profile.specs.declared.machine.Verdict.{Verdict}
@@ -123,16 +123,12 @@ body answer = compact_text (answer_data answer)
 
 -- ---- statuses
 
--- a refusal that HTTP never answers would be a fault of the server
-abbrev pub refusal_status : RefusalNumber → ℕ
-refusal_status refused = unwrap_or (status_of refused) 500
-
 abbrev pub reply_status : Reply → ℕ
-reply_status (reply.Refused refused) = refusal_status refused
+reply_status (reply.Refused refused) = status_of refused
 reply_status other = 200
 
 abbrev pub status : Answer → ℕ
 status (answer.Reply reply) = reply_status reply
 status (answer.Reading reading) = 200
 status (answer.HandedOut entries) = 200
-status (answer.ProgramRefused refused) = refusal_status refused.number
+status (answer.ProgramRefused refused) = status_of refused.number

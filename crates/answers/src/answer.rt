@@ -1,11 +1,10 @@
 //! What a service is answered with.
 ghost use Rattle.std.specs.Prelude.{◌≡◌, IfOk, string_bytes};
 ghost use Rattle.serde_json.specs.View.{view};
-ghost use Rattle.answers.specs.Texts.{answer_data, body, refusal_status, reply_status, status};
+ghost use Rattle.answers.specs.Texts.{answer_data, body, reply_status, status};
 
 use crate::values;
 use book::{Reading, Reply};
-use refusals::RefusalNumber;
 use serde_json::Value;
 use std::alloc::{AllocError, Global};
 use verifier::Refusal;
@@ -23,18 +22,11 @@ pub enum Answer {
     ProgramRefused(Refusal),
 }
 
-/// The status of a refusal; 500 where HTTP never answers it.
-fn refusal_status(number: RefusalNumber) -> u16
-    ensures { result ≡ refusal_status number }
-{
-    number.status().unwrap_or(500)
-}
-
 fn reply_status(reply: Reply) -> u16
     ensures { result ≡ reply_status reply }
 {
     match reply {
-        Reply::Refused(number) => refusal_status(number),
+        Reply::Refused(number) => number.status(),
         _ => 200,
     }
 }
@@ -47,7 +39,7 @@ impl Answer {
         match self {
             Answer::Reply(reply) => reply_status(reply),
             Answer::Reading(_) | Answer::HandedOut(_) => 200,
-            Answer::ProgramRefused(refusal) => refusal_status(refusal.number),
+            Answer::ProgramRefused(refusal) => refusal.number.status(),
         }
     }
 

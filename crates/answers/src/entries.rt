@@ -45,7 +45,8 @@ fn transition(alloc: Global, entry: &Entry, to: State) -> Result<Value, AllocErr
     json!(in alloc; {"event": "transition", "moment": moment, "number": number, "reply": reply, "seat": seat, "to": to})
 }
 
-fn entry(alloc: Global, entry: &Entry) -> Result<Value, AllocError>
+/// An entry as a value.
+pub(crate) fn entry(alloc: Global, entry: &Entry) -> Result<Value, AllocError>
     ensures { IfOk result (λ value. view value ≡ entry_data entry.now) }
 {
     match entry.event() {

@@ -6,6 +6,7 @@ mod answer;
 mod entries;
 pub mod laws;
 mod names;
+mod pages;
 #[cfg(test)]
 mod tests;
 mod values;
@@ -13,3 +14,4 @@ mod values;
 pub use answer::Answer;
 pub use entries::entry_text;
 pub use names::verdict_name;
+pub use pages::page_text;

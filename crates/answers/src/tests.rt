@@ -1,5 +1,5 @@
 //! That answers are written with ample memory, and their text and statuses, row by row.
-use crate::{Answer, entry_text};
+use crate::{Answer, entry_text, page_text};
 use book::{Book, Config, ConfigParts, Event, Fate, Reading, Reply, State};
 use bpf_profile::Verdict;
 use bpf_run::judge;
@@ -191,6 +191,33 @@ fn entries_are_written(rt: HostRuntime) -> Result<(), Fail> {
     assert_eq!(rt; entries.len(), rows.len());
     for (entry, row) in entries.iter().zip(rows) {
         assert_eq!(rt; entry_text(alloc, entry)?.as_str(), row);
+    }
+    Ok(())
+}
+
+#[test]
+fn pages_are_written(rt: HostRuntime) -> Result<(), Fail> {
+    let alloc = rt.alloc();
+    let config = Config::new(ConfigParts::DEFAULT).expect(&rt, "the defaults");
+    let classifier = default_classifier(alloc).expect(&rt, "the default classifier");
+    let mut book = Book::open(alloc, config, classifier)?;
+    book.apply(1, 7, Event::Acquire);
+    let first = page_text(alloc, book.entries(1), 1)?;
+    assert_eq!(rt;
+        first.as_str(),
+        "{\"entries\":[{\"event\":\"acquire\",\"moment\":7,\"number\":1,\"reply\":{\"state\":\"CLOSED\",\"ticket\":1,\"version\":1},\"seat\":1}],\"next\":2}"
+    );
+    assert_eq!(rt; first.len(), 123);
+    book.apply(2, 8, Event::Release(1));
+    assert_eq!(rt;
+        page_text(alloc, book.entries(1), 1)?.as_str(),
+        "{\"entries\":[{\"event\":\"acquire\",\"moment\":7,\"number\":1,\"reply\":{\"state\":\"CLOSED\",\"ticket\":1,\"version\":1},\"seat\":1},{\"event\":\"release\",\"moment\":8,\"number\":2,\"reply\":{\"fate\":\"released\",\"state\":\"CLOSED\"},\"seat\":2,\"ticket\":1}],\"next\":3}"
+    );
+    for (from, text) in [
+        (3, "{\"entries\":[],\"next\":3}"),
+        (u64::MAX, "{\"entries\":[],\"next\":18446744073709551615}"),
+    ] {
+        assert_eq!(rt; page_text(alloc, book.entries(from), from)?.as_str(), text);
     }
     Ok(())
 }

@@ -12,19 +12,21 @@ use Rattle.service_profile.specs.declared.configuration.ConfigParts.{ConfigParts
 use Rattle.book.specs.declared.events.Event.{Event}
 use Rattle.service_profile.specs.declared.decisions.Decision.{Decision}
 use Rattle.book.specs.declared.registry.Registry.{Registry}
+use Rattle.service_profile.specs.Limits.{most_entries}
 use Rattle.service_profile.specs.Answers.{answer, line_of, with_line, IsApplied, as_documented}
 use Rattle.service_profile.specs.Events.{EventData, history_of, EntryData, Opening}
-use Rattle.book.specs.Books.{opening_of, IsBook}
+use Rattle.book.specs.Books.{opening_of}
 use Rattle.service_profile.specs.Machine.{is_refused_call, Situation, decision, is_entered}
-use Rattle.book.specs.Following.{notes_after, tickets_after, one_where_some, refused_after, situation_after}
+use Rattle.book.specs.Following.{situation, notes_after, tickets_after, one_where_some, refused_after, situation_after}
 use Rattle.service_profile.specs.Histories.{Stage, Past, note_by, note_at, taken_in, notes_of, end_by, issue_by, install_by, situation_of, machine, opened, passed, past_of, greatest, raised, next_line, refused_of, Follows, AreLegal, IsLegal}
 use Rattle.book.specs.Safe.{IsSafeEvent, IsSafeLine}
 use Rattle.service_profile.specs.Events.{line}
 use Rattle.book.specs.declared.machine.Plan.{Plan}
 use Rattle.book.specs.Effects.{effects_of, planned}
 use Rattle.book.specs.Seen.{seen}
-use Rattle.book.specs.Situations.{situation, IsRoomy}
+use Rattle.book.specs.Situations.{IsRoomy}
 use Rattle.book.specs.Sound.{IsSound}
+use Rattle.book.proofs.Situated.{IsSituated}
 use Rattle.book.proofs.Deciding.{decision_near}
 use Rattle.book.proofs.Keeping.{situated_step, sound_step}
 use Rattle.book.proofs.Lists.{length_filter_le}
@@ -68,7 +70,7 @@ fewer_mapped f (x ∷ xs) = fewer_head (f x) (filter_map f xs) (length xs) (fewe
 -- ---- room
 
 pub roomy : (config : ConfigParts) (start : Start) (breaker : Breaker) (registry : Registry) (held refused moment : ℕ) (lines : List EntryData)
-    → IsBook (opening_of config start) (situation config breaker registry held) refused moment lines → IsRoomy breaker registry
+    → IsSituated (opening_of config start) (situation config breaker registry held) refused moment lines → IsRoomy breaker registry
 roomy config start breaker registry held refused moment lines book =
     let past : Past = past_of (history_of (opening_of config start) lines) in
     let opening : past.opening ≡ opening_of config start = same_opening (opening_of config start) lines in
@@ -113,7 +115,7 @@ effects_so config moment event d plan e = ap (λ (p : Plan). p.effects) e ∙ ap
 
 -- the line that the code writes is the one that follows
 pub follows_there : (opening : Opening) (s : Situation) (refused moment : ℕ) (lines : List EntryData) (number seat raw now : ℕ) (e : Event) (d : Decision)
-    → IsBook opening s refused moment lines → number ≡ opening.line + length lines → now ≡ max raw moment → d ≡ decision s now (seen e) → is_entered d.reply ≡ true
+    → IsSituated opening s refused moment lines → number ≡ opening.line + length lines → now ≡ max raw moment → d ≡ decision s now (seen e) → is_entered d.reply ≡ true
     → Follows (past_of (history_of opening lines)) (line number seat (seen e) now d.reply)
 follows_there opening s refused moment lines number seat raw now e d book numbered raised_ decided entered =
     let past : Past = past_of (history_of opening lines) in
@@ -125,9 +127,9 @@ follows_there opening s refused moment lines number seat raw now e d book number
     }
 
 pub book_step : (opening : Opening) (s t : Situation) (refused moment later : ℕ) (lines : List EntryData) (number seat raw now : ℕ) (e : Event) (d : Decision)
-    → IsBook opening s refused moment lines → number ≡ opening.line + length lines → now ≡ max raw moment → d ≡ decision s now (seen e) → is_entered d.reply ≡ true → now < 2 ^ 64 → seat < 2 ^ 32
+    → IsSituated opening s refused moment lines → number ≡ opening.line + length lines → now ≡ max raw moment → d ≡ decision s now (seen e) → is_entered d.reply ≡ true → now < 2 ^ 64 → seat < 2 ^ 32
     → IsSafeEvent (seen e) → t ≡ situation_after s (line number seat (seen e) now d.reply) d.next → later ≡ refused_after s.standing d.next refused (is_refused_call d.reply)
-    → IsBook opening t later now (lines ++ line number seat (seen e) now d.reply ∷ [])
+    → IsSituated opening t later now (lines ++ line number seat (seen e) now d.reply ∷ [])
 book_step opening s t refused moment later lines number seat raw now e d book numbered raised_ decided entered word bits safe_ situated_ refused_ =
     let past : Past = past_of (history_of opening lines) in
     let l : EntryData = line number seat (seen e) now d.reply in
@@ -146,7 +148,7 @@ book_step opening s t refused moment later lines number seat raw now e d book nu
     }
 
 -- the history stays sound with the line that follows
-pub sound_there : (opening : Opening) (s : Situation) (refused moment : ℕ) (lines : List EntryData) (l : EntryData) → IsBook opening s refused moment lines → Follows (past_of (history_of opening lines)) l → IsSafeLine l
+pub sound_there : (opening : Opening) (s : Situation) (refused moment : ℕ) (lines : List EntryData) (l : EntryData) → IsSituated opening s refused moment lines → Follows (past_of (history_of opening lines)) l → IsSafeLine l
     → IsSound (past_of (history_of opening (lines ++ l ∷ [])))
 sound_there opening s refused moment lines l book follows safe_ =
     subst (λ (p : Past). IsSound p) (sym (past_with opening lines l)) (sound_step (past_of (history_of opening lines)) l book.sound follows safe_)
@@ -157,7 +159,7 @@ chosen_true false x y e = let bad : ◌≡◌ {A = Bool} false true = e in cc
 
 -- the history after is the documented one
 pub applied_there : (opening : Opening) (s : Situation) (refused moment : ℕ) (lines : List EntryData) (number seat raw now : ℕ) (e : Event) (d : Decision)
-    → IsBook opening s refused moment lines → number ≡ opening.line + length lines → now ≡ max raw moment → d ≡ decision s now (seen e) → is_entered d.reply ≡ true
+    → IsSituated opening s refused moment lines → number ≡ opening.line + length lines → now ≡ max raw moment → d ≡ decision s now (seen e) → is_entered d.reply ≡ true
     → IsApplied (history_of opening lines) seat raw (seen e) d.reply (history_of opening (lines ++ line number seat (seen e) now d.reply ∷ []))
 applied_there opening s refused moment lines number seat raw now e d book numbered raised_ decided entered =
     let past : Past = past_of (history_of opening lines) in
@@ -173,20 +175,20 @@ applied_there opening s refused moment lines number seat raw now e d book number
 
 -- ---- numbers that fit
 
-pub line_fits : (opening : Opening) (s : Situation) (refused moment : ℕ) (lines : List EntryData) → IsBook opening s refused moment lines → opening.line + length lines < 2 ^ 64
+pub line_fits : (opening : Opening) (s : Situation) (refused moment : ℕ) (lines : List EntryData) → IsSituated opening s refused moment lines → opening.line + length lines < 2 ^ 64
 line_fits opening s refused moment lines book =
     omega (arith, stage_count opening lines, book.sound.used, book.sound.opening.line, ap (λ (o : Opening). o.line) (same_opening opening lines))
 
-pub refused_fits : (opening : Opening) (s : Situation) (refused moment : ℕ) (lines : List EntryData) → IsBook opening s refused moment lines → refused + 1 < 2 ^ 64
+pub refused_fits : (opening : Opening) (s : Situation) (refused moment : ℕ) (lines : List EntryData) → IsSituated opening s refused moment lines → refused + 1 < 2 ^ 64
 refused_fits opening s refused moment lines book =
     let past : Past = past_of (history_of opening lines) in
     let fewer = length_filter_le (λ (stage : Stage). (stage.after.period == past.standing.period) && is_refused_call stage.line.reply) past.stages in
     omega (arith, book.refused_calls, fewer, book.sound.used)
 
-pub held_fits : (opening : Opening) (s : Situation) (refused moment : ℕ) (lines : List EntryData) → IsBook opening s refused moment lines → length lines ≤ 65536
+pub held_fits : (opening : Opening) (s : Situation) (refused moment : ℕ) (lines : List EntryData) → IsSituated opening s refused moment lines → length lines ≤ most_entries
 held_fits opening s refused moment lines book = omega (arith, stage_count opening lines, book.sound.used)
 
-pub word_there : (opening : Opening) (s : Situation) (refused moment : ℕ) (lines : List EntryData) (raw now : ℕ) → IsBook opening s refused moment lines → raw < 2 ^ 64 → now ≡ max raw moment → now < 2 ^ 64
+pub word_there : (opening : Opening) (s : Situation) (refused moment : ℕ) (lines : List EntryData) (raw now : ℕ) → IsSituated opening s refused moment lines → raw < 2 ^ 64 → now ≡ max raw moment → now < 2 ^ 64
 word_there opening s refused moment lines raw now book word is =
     let bound : max raw moment ≤ 18446744073709551615 = max-le (omega (arith, word)) (omega (arith, book.greatest_moment, book.sound.moment)) in
     omega (arith, is, bound)

@@ -6,10 +6,10 @@ use Rattle.refusals.specs.declared.RefusalNumber.TheVariants as refusal
 use Rattle.service_profile.specs.declared.tickets.OpenTicket.{OpenTicket}
 use Rattle.service_profile.specs.Answers.{last_of, current_program, is_past_the_limit, is_worn_out, is_some_open, reopened, cut}
 use Rattle.service_profile.specs.Events.{history_of, EntryData, Opening}
-use Rattle.book.specs.Books.{IsBook}
 use Rattle.service_profile.specs.Histories.{Past, past_of, situation_of, programs_of, install_at, next_line, greatest}
 use Rattle.service_profile.specs.Machine.{Situation, current_version}
 use Rattle.service_profile.specs.Openings.{IsOpening}
+use Rattle.book.proofs.Situated.{IsSituated}
 use Rattle.book.proofs.Openings.{next_line_is}
 use Rattle.book.proofs.Worlds.{reopened_opening}
 
@@ -18,7 +18,7 @@ use Rattle.book.proofs.Worlds.{reopened_opening}
 abbrev pub worn_by : ℕ → Situation → Bool
 worn_by line s = is_past_the_limit line || (is_past_the_limit s.next_ticket || (is_past_the_limit (suc s.standing.period) || is_past_the_limit (suc (current_version s))))
 
-pub worn_is : (opening : Opening) (s : Situation) (refused moment : ℕ) (lines : List EntryData) → IsBook opening s refused moment lines → worn_by (opening.line + length lines) s ≡ is_worn_out (past_of (history_of opening lines))
+pub worn_is : (opening : Opening) (s : Situation) (refused moment : ℕ) (lines : List EntryData) → IsSituated opening s refused moment lines → worn_by (opening.line + length lines) s ≡ is_worn_out (past_of (history_of opening lines))
 worn_is opening s refused moment lines book =
     ap (λ (n : ℕ). worn_by n s) (next_line_is opening lines) ∙ ap (worn_by (next_line (past_of (history_of opening lines)))) book.situated
 
@@ -53,7 +53,7 @@ reopened_by s program line moment = record {
   moment = moment;
 }
 
-pub reopened_is : (opening : Opening) (s : Situation) (refused moment : ℕ) (lines : List EntryData) (program : VerifiedProgram) → IsBook opening s refused moment lines → program ≡ current_program (past_of (history_of opening lines))
+pub reopened_is : (opening : Opening) (s : Situation) (refused moment : ℕ) (lines : List EntryData) (program : VerifiedProgram) → IsSituated opening s refused moment lines → program ≡ current_program (past_of (history_of opening lines))
     → reopened_by s program (opening.line + length lines) moment ≡ reopened (past_of (history_of opening lines))
 reopened_is opening s refused moment lines program book current =
     let past : Past = past_of (history_of opening lines) in
@@ -67,7 +67,7 @@ pub made_so : (s : Situation) (program : VerifiedProgram) (version period line h
     → ◌≡◌ {A = Opening} (record { config = s.config; program = program; version = version; period = period; ticket = s.next_ticket; line = line; moment = moment }) (reopened_by s program here moment)
 made_so s program version period line here moment a b c = rw (a, b, c) refl
 
-pub reopens_well : (opening : Opening) (s : Situation) (refused moment : ℕ) (lines : List EntryData) → IsBook opening s refused moment lines → is_worn_out (past_of (history_of opening lines)) ≡ false → IsOpening (reopened (past_of (history_of opening lines)))
+pub reopens_well : (opening : Opening) (s : Situation) (refused moment : ℕ) (lines : List EntryData) → IsSituated opening s refused moment lines → is_worn_out (past_of (history_of opening lines)) ≡ false → IsOpening (reopened (past_of (history_of opening lines)))
 reopens_well opening s refused moment lines book fresh = reopened_opening (past_of (history_of opening lines)) book.sound fresh
 
 -- ---- a cut that is not refused

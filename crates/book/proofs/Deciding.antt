@@ -21,6 +21,7 @@ use Rattle.service_profile.specs.declared.states.State.{State}
 use Rattle.service_profile.specs.declared.states.State.TheVariants as state
 use Rattle.service_profile.specs.declared.notes.Note.{Note}
 use Rattle.service_profile.specs.declared.notes.Totals.{Totals}
+use Rattle.service_profile.specs.Limits.{most_versions, most_entries}
 use Rattle.service_profile.specs.Events.{EventData, acquires, finishes, releases, installs, moves, resets}
 use Rattle.service_profile.specs.Machine.{Situation, refused, in_state, overstays, at_moment, permissions_held, half_open_permission, permission_in, placed, admitted, acquired, current_version, open_ticket, is_open, is_issued, program_from, same_program, is_ignored, fate_of, next_by, concluded, finished_by, finished_under, finished, released_under, released, installed, decided, used, is_full, decision, is_entered_refusal}
 use Rattle.service_profile.specs.Rates.{after_totals, either_reaches, minimum}
@@ -123,7 +124,7 @@ decided_near s moment (releases ticket) =
     either_near (is_issued s ticket) s.standing (released_under s (open_ticket s.open_tickets ticket)) (refused s.standing refusal.NoTicket)
     (released_under_near s (open_ticket s.open_tickets ticket)) (near_none s.standing 1)
 decided_near s moment (installs program) =
-    either_near (nat_le 256 (length s.programs)) s.standing (refused s.standing refusal.VersionsFull) (record { reply = reply.Installed (s.first_version + length s.programs) program.budget; next = s.standing })
+    either_near (nat_le most_versions (length s.programs)) s.standing (refused s.standing refusal.VersionsFull) (record { reply = reply.Installed (s.first_version + length s.programs) program.budget; next = s.standing })
     (near_none s.standing 1) (near_none s.standing 1)
 decided_near s moment (moves to) = near_one to moment s.standing
 decided_near s moment resets = near_one state.Closed moment s.standing
@@ -170,19 +171,19 @@ pub record IsByVersion (s : Situation) (work : JudgedData) (ticket : ℕ) (v : V
   pub steps_are : (judgement program work.outcome).steps ≡ steps
 
 pub data Shape (s : Situation) (event : EventData) (d : Decision) : Type 0 where
-  refuses : (number : RefusalNumber) → d.reply ≡ reply.Refused number → (is_entered_refusal number ≡ true → used s ≤ 65535) → Shape s event d
-  permits : (version : ℕ) (st : State) → event ≡ acquires → d.reply ≡ reply.Permitted s.next_ticket version st → used s ≤ 65534 → length s.open_tickets < s.config.max_concurrent_calls → HasPermission s d.next → Shape s event d
+  refuses : (number : RefusalNumber) → d.reply ≡ reply.Refused number → (is_entered_refusal number ≡ true → used s ≤ (most_entries - 1)) → Shape s event d
+  permits : (version : ℕ) (st : State) → event ≡ acquires → d.reply ≡ reply.Permitted s.next_ticket version st → used s ≤ (most_entries - 2) → length s.open_tickets < s.config.max_concurrent_calls → HasPermission s d.next → Shape s event d
   concludes : (work : JudgedData) (ticket : ℕ) (f : Fate) (v : Verdict) (steps version : ℕ) (st : State) → event ≡ finishes work ticket → d.reply ≡ reply.Finished f v steps version st → is_open s.open_tickets ticket ≡ true → IsPresent s d.next ticket f → IsCounted f v → IsByVersion s work ticket v steps version → Shape s event d
   lets_go : (ticket : ℕ) (st : State) → event ≡ releases ticket → d.reply ≡ reply.Released st → is_open s.open_tickets ticket ≡ true → Shape s event d
-  takes_in : (program : VerifiedProgram) (version budget : ℕ) → event ≡ installs program → d.reply ≡ reply.Installed version budget → length s.programs < 256 → used s ≤ 65535 → Shape s event d
-  turns : (st : State) (period : ℕ) → d.reply ≡ reply.Moved st period → used s ≤ 65535 → Shape s event d
+  takes_in : (program : VerifiedProgram) (version budget : ℕ) → event ≡ installs program → d.reply ≡ reply.Installed version budget → length s.programs < most_versions → used s ≤ (most_entries - 1) → Shape s event d
+  turns : (st : State) (period : ℕ) → d.reply ≡ reply.Moved st period → used s ≤ (most_entries - 1) → Shape s event d
 
 either_shape : (test : Bool) (s : Situation) (event : EventData) (a b : Decision) → (test ≡ true → Shape s event a) → (test ≡ false → Shape s event b) → Shape s event (if test then a else b)
 either_shape true s event a b p q = p refl
 either_shape false s event a b p q = q refl
 
 -- an entered refusal where the journal has room
-refused_shape : (s : Situation) (event : EventData) (standing : Standing) (number : RefusalNumber) → used s ≤ 65535 → Shape s event (refused standing number)
+refused_shape : (s : Situation) (event : EventData) (standing : Standing) (number : RefusalNumber) → used s ≤ (most_entries - 1) → Shape s event (refused standing number)
 refused_shape s event standing number room = refuses number refl (λ e. room)
 
 not_half_open : (s : Situation) (next : Standing) → is_half_open next.state ≡ false → HasPermission s next
@@ -202,7 +203,7 @@ permission_given s moment state.ForcedOpen e g = let bad : ◌≡◌ {A = Bool} 
 permission_given s moment state.Open e g = open_given s moment (nat_le s.config.wait_duration_in_open_state (moment - s.standing.since)) g
 permission_given s moment state.HalfOpen e g = λ h same. ltb-true _ _ g
 
-acquired_shape : (s : Situation) (moment : ℕ) → used s ≤ 65534 → Shape s acquires (acquired s moment)
+acquired_shape : (s : Situation) (moment : ℕ) → used s ≤ (most_entries - 2) → Shape s acquires (acquired s moment)
 acquired_shape s moment room =
     let permission : Permission = permission_in s.standing.state s.config s.standing (length s.notes) (permissions_held s.standing.period s.open_tickets) moment in
     either_shape permission.given s acquires (placed s permission.standing) (refused permission.standing refusal.CallNotPermitted)
@@ -237,8 +238,8 @@ both_false false false h e = refl
 both_false true b h e = let bad : ◌≡◌ {A = Bool} true false = h in cc
 
 -- the room that an event has whose ticket isn't open, where the journal isn't full
-closed_room : (s : Situation) (ticket : ℕ) → (nat_lt 65535 (used s) && not (is_open s.open_tickets ticket)) ≡ false → is_open s.open_tickets ticket ≡ false → used s ≤ 65535
-closed_room s ticket full closed = ltb-false 65535 (used s) (both_false (is_open s.open_tickets ticket) (nat_lt 65535 (used s)) closed full)
+closed_room : (s : Situation) (ticket : ℕ) → (nat_lt (most_entries - 1) (used s) && not (is_open s.open_tickets ticket)) ≡ false → is_open s.open_tickets ticket ≡ false → used s ≤ (most_entries - 1)
+closed_room s ticket full closed = ltb-false (most_entries - 1) (used s) (both_false (is_open s.open_tickets ticket) (nat_lt (most_entries - 1) (used s)) closed full)
 
 -- a refusal that isn't entered
 unentered_shape : (s : Situation) (event : EventData) (standing : Standing) (number : RefusalNumber) → is_entered_refusal number ≡ false → Shape s event (refused standing number)
@@ -286,41 +287,41 @@ finished_by_shape s moment t work ticket (Some program) held there found =
     (λ e. unentered_shape s (finishes work ticket) s.standing refusal.Stranger refl)
 
 finished_under_shape : (s : Situation) (moment : ℕ) (work : JudgedData) (ticket : ℕ) (found : Option OpenTicket)
-    → (nat_lt 65535 (used s) && not (is_open s.open_tickets ticket)) ≡ false → open_ticket s.open_tickets ticket ≡ found → Shape s (finishes work ticket) (finished_under s moment work found)
+    → (nat_lt (most_entries - 1) (used s) && not (is_open s.open_tickets ticket)) ≡ false → open_ticket s.open_tickets ticket ≡ found → Shape s (finishes work ticket) (finished_under s moment work found)
 finished_under_shape s moment work ticket None full e = refused_shape s (finishes work ticket) s.standing refusal.TicketSpent (closed_room s ticket full (lost_closed s.open_tickets ticket e))
 finished_under_shape s moment work ticket (Some t) full e = finished_by_shape s moment t work ticket (program_from s.first_version s.programs t.version) refl (found_open s.open_tickets ticket t e) e
 
-finished_shape : (s : Situation) (moment : ℕ) (work : JudgedData) (ticket : ℕ) → (nat_lt 65535 (used s) && not (is_open s.open_tickets ticket)) ≡ false → OpenAreIssued s → Shape s (finishes work ticket) (finished s moment work ticket)
+finished_shape : (s : Situation) (moment : ℕ) (work : JudgedData) (ticket : ℕ) → (nat_lt (most_entries - 1) (used s) && not (is_open s.open_tickets ticket)) ≡ false → OpenAreIssued s → Shape s (finishes work ticket) (finished s moment work ticket)
 finished_shape s moment work ticket full issued =
     either_shape (is_issued s ticket) s (finishes work ticket) (finished_under s moment work (open_ticket s.open_tickets ticket)) (refused s.standing refusal.NoTicket)
     (λ e. finished_under_shape s moment work ticket (open_ticket s.open_tickets ticket) full refl)
     (λ e. refused_shape s (finishes work ticket) s.standing refusal.NoTicket (closed_room s ticket full (unissued_closed s ticket issued e)))
 
 released_under_shape : (s : Situation) (ticket : ℕ) (found : Option OpenTicket)
-    → (nat_lt 65535 (used s) && not (is_open s.open_tickets ticket)) ≡ false → open_ticket s.open_tickets ticket ≡ found → Shape s (releases ticket) (released_under s found)
+    → (nat_lt (most_entries - 1) (used s) && not (is_open s.open_tickets ticket)) ≡ false → open_ticket s.open_tickets ticket ≡ found → Shape s (releases ticket) (released_under s found)
 released_under_shape s ticket None full e = refused_shape s (releases ticket) s.standing refusal.TicketSpent (closed_room s ticket full (lost_closed s.open_tickets ticket e))
 released_under_shape s ticket (Some t) full e = lets_go ticket s.standing.state refl refl (found_open s.open_tickets ticket t e)
 
-released_shape : (s : Situation) (ticket : ℕ) → (nat_lt 65535 (used s) && not (is_open s.open_tickets ticket)) ≡ false → OpenAreIssued s → Shape s (releases ticket) (released s ticket)
+released_shape : (s : Situation) (ticket : ℕ) → (nat_lt (most_entries - 1) (used s) && not (is_open s.open_tickets ticket)) ≡ false → OpenAreIssued s → Shape s (releases ticket) (released s ticket)
 released_shape s ticket full issued =
     either_shape (is_issued s ticket) s (releases ticket) (released_under s (open_ticket s.open_tickets ticket)) (refused s.standing refusal.NoTicket)
     (λ e. released_under_shape s ticket (open_ticket s.open_tickets ticket) full refl)
     (λ e. refused_shape s (releases ticket) s.standing refusal.NoTicket (closed_room s ticket full (unissued_closed s ticket issued e)))
 
-installed_shape : (s : Situation) (program : VerifiedProgram) → used s ≤ 65535 → Shape s (installs program) (installed s program)
+installed_shape : (s : Situation) (program : VerifiedProgram) → used s ≤ (most_entries - 1) → Shape s (installs program) (installed s program)
 installed_shape s program room =
-    either_shape (nat_le 256 (length s.programs)) s (installs program) (refused s.standing refusal.VersionsFull)
+    either_shape (nat_le most_versions (length s.programs)) s (installs program) (refused s.standing refusal.VersionsFull)
     (record { reply = reply.Installed (s.first_version + length s.programs) program.budget; next = s.standing })
     (λ e. unentered_shape s (installs program) s.standing refusal.VersionsFull refl)
-    (λ e. takes_in program (s.first_version + length s.programs) program.budget refl refl (leb-false 256 (length s.programs) e) room)
+    (λ e. takes_in program (s.first_version + length s.programs) program.budget refl refl (leb-false most_versions (length s.programs) e) room)
 
 decided_shape : (s : Situation) (moment : ℕ) (event : EventData) → is_full s event ≡ false → OpenAreIssued s → Shape s event (decided s moment event)
-decided_shape s moment acquires full issued = acquired_shape s moment (ltb-false 65534 (used s) full)
+decided_shape s moment acquires full issued = acquired_shape s moment (ltb-false (most_entries - 2) (used s) full)
 decided_shape s moment (finishes work ticket) full issued = finished_shape s moment work ticket full issued
 decided_shape s moment (releases ticket) full issued = released_shape s ticket full issued
-decided_shape s moment (installs program) full issued = installed_shape s program (ltb-false 65535 (used s) full)
-decided_shape s moment (moves to) full issued = turns to (suc s.standing.period) refl (ltb-false 65535 (used s) full)
-decided_shape s moment resets full issued = turns state.Closed (suc s.standing.period) refl (ltb-false 65535 (used s) full)
+decided_shape s moment (installs program) full issued = installed_shape s program (ltb-false (most_entries - 1) (used s) full)
+decided_shape s moment (moves to) full issued = turns to (suc s.standing.period) refl (ltb-false (most_entries - 1) (used s) full)
+decided_shape s moment resets full issued = turns state.Closed (suc s.standing.period) refl (ltb-false (most_entries - 1) (used s) full)
 
 -- ---- where a stay in HALF_OPEN has lasted too long, the event is taken in OPEN
 

@@ -1,5 +1,5 @@
 -- Every legal history stays sound with one line more.
-use Rattle.std.proofs.Common.{◌≡◌, ℕ, ◌+◌, ◌^◌, ◌≤◌, ◌<◌, ◌==◌, nat_le, nat_lt, ◌&&◌, ◌||◌, not, Bool, true, false, List, [], ◌∷◌, ◌++◌, length, Option, Some, None, option_to_list, arith, refl, ap, sym, ◌∙◌, subst, length-append, append-nil}
+use Rattle.std.proofs.Common.{◌≡◌, ℕ, ◌+◌, ◌-◌, ◌^◌, ◌≤◌, ◌<◌, ◌==◌, nat_le, nat_lt, ◌&&◌, ◌||◌, not, Bool, true, false, List, [], ◌∷◌, ◌++◌, length, Option, Some, None, option_to_list, arith, refl, ap, sym, ◌∙◌, subst, length-append, append-nil}
 use Rattle.std.specs.List.{filter, AllByRecursion}
 use Rattle.std.proofs.lemmas.Bool.{le-leb, lt-ltb}
 use Rattle.std.proofs.lemmas.Bool.Decides.{Decides-eqb}
@@ -10,6 +10,7 @@ use Rattle.service_profile.specs.declared.decisions.Decision.{Decision}
 use Rattle.service_profile.specs.declared.tickets.OpenTicket.{OpenTicket}
 use Rattle.service_profile.specs.declared.replies.Reply.{Reply}
 use Rattle.service_profile.specs.declared.replies.Reply.TheVariants as reply
+use Rattle.service_profile.specs.Limits.{most_versions, most_entries}
 use Rattle.service_profile.specs.Events.{EventData, acquires, finishes, releases, installs, moves, resets, EntryData}
 use Rattle.book.specs.Following.{is_number, tickets_after, one_where_some, notes_after, situation_after}
 use Rattle.service_profile.specs.Histories.{Stage, Past, issue_by, issue_at, issued, end_by, end_at, ended, open_of, install_by, install_at, programs_of, notes_of, situation_of, machine, passed, Follows, note_by}
@@ -61,8 +62,8 @@ install_moved resets s period = refl
 pub record IsMove (held : ℕ) (tickets : List OpenTicket) (next versions : ℕ) (event : EventData) (r : Reply) (period : ℕ) : Type 0 where
   pub fresh : IsFresh next (end_by event r) (issue_by r period)
   pub ended : (n : ℕ) → end_by event r ≡ Some n → is_open tickets n ≡ true
-  pub room : held + 1 + length (tickets_after tickets (end_by event r) (issue_by r period)) ≤ 65536
-  pub versions_held : versions + length (option_to_list (install_by event r)) ≤ 256
+  pub room : held + 1 + length (tickets_after tickets (end_by event r) (issue_by r period)) ≤ most_entries
+  pub versions_held : versions + length (option_to_list (install_by event r)) ≤ most_versions
   pub installed : (p : VerifiedProgram) → install_by event r ≡ Some p → event ≡ installs p
 
 untouched : (tickets : List OpenTicket) → length (tickets_after tickets None None) ≡ length tickets
@@ -87,7 +88,7 @@ no_program event p e = cc
 
 -- a line that touches neither tickets nor versions
 still : (held : ℕ) (tickets : List OpenTicket) (next versions : ℕ) (event : EventData) (r : Reply) (period : ℕ)
-    → end_by event r ≡ None → issue_by r period ≡ None → install_by event r ≡ None → held + length tickets ≤ 65535 → versions ≤ 256
+    → end_by event r ≡ None → issue_by r period ≡ None → install_by event r ≡ None → held + length tickets ≤ (most_entries - 1) → versions ≤ most_versions
     → IsMove held tickets next versions event r period
 still held tickets next versions event r period ends issues installs_ room few = record {
   fresh = rw (ends, issues) (none_fresh next None);
@@ -98,7 +99,7 @@ still held tickets next versions event r period ends issues installs_ room few =
 }
 
 permit_move : (held : ℕ) (tickets : List OpenTicket) (next versions version : ℕ) (s : _) (period : ℕ)
-    → held + length tickets ≤ 65534 → versions ≤ 256 → IsMove held tickets next versions acquires (reply.Permitted next version s) period
+    → held + length tickets ≤ (most_entries - 2) → versions ≤ most_versions → IsMove held tickets next versions acquires (reply.Permitted next version s) period
 permit_move held tickets next versions version s period room few = record {
   fresh = record { number = λ t e. (same_number next version period t e, refl) };
   ended = λ n e. no_number tickets n e;
@@ -111,7 +112,7 @@ permit_move held tickets next versions version s period room few = record {
     same_number next version period t e = let same : ◌≡◌ {A = OpenTicket} (record { number = next; version = version; period = period }) t = cc in sym (ap (λ (u : OpenTicket). u.number) same)
 
 end_move : (held : ℕ) (tickets : List OpenTicket) (next versions : ℕ) (event : EventData) (r : Reply) (period : ℕ) (ticket : ℕ)
-    → end_by event r ≡ Some ticket → issue_by r period ≡ None → install_by event r ≡ None → is_open tickets ticket ≡ true → held + length tickets ≤ 65536 → versions ≤ 256
+    → end_by event r ≡ Some ticket → issue_by r period ≡ None → install_by event r ≡ None → is_open tickets ticket ≡ true → held + length tickets ≤ most_entries → versions ≤ most_versions
     → IsMove held tickets next versions event r period
 end_move held tickets next versions event r period ticket ends issues installs_ there room few = record {
   fresh = rw issues (none_fresh next (end_by event r));
@@ -122,7 +123,7 @@ end_move held tickets next versions event r period ticket ends issues installs_ 
 }
 
 install_move : (held : ℕ) (tickets : List OpenTicket) (next versions : ℕ) (program : VerifiedProgram) (version budget period : ℕ)
-    → versions < 256 → held + length tickets ≤ 65535 → IsMove held tickets next versions (installs program) (reply.Installed version budget) period
+    → versions < most_versions → held + length tickets ≤ (most_entries - 1) → IsMove held tickets next versions (installs program) (reply.Installed version budget) period
 install_move held tickets next versions program version budget period few room = record {
   fresh = none_fresh next None;
   ended = λ n e. no_number tickets n e;
@@ -135,7 +136,7 @@ install_move held tickets next versions program version budget period few room =
     same_program_ p e = let same : program ≡ p = cc in ap installs same
 
 pub move_of : (s : Situation) (event : EventData) (d : Decision)
-    → Shape s event d → is_entered d.reply ≡ true → used s ≤ 65536 → length s.programs ≤ 256
+    → Shape s event d → is_entered d.reply ≡ true → used s ≤ most_entries → length s.programs ≤ most_versions
     → IsMove s.held s.open_tickets s.next_ticket (length s.programs) event d.reply d.next.period
 move_of s event d (refuses number e room) entered most few =
     rw e (still s.held s.open_tickets s.next_ticket (length s.programs) event (reply.Refused number) d.next.period (end_refused event number) refl (install_refused event number) (room (subst (λ (x : Reply). is_entered x ≡ true) e entered)) few)

@@ -15,3 +15,4 @@ pub mod Worlds
 pub mod Cuts
 pub mod Lawful
 pub mod Seats
+pub mod Situated

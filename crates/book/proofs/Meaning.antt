@@ -5,9 +5,9 @@ use Rattle.std.specs.List.{filter}
 use Rattle.std.proofs.lemmas.Bool.Decides.{Decides-eqb}
 use Rattle.std.proofs.lemmas.List.Elements.{Contains-append_left, Contains-append_right}
 use Rattle.bpf_profile.specs.declared.machine.Verdict.{Verdict}
+use Rattle.bpf_profile.specs.Limits.{context_size}
 use Rattle.bpf_profile.specs.Meaning.{Judges}
 use Rattle.bpf_profile.specs.JudgedWork.{JudgedData}
-use Rattle.bpf_profile.specs.Outcomes.{context_size}
 use Rattle.bpf_profile.specs.Programs.{VerifiedProgram}
 use Rattle.service_profile.specs.declared.decisions.Decision.{Decision}
 use Rattle.service_profile.specs.declared.tickets.OpenTicket.{OpenTicket}

@@ -12,14 +12,15 @@ use Rattle.service_profile.specs.declared.states.State.TheVariants as state
 use Rattle.service_profile.specs.Answers.{IsLooked, looks, no_owner, looked, looked_under}
 use Rattle.service_profile.specs.Openings.{first_opening, IsOpening}
 use Rattle.service_profile.specs.Events.{history_of, EntryData, Opening}
-use Rattle.book.specs.Books.{opening_of, IsBook}
+use Rattle.book.specs.Books.{opening_of}
 use Rattle.book.specs.declared.books.Start.{Start}
 use Rattle.service_profile.specs.Configuration.{bad_field}
 use Rattle.service_profile.specs.Histories.{opened, past_of, situation_of, next_line, IsLegal}
 use Rattle.service_profile.specs.declared.tickets.OpenTicket.{OpenTicket}
 use Rattle.service_profile.specs.Machine.{Situation, is_issued, open_ticket}
-use Rattle.book.specs.Situations.{situation}
+use Rattle.book.specs.Following.{situation}
 use Rattle.book.specs.Sound.{IsSound}
+use Rattle.book.proofs.Situated.{IsSituated}
 use Rattle.book.proofs.Applying.{same_opening, stage_count}
 use Rattle.book.proofs.Configured.{in_range}
 
@@ -60,7 +61,7 @@ pub legal_opened : (opening : Opening) → IsLegal (history_of opening [])
 unfolding IsLegal
 legal_opened opening = tt
 
-pub first_book : (opening : Opening) (s : Situation) (refused : ℕ) → IsOpening opening → IsSafeProgram opening.program → s ≡ situation_of (opened opening) → refused ≡ 0 → IsBook opening s refused opening.moment []
+pub first_book : (opening : Opening) (s : Situation) (refused : ℕ) → IsOpening opening → IsSafeProgram opening.program → s ≡ situation_of (opened opening) → refused ≡ 0 → IsSituated opening s refused opening.moment []
 first_book opening s refused good program situated_ none = record {
   legal = legal_opened opening;
   sound = sound_opened opening good program;
@@ -79,19 +80,19 @@ begun_situation config start breaker registry standing notes first programs tick
 
 -- ---- what a book shows
 
-pub line_least : (opening : Opening) (s : Situation) (refused moment : ℕ) (lines : List EntryData) → IsBook opening s refused moment lines → 1 ≤ opening.line
+pub line_least : (opening : Opening) (s : Situation) (refused moment : ℕ) (lines : List EntryData) → IsSituated opening s refused moment lines → 1 ≤ opening.line
 line_least opening s refused moment lines book = omega (arith, book.sound.opening.first_line, ap (λ (o : Opening). o.line) (same_opening opening lines))
 
 pub next_line_is : (opening : Opening) (lines : List EntryData) → opening.line + length lines ≡ next_line (past_of (history_of opening lines))
 next_line_is opening lines = omega (arith, stage_count opening lines, ap (λ (o : Opening). o.line) (same_opening opening lines))
 
 pub looked_there : (opening : Opening) (s : Situation) (refused moment : ℕ) (lines : List EntryData) (ticket : ℕ) (program : VerifiedProgram) (r : Result VerifiedProgram RefusalNumber)
-    → IsBook opening s refused moment lines → looked s ticket ≡ Ok program → (r ≡ Ok program) ⊎ (r ≡ Err refusal.ServiceOutOfMemory) → IsLooked (history_of opening lines) ticket r
+    → IsSituated opening s refused moment lines → looked s ticket ≡ Ok program → (r ≡ Ok program) ⊎ (r ≡ Err refusal.ServiceOutOfMemory) → IsLooked (history_of opening lines) ticket r
 looked_there opening s refused moment lines ticket program r book found (inl e) = looks (e ∙ sym found ∙ ap (λ (t : Situation). looked t ticket) book.situated)
 looked_there opening s refused moment lines ticket program r book found (inr e) = no_owner program e (ap (λ (t : Situation). looked t ticket) (sym book.situated) ∙ found)
 
 pub refused_there : (opening : Opening) (s : Situation) (refused moment : ℕ) (lines : List EntryData) (ticket : ℕ) (number : RefusalNumber)
-    → IsBook opening s refused moment lines → looked s ticket ≡ Err number → IsLooked (history_of opening lines) ticket (Err number)
+    → IsSituated opening s refused moment lines → looked s ticket ≡ Err number → IsLooked (history_of opening lines) ticket (Err number)
 refused_there opening s refused moment lines ticket number book lost = looks (sym lost ∙ ap (λ (t : Situation). looked t ticket) book.situated)
 
 -- a look under an open ticket

@@ -1,8 +1,8 @@
 -- From what operators can meet to what is safe: programs, events and lines.
 use Rattle.std.proofs.Common.{◌≡◌, ℕ, List, subst}
+use Rattle.bpf_profile.specs.Limits.{context_size}
 use Rattle.bpf_profile.specs.Safety.{IsSafe}
 use Rattle.bpf_profile.specs.JudgedWork.{JudgedData}
-use Rattle.bpf_profile.specs.Outcomes.{context_size}
 use Rattle.bpf_profile.specs.Programs.{VerifiedProgram}
 use Rattle.verifier.specs.Verifying.{IsVerification}
 use Rattle.service_profile.specs.declared.states.State.{State}

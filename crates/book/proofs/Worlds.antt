@@ -4,7 +4,8 @@ use Rattle.std.specs.List.{filter_map}
 use Rattle.std.proofs.Math.Nat.{le-max_right, max-le}
 use Rattle.std.proofs.lemmas.Bool.{ltb-false}
 use Rattle.std.proofs.lemmas.Slice.Eq.{bytes_eq-Decides}
-use Rattle.bpf_profile.specs.Outcomes.{Outcome, IsOutcome, context_size}
+use Rattle.bpf_profile.specs.Limits.{context_size}
+use Rattle.bpf_profile.specs.Outcomes.{Outcome, IsOutcome}
 use Rattle.bpf_profile.specs.JudgedWork.{JudgedData}
 use Rattle.refusals.specs.declared.RefusalNumber.{RefusalNumber}
 use Rattle.refusals.specs.declared.RefusalNumber.TheVariants as refusal

@@ -1,7 +1,8 @@
 -- Premises of the laws of the book.
 use Rattle.std.specs.Prelude.{◌≡◌, ℕ, ◌^◌, ◌<◌, Some}
 use Rattle.std.specs.List.{AllByRecursion}
-use Rattle.bpf_profile.specs.Outcomes.{IsOutcome, context_size}
+use Rattle.bpf_profile.specs.Limits.{context_size}
+use Rattle.bpf_profile.specs.Outcomes.{IsOutcome}
 use Rattle.bpf_profile.specs.JudgedWork.{JudgedData, IsTied}
 use Rattle.bpf_profile.specs.Programs.{VerifiedProgram}
 use Rattle.bpf_profile.specs.declared.machine.Verdict.{Verdict}

@@ -1,7 +1,8 @@
 -- Programs that were verified, and what is safe of them.
 use Rattle.std.specs.Prelude.{◌≡◌, ℕ, ◌^◌, ◌<◌, List}
 use Rattle.std.specs.List.{AllByRecursion}
-use Rattle.bpf_profile.specs.Outcomes.{IsOutcome, context_size}
+use Rattle.bpf_profile.specs.Limits.{context_size}
+use Rattle.bpf_profile.specs.Outcomes.{IsOutcome}
 use Rattle.bpf_profile.specs.Safety.{IsSafe}
 use Rattle.bpf_profile.specs.Spelling.{IsProgram}
 use Rattle.bpf_profile.specs.JudgedWork.{JudgedData, IsTied}

@@ -1,6 +1,7 @@
 -- What is true of every legal history, and what keeps numbers below 2 ^ 64.
 use Rattle.std.specs.Prelude.{◌≡◌, ℕ, ◌+◌, ◌*◌, ◌^◌, ◌<◌, ◌≤◌, length, true}
 use Rattle.std.specs.List.{AllByRecursion}
+use Rattle.service_profile.specs.Limits.{most_versions, most_entries}
 use Rattle.service_profile.specs.Histories.{Past, ended, issued, notes_of, open_of, programs_of, greatest}
 use Rattle.service_profile.specs.Machine.{permissions_held}
 use Rattle.service_profile.specs.MeantVerdicts.{IsMeantLine}
@@ -28,8 +29,8 @@ pub record IsSound (past : Past) : Type 0 where
   pub permissions : is_half_open past.standing.state ≡ true
       → permissions_held past.standing.period (open_of past.stages) + length (notes_of past) ≤ past.opening.config.permitted_number_of_calls_in_half_open_state
   -- the journal has a line left for the end of each open ticket
-  pub used : length past.stages + length (open_of past.stages) ≤ 65536
-  pub versions : length (programs_of past) ≤ 256
+  pub used : length past.stages + length (open_of past.stages) ≤ most_entries
+  pub versions : length (programs_of past) ≤ most_versions
   -- every program that was installed is safe
   pub programs : AreSafePrograms (programs_of past)
   -- all work that came in was judged, and each verdict is the meaning's for the version that its ticket names

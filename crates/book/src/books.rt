@@ -48,17 +48,15 @@ pub struct Book {
 }
 
 impl Model for Book {
-    ghost use Rattle.std.specs.Prelude.{length};
     ghost use Rattle.service_profile.specs.Events.{History, history_of};
 
     ghost Value = { History };
 
     ghost use Rattle.book.specs.Books.{opening_of, IsBook};
-    ghost use Rattle.book.specs.Situations.{situation};
 
     ghost view = { λ b. history_of (opening_of b.service.config b.start) b.entries.items };
 
-    ghost invariant = { λ b. IsBook (opening_of b.service.config b.start) (situation b.service.config b.service.breaker b.service.registry (length b.entries.items)) b.service.breaker.refused b.moment b.entries.items };
+    ghost invariant = { λ b. IsBook (opening_of b.service.config b.start) b.service.config b.service.breaker b.service.registry b.service.breaker.refused b.moment b.entries.items };
 }
 
 impl Book {

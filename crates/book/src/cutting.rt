@@ -8,12 +8,10 @@ ghost use Rattle.book.specs.Sound.{IsSound};
 use crate::books::{Book, Start};
 use crate::events::Entry;
 use refusals::RefusalNumber;
+use service_profile::GREATEST_NUMBER;
 use std::alloc::AllocError;
 use std::mem;
 use std::sync::Arc;
-
-/// The greatest number that a book may open with.
-const GREATEST_NUMBER: u64 = 1 << 63;
 
 fn is_past_the_limit(number: u64) -> bool
     ensures { result ≡ is_past_the_limit number }

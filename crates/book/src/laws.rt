@@ -3,8 +3,9 @@
 ghost use Rattle.std.specs.Prelude.{◌≡◌, ◌≤◌, ◌+◌, ℕ, List, length, Some, None, Ok, true, false, slice_get};
 ghost use Rattle.std.specs.List.{AllByRecursion};
 ghost use Rattle.bpf_profile.specs.declared.machine.Verdict.TheVariants as verdict;
+ghost use Rattle.bpf_profile.specs.Limits.{context_size};
 ghost use Rattle.bpf_profile.specs.Meaning.{Judges};
-ghost use Rattle.bpf_profile.specs.Outcomes.{Outcome, IsOutcome, context_size};
+ghost use Rattle.bpf_profile.specs.Outcomes.{Outcome, IsOutcome};
 ghost use Rattle.bpf_profile.specs.Programs.{VerifiedProgram};
 ghost use Rattle.service_profile.specs.declared.replies.Fate.{Fate};
 ghost use Rattle.service_profile.specs.declared.replies.Reply.TheVariants as reply;

@@ -6,10 +6,11 @@ ghost use Rattle.book.specs.declared.breaker.Breaker.{Breaker};
 ghost use Rattle.service_profile.specs.declared.configuration.ConfigParts.{ConfigParts};
 ghost use Rattle.service_profile.specs.Events.{EventData, acquires, finishes, releases, installs, moves, resets};
 ghost use Rattle.service_profile.specs.Histories.{note_by, end_by, issue_by, install_by};
-ghost use Rattle.service_profile.specs.Machine.{judged_as, acquired, refused, is_issued, is_open, is_ignored, is_failure, same_program, fate_of, note_of, next_by, concluded, finished, finished_by, finished_under, released, installed, moved_to, is_full, decided, decision, is_entered, is_entered_refusal, is_not_permitted, is_refused_call};
+ghost use Rattle.service_profile.specs.Machine.{Situation, judged_as, acquired, refused, is_issued, is_open, is_ignored, is_failure, same_program, fate_of, note_of, next_by, concluded, finished, finished_by, finished_under, released, installed, moved_to, is_full, decided, decision, is_entered, is_entered_refusal, is_not_permitted, is_refused_call};
 ghost use Rattle.book.specs.Effects.{effects_of, planned, refused_plan};
 ghost use Rattle.book.specs.Seen.{seen};
-ghost use Rattle.book.specs.Situations.{situation_in, IsRoomy};
+ghost use Rattle.book.specs.Following.{situation_in};
+ghost use Rattle.book.specs.Situations.{IsRoomy, StandsFor};
 ghost use Rattle.service_profile.specs.Standings.{is_disabled};
 
 use crate::breaker::{after_note, permit};
@@ -22,7 +23,8 @@ use bpf_run::Judged;
 use helpers::Record;
 use refusals::RefusalNumber;
 use service_profile::{
-    ConfigParts, Decision, Fate, Judgement, Note, OpenTicket, Reply, Standing, State,
+    ConfigParts, Decision, Fate, Judgement, MOST_ENTRIES, MOST_VERSIONS, Note, OpenTicket, Reply,
+    Standing, State,
 };
 use std::alloc::AllocError;
 use verifier::Verified;
@@ -273,9 +275,6 @@ fn released(service: &Service, ticket: u64) -> Plan
     }
 }
 
-/// How many versions are held.
-const MOST_VERSIONS: usize = 256;
-
 /// The answer to a program.
 fn installed(service: &Service, program: &Verified) -> Plan
     requires { service.now.registry.first_version + length service.now.registry.programs.items < 2 ^ 64 }
@@ -319,9 +318,6 @@ fn moved_to(service: &Service, moment: u64, state: State) -> Plan
     }
 }
 
-/// How many entries a journal holds.
-const MOST_ENTRIES: usize = 65_536;
-
 /// Whether the journal has no entry left for the event.
 fn is_full(service: &Service, held: usize, event: &Event) -> bool
     requires { (held < 2 ^ 32) × (length service.now.registry.open_tickets.items < 2 ^ 32) }
@@ -353,12 +349,12 @@ fn decided(service: &Service, moment: u64, event: &Event) -> Plan
     }
 }
 
-/// What is decided of an event where the journal holds so many entries. It takes no memory, and changes
-/// nothing.
+/// What is decided of an event where the journal holds so many entries, by any situation that the parts
+/// stand for. It takes no memory, and changes nothing.
 pub(crate) fn decide(service: &Service, held: usize, moment: u64, event: &Event) -> Plan
     requires roomy { IsRoomy service.now.breaker service.now.registry }
     requires held { (held < 2 ^ 32) × (length service.now.registry.open_tickets.items < 2 ^ 32) }
-    ensures { result ≡ planned service.now.config moment (seen event.now) (decision (situation_in service.now held) moment (seen event.now)) }
+    ensures { (s : Situation) → StandsFor service.now.config service.now.breaker service.now.registry held s → result ≡ planned service.now.config moment (seen event.now) (decision s moment (seen event.now)) }
 {
     know_config(&service.config);
     if is_full(service, held, event) {

@@ -1,5 +1,6 @@
 //! Pages of the journal: copies of entries.
 ghost use Rattle.std.specs.Prelude.{◌≡◌, ◌<◌, length, take, IfOk};
+ghost use Rattle.service_profile.specs.Limits.{most_page_entries};
 ghost use Rattle.service_profile.specs.Answers.{IsPage, map_ok};
 ghost use Rattle.service_profile.specs.Histories.{IsLegal, past_of};
 ghost use Rattle.book.specs.Sound.{IsSound};
@@ -7,10 +8,8 @@ ghost use Rattle.book.specs.Sound.{IsSound};
 use crate::books::Book;
 use crate::events::Entry;
 use refusals::RefusalNumber;
+use service_profile::MOST_PAGE_ENTRIES;
 use std::alloc::{AllocError, Global};
-
-/// How many entries a page has at most.
-const PAGE: usize = 100;
 
 /// Copies of all entries, in their order.
 fn copies(alloc: Global, entries: &[Entry]) -> Result<Vec<Entry>, AllocError>
@@ -26,9 +25,9 @@ fn copies(alloc: Global, entries: &[Entry]) -> Result<Vec<Entry>, AllocError>
 /// The first entries, so many at most.
 #[tactic(auto, using(std::proofs::lemmas::List::take_min))]
 fn first(entries: &[Entry]) -> &[Entry]
-    ensures { result.now ≡ take 100 entries.now }
+    ensures { result.now ≡ take most_page_entries entries.now }
 {
-    &entries[..PAGE.min(entries.len())]
+    &entries[..MOST_PAGE_ENTRIES.min(entries.len())]
 }
 
 impl Book {

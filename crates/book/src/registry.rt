@@ -5,11 +5,11 @@ ghost use Rattle.std.specs.Option.{option_map};
 ghost use Rattle.std.specs.List.{filter};
 ghost use Rattle.std.specs.Vec.{vec_len, vec_capacity};
 ghost use Rattle.service_profile.specs.Answers.{budget_of, looked, looked_under, map_ok};
-ghost use Rattle.book.specs.Following.{is_number, tickets_after, one_where_some};
-ghost use Rattle.book.specs.Situations.{situation};
+ghost use Rattle.book.specs.Following.{situation, is_number, tickets_after, one_where_some};
+ghost use Rattle.book.specs.Situations.{StandsFor};
 ghost use Rattle.book.specs.declared.breaker.Breaker.{Breaker};
 ghost use Rattle.service_profile.specs.declared.configuration.ConfigParts.{ConfigParts};
-ghost use Rattle.service_profile.specs.Machine.{open_ticket, is_open, permissions_held, program_from};
+ghost use Rattle.service_profile.specs.Machine.{Situation, open_ticket, is_open, permissions_held, program_from};
 
 use refusals::RefusalNumber;
 use service_profile::OpenTicket;
@@ -199,7 +199,7 @@ impl Registry {
 
     /// The program that judges under a ticket.
     pub(crate) fn look(&self, ticket: u64) -> Result<&Arc<Verified>, RefusalNumber>
-        ensures { (config : ConfigParts) (breaker : Breaker) (held : ℕ) → map_ok (λ p. arc_value p.now) result ≡ looked (situation config breaker self.now held) ticket }
+        ensures { (config : ConfigParts) (breaker : Breaker) (held : ℕ) (s : Situation) → StandsFor config breaker self.now held s → map_ok (λ p. arc_value p.now) result ≡ looked s ticket }
     {
         if !self.is_issued(ticket) {
             return Err(RefusalNumber::NoTicket);

@@ -12,12 +12,13 @@ use Rattle.bpf_asm.specs.declared.error.AsmError.{AsmError}
 use Rattle.bpf_asm.specs.Assembly.{statement_on, slots_of, with_line, with_lines, within, at_line, then_lines, fault, assembly_of, not_empty}
 use Rattle.bpf_asm.specs.Faults.{lines_in, slots_read, slots_on, HasFault, unread, too_long, IsFaultless, IsFirstFault}
 use Rattle.bpf_asm.specs.Reading.{◌>>=◌}
+use Rattle.bpf_profile.specs.Limits.{most_slots}
 
 -- a line's fault behind slots that are there already
 data FaultBehind (slots : List Slot) (lines : List (List ℕ)) (place : ℕ) (kind : RefusalNumber) : Type 0 where
   unread_behind : (line : List ℕ) → slice_get lines place ≡ Some line → statement_on line ≡ Err kind → FaultBehind slots lines place kind
   long_behind : (line : List ℕ) (statement : Option Instruction) → slice_get lines place ≡ Some line → statement_on line ≡ Ok statement → kind ≡ BadTextLength
-      → 4096 < length (slots ++ flat_map slots_on (take (suc place) lines)) → FaultBehind slots lines place kind
+      → most_slots < length (slots ++ flat_map slots_on (take (suc place) lines)) → FaultBehind slots lines place kind
 
 to_behind : (lines : List (List ℕ)) (place : ℕ) (kind : RefusalNumber) → HasFault lines place kind → FaultBehind [] lines place kind
 to_behind lines place kind (unread line at e) = unread_behind line at e
@@ -52,21 +53,21 @@ later : (slots : List Slot) (line : List ℕ) (lines : List (List ℕ)) (s : Opt
     → FaultBehind (slots ++ slots_of s) lines place kind → FaultBehind slots (line ∷ lines) (suc place) kind
 later slots line lines s place kind is (unread_behind x at e) = unread_behind x at e
 later slots line lines s place kind is (long_behind x statement at e same h) =
-    long_behind x statement at e same (subst (λ (xs : List Slot). 4096 < length xs) (sym (slots_in_front slots (flat_map slots_on (take (suc place) lines)) line s is)) h)
+    long_behind x statement at e same (subst (λ (xs : List Slot). most_slots < length xs) (sym (slots_in_front slots (flat_map slots_on (take (suc place) lines)) line s is)) h)
 
 sooner : (slots : List Slot) (line : List ℕ) (lines : List (List ℕ)) (s : Option Instruction) (place : ℕ) (kind : RefusalNumber) → statement_on line ≡ Ok s
     → FaultBehind slots (line ∷ lines) (suc place) kind → FaultBehind (slots ++ slots_of s) lines place kind
 sooner slots line lines s place kind is (unread_behind x at e) = unread_behind x at e
 sooner slots line lines s place kind is (long_behind x statement at e same h) =
-    long_behind x statement at e same (subst (λ (xs : List Slot). 4096 < length xs) (slots_in_front slots (flat_map slots_on (take (suc place) lines)) line s is) h)
+    long_behind x statement at e same (subst (λ (xs : List Slot). most_slots < length xs) (slots_in_front slots (flat_map slots_on (take (suc place) lines)) line s is) h)
 
 -- a line that is read, and leaves the slots few, has no fault
-no_fault_here : (slots : List Slot) (line : List ℕ) (lines : List (List ℕ)) (s : Option Instruction) (kind : RefusalNumber) → statement_on line ≡ Ok s → length (slots ++ slots_of s) ≤ 4096
+no_fault_here : (slots : List Slot) (line : List ℕ) (lines : List (List ℕ)) (s : Option Instruction) (kind : RefusalNumber) → statement_on line ≡ Ok s → length (slots ++ slots_of s) ≤ most_slots
     → FaultBehind slots (line ∷ lines) 0 kind → ⊥
 no_fault_here slots line lines s kind is few (unread_behind x at e) = read_apart (statement_on line) s kind is (ap statement_on (one_line (Some line) line x refl at) ∙ e)
 no_fault_here slots line lines s kind is few (long_behind x statement at e same h) =
     let all : slots ++ (slots_on line ++ []) ≡ slots ++ slots_of s = slots_in_front slots [] line s is ∙ append-nil (slots ++ slots_of s) in
-    let long : 4096 < length (slots ++ slots_of s) = subst (λ (xs : List Slot). 4096 < length xs) all h in
+    let long : most_slots < length (slots ++ slots_of s) = subst (λ (xs : List Slot). most_slots < length xs) all h in
     omega arith
 
 -- ---- what reading ends with
@@ -90,7 +91,7 @@ at_first number kind e h = let same : number ≡ number + 0 = omega arith in sym
 at_next : (number place : ℕ) (kind : RefusalNumber) (e : AsmError) → e ≡ fault (number + 1 + place) kind → e ≡ fault (number + suc place) kind
 at_next number place kind e h = let same : number + 1 + place ≡ number + suc place = omega arith in h ∙ ap (λ (n : ℕ). fault n kind) same
 
-none_before_next : (slots : List Slot) (line : List ℕ) (lines : List (List ℕ)) (s : Option Instruction) (place : ℕ) → statement_on line ≡ Ok s → length (slots ++ slots_of s) ≤ 4096
+none_before_next : (slots : List Slot) (line : List ℕ) (lines : List (List ℕ)) (s : Option Instruction) (place : ℕ) → statement_on line ≡ Ok s → length (slots ++ slots_of s) ≤ most_slots
     → ((earlier : ℕ) (other : RefusalNumber) → earlier < place → FaultBehind (slots ++ slots_of s) lines earlier other → ⊥)
     → (earlier : ℕ) (other : RefusalNumber) → earlier < suc place → FaultBehind slots (line ∷ lines) earlier other → ⊥
 none_before_next slots line lines s place is few none zero other h f = no_fault_here slots line lines s other is few f
@@ -98,14 +99,14 @@ none_before_next slots line lines s place is few none (suc earlier) other h f = 
 
 fails_fitting : (number : ℕ) (slots : List Slot) (line : List ℕ) (lines : List (List ℕ)) (e : AsmError) (s : Option Instruction) → statement_on line ≡ Ok s
     → ((longer : List Slot) → with_lines (number + 1) longer lines ≡ Err e → Failing (number + 1) longer lines e)
-    → (long : Bool) → ltb 4096 (length (slots ++ slots_of s)) ≡ long
+    → (long : Bool) → ltb most_slots (length (slots ++ slots_of s)) ≡ long
     → then_lines (at_line number (cond long (Err BadTextLength) (Ok (slots ++ slots_of s)))) (λ longer. with_lines (number + 1) longer lines) ≡ Err e
     → Failing number slots (line ∷ lines) e
 fails_fitting number slots line lines e s is rest true long h = record {
   place = 0;
   kind = BadTextLength;
   is = at_first number BadTextLength e h;
-  here = long_behind line s refl is refl (subst (λ (xs : List Slot). 4096 < length xs) (sym (slots_in_front slots [] line s is ∙ append-nil (slots ++ slots_of s))) (ltb-true _ _ long));
+  here = long_behind line s refl is refl (subst (λ (xs : List Slot). most_slots < length xs) (sym (slots_in_front slots [] line s is ∙ append-nil (slots ++ slots_of s))) (ltb-true _ _ long));
   none_before = λ earlier other l f. omega arith;
 }
 fails_fitting number slots line lines e s is rest false long h =
@@ -129,7 +130,7 @@ fails_on number slots line lines e (Err kind) is rest h = record {
   here = unread_behind line refl is;
   none_before = λ earlier other l f. omega arith;
 }
-fails_on number slots line lines e (Ok s) is rest h = fails_fitting number slots line lines e s is rest (ltb 4096 (length (slots ++ slots_of s))) refl h
+fails_on number slots line lines e (Ok s) is rest h = fails_fitting number slots line lines e s is rest (ltb most_slots (length (slots ++ slots_of s))) refl h
 
 fails : (number : ℕ) (slots : List Slot) (lines : List (List ℕ)) (e : AsmError) → with_lines number slots lines ≡ Err e → Failing number slots lines e
 unfolding with_lines with_line
@@ -144,7 +145,7 @@ none_in_no_line : (slots : List Slot) (place : ℕ) (kind : RefusalNumber) → F
 none_in_no_line slots place kind (unread_behind line at e) = cc
 none_in_no_line slots place kind (long_behind line statement at e is h) = cc
 
-none_in_next : (slots : List Slot) (line : List ℕ) (lines : List (List ℕ)) (s : Option Instruction) → statement_on line ≡ Ok s → length (slots ++ slots_of s) ≤ 4096
+none_in_next : (slots : List Slot) (line : List ℕ) (lines : List (List ℕ)) (s : Option Instruction) → statement_on line ≡ Ok s → length (slots ++ slots_of s) ≤ most_slots
     → ((place : ℕ) (kind : RefusalNumber) → FaultBehind (slots ++ slots_of s) lines place kind → ⊥)
     → (place : ℕ) (kind : RefusalNumber) → FaultBehind slots (line ∷ lines) place kind → ⊥
 none_in_next slots line lines s is few none zero kind f = no_fault_here slots line lines s kind is few f
@@ -152,7 +153,7 @@ none_in_next slots line lines s is few none (suc place) kind f = none place kind
 
 passes_fitting : (number : ℕ) (slots all : List Slot) (line : List ℕ) (lines : List (List ℕ)) (s : Option Instruction) → statement_on line ≡ Ok s
     → ((longer : List Slot) → with_lines (number + 1) longer lines ≡ Ok all → Passing longer lines all)
-    → (long : Bool) → ltb 4096 (length (slots ++ slots_of s)) ≡ long
+    → (long : Bool) → ltb most_slots (length (slots ++ slots_of s)) ≡ long
     → then_lines (at_line number (cond long (Err BadTextLength) (Ok (slots ++ slots_of s)))) (λ longer. with_lines (number + 1) longer lines) ≡ Ok all
     → Passing slots (line ∷ lines) all
 passes_fitting number slots all line lines s is rest true long h = absurd (not_ok all (fault number BadTextLength) (sym h))
@@ -168,7 +169,7 @@ passes_on : (number : ℕ) (slots all : List Slot) (line : List ℕ) (lines : Li
     → then_lines (at_line number (r >>= (λ s. within (slots ++ slots_of s)))) (λ longer. with_lines (number + 1) longer lines) ≡ Ok all
     → Passing slots (line ∷ lines) all
 passes_on number slots all line lines (Err kind) is rest h = absurd (not_ok all (fault number kind) (sym h))
-passes_on number slots all line lines (Ok s) is rest h = passes_fitting number slots all line lines s is rest (ltb 4096 (length (slots ++ slots_of s))) refl h
+passes_on number slots all line lines (Ok s) is rest h = passes_fitting number slots all line lines s is rest (ltb most_slots (length (slots ++ slots_of s))) refl h
 
 passes : (number : ℕ) (slots all : List Slot) (lines : List (List ℕ)) → with_lines number slots lines ≡ Ok all → Passing slots lines all
 unfolding with_lines with_line

@@ -14,6 +14,7 @@ use Rattle.bpf_profile.specs.declared.opcode.Source.{Source}
 use Rattle.bpf_profile.specs.declared.opcode.Source.TheVariants as source
 use Rattle.bpf_profile.specs.declared.slot.Slot.{Slot}
 use Rattle.bpf_profile.specs.declared.slot.Slot.TheVariants.{Ins, Tail}
+use Rattle.bpf_profile.specs.Limits.{most_slots}
 use Rattle.bpf_profile.specs.Slots.{instruction_of}
 use Rattle.bpf_profile.specs.Spelling.{IsSlot, IsProgram, is_wide}
 use Rattle.bpf_decode.specs.OpcodeNumbers.{operation_code, source_bit, size_code, arithmetic_class, jump_class, store_class, comparison_code}
@@ -93,7 +94,7 @@ statements_fit (None ∷ statements) all = statements_fit statements all.1
 statements_fit (Some i ∷ statements) all = (first_fits i all.0, tail_fits (second_slot i) (flat_map slots_of statements) (second_fits i all.0) (statements_fit statements all.1))
 
 pub statements_are_program : (statements : List (Option Instruction)) → AllByRecursion (λ s. IfSome s IsInstruction) statements → 0 < length (flat_map slots_of statements)
-    → length (flat_map slots_of statements) ≤ 4096 → IsProgram (flat_map slots_of statements)
+    → length (flat_map slots_of statements) ≤ most_slots → IsProgram (flat_map slots_of statements)
 statements_are_program statements all some few =
     let run = statements_run statements all in
     record {

@@ -10,13 +10,14 @@ use Rattle.bpf_profile.specs.declared.slot.Slot.{Slot}
 use Rattle.bpf_asm.specs.declared.error.AsmError.{AsmError}
 use Rattle.bpf_asm.specs.Assembly.{Assembles, statement_on, slots_of, with_line, with_lines, within, at_line, then_lines, fault, lines_of, small_letters, assembly_of, not_empty}
 use Rattle.bpf_asm.specs.Reading.{◌>>=◌}
+use Rattle.bpf_profile.specs.Limits.{most_slots}
 
 -- lines that are read as these slots after others
 pub record IsRead (lines : List (List ℕ)) (slots all : List Slot) : Type 0 where
   pub statements : List (Option Instruction)
   pub read : map statement_on lines ≡ map Ok statements
   pub whole : all ≡ slots ++ flat_map slots_of statements
-  pub few : length all ≤ 4096
+  pub few : length all ≤ most_slots
 
 not_ok : {A E : Type 0} (e : E) (a : A) → ◌≡◌ {A = Result A E} (Err e) (Ok a) → ⊥
 not_ok {A} {E} e a h = let g : ◌≡◌ {A = Result A E} (Err e) (Ok a) = h in cc
@@ -31,27 +32,27 @@ one_more line lines slots all s e rest = record {
 
 -- one line, where the lines behind it are known
 with_statement : (number : ℕ) (slots all : List Slot) (line : List ℕ) (lines : List (List ℕ)) (r : Result (Option Instruction) RefusalNumber) → statement_on line ≡ r
-    → ((longer : List Slot) → length longer ≤ 4096 → with_lines (number + 1) longer lines ≡ Ok all → IsRead lines longer all)
+    → ((longer : List Slot) → length longer ≤ most_slots → with_lines (number + 1) longer lines ≡ Ok all → IsRead lines longer all)
     → then_lines (at_line number (r >>= (λ s. within (slots ++ slots_of s)))) (λ longer. with_lines (number + 1) longer lines) ≡ Ok all → IsRead (line ∷ lines) slots all
 with_statement number slots all line lines (Err refusal) is rest e = absurd (not_ok (fault number refusal) all e)
-with_statement number slots all line lines (Ok s) is rest e = one_more line lines slots all s is (fitting (ltb 4096 (length (slots ++ slots_of s))) refl e)
+with_statement number slots all line lines (Ok s) is rest e = one_more line lines slots all s is (fitting (ltb most_slots (length (slots ++ slots_of s))) refl e)
   where
-    fitting : (long : Bool) → ltb 4096 (length (slots ++ slots_of s)) ≡ long
+    fitting : (long : Bool) → ltb most_slots (length (slots ++ slots_of s)) ≡ long
         → then_lines (at_line number (cond long (Err BadTextLength) (Ok (slots ++ slots_of s)))) (λ longer. with_lines (number + 1) longer lines) ≡ Ok all
         → IsRead lines (slots ++ slots_of s) all
     fitting true is e = absurd (not_ok (fault number BadTextLength) all e)
     fitting false is e = rest (slots ++ slots_of s) (ltb-false _ _ is) e
 
-pub read_lines : (number : ℕ) (slots all : List Slot) (lines : List (List ℕ)) → length slots ≤ 4096 → with_lines number slots lines ≡ Ok all → IsRead lines slots all
+pub read_lines : (number : ℕ) (slots all : List Slot) (lines : List (List ℕ)) → length slots ≤ most_slots → with_lines number slots lines ≡ Ok all → IsRead lines slots all
 unfolding with_lines with_line
 read_lines number slots all [] few e =
     let same : slots ≡ all = cc in
-    record { statements = []; read = refl; whole = sym same ∙ sym (append-nil slots); few = subst (λ (xs : List Slot). length xs ≤ 4096) same few }
+    record { statements = []; read = refl; whole = sym same ∙ sym (append-nil slots); few = subst (λ (xs : List Slot). length xs ≤ most_slots) same few }
 read_lines number slots all (line ∷ lines) few e =
     with_statement number slots all line lines (statement_on line) refl (λ longer few e. read_lines (number + 1) longer all lines few e) e
 
 -- what can be read is read
-grows : (slots more rest : List Slot) → length (slots ++ (more ++ rest)) ≤ 4096 → length (slots ++ more) ≤ 4096
+grows : (slots more rest : List Slot) → length (slots ++ (more ++ rest)) ≤ most_slots → length (slots ++ more) ≤ most_slots
 grows slots more rest h = omega (arith, length-append slots (more ++ rest), length-append more rest, length-append slots more)
 
 pub head_same : {A : Type 0} (a b : A) (xs ys : List A) → a ∷ xs ≡ b ∷ ys → a ≡ b
@@ -61,7 +62,7 @@ pub tail_same : {A : Type 0} (a b : A) (xs ys : List A) → a ∷ xs ≡ b ∷ y
 tail_same a b xs ys e = cc
 
 pub lines_read : (number : ℕ) (slots : List Slot) (lines : List (List ℕ)) (statements : List (Option Instruction)) → map statement_on lines ≡ map Ok statements
-    → length (slots ++ flat_map slots_of statements) ≤ 4096 → length slots ≤ 4096 → with_lines number slots lines ≡ Ok (slots ++ flat_map slots_of statements)
+    → length (slots ++ flat_map slots_of statements) ≤ most_slots → length slots ≤ most_slots → with_lines number slots lines ≡ Ok (slots ++ flat_map slots_of statements)
 unfolding with_lines with_line
 lines_read number slots [] [] e fits few = ap Ok (sym (append-nil slots))
 lines_read number slots [] (s ∷ statements) e fits few = absurd cc
@@ -72,8 +73,8 @@ lines_read number slots (line ∷ lines) (s ∷ statements) e fits few =
     let short = grows slots (slots_of s) (flat_map slots_of statements) fits in
     let again = append_assoc slots (slots_of s) (flat_map slots_of statements) in
     ap (λ (r : Result (Option Instruction) RefusalNumber). then_lines (at_line number (r >>= (λ s. within (slots ++ slots_of s)))) (λ longer. with_lines (number + 1) longer lines)) here
-    ∙ ap (λ (long : Bool). then_lines (at_line number (cond long (Err BadTextLength) (Ok (slots ++ slots_of s)))) (λ longer. with_lines (number + 1) longer lines)) (le-ltb 4096 (length (slots ++ slots_of s)) short)
-    ∙ lines_read (number + 1) (slots ++ slots_of s) lines statements there (subst (λ (xs : List Slot). length xs ≤ 4096) (sym again) fits) short
+    ∙ ap (λ (long : Bool). then_lines (at_line number (cond long (Err BadTextLength) (Ok (slots ++ slots_of s)))) (λ longer. with_lines (number + 1) longer lines)) (le-ltb most_slots (length (slots ++ slots_of s)) short)
+    ∙ lines_read (number + 1) (slots ++ slots_of s) lines statements there (subst (λ (xs : List Slot). length xs ≤ most_slots) (sym again) fits) short
     ∙ ap Ok again
 
 -- ---- whole texts
@@ -95,7 +96,7 @@ read_slots text slots e some =
 
 pub slots_read : (text : List ℕ) (slots : List Slot) → Assembles text slots → with_lines 1 [] (lines_of (small_letters text)) ≡ Ok slots
 slots_read text slots is =
-    lines_read 1 [] (lines_of (small_letters text)) is.statements is.lines (subst (λ (xs : List Slot). length xs ≤ 4096) is.whole is.few) (omega arith)
+    lines_read 1 [] (lines_of (small_letters text)) is.statements is.lines (subst (λ (xs : List Slot). length xs ≤ most_slots) is.whole is.few) (omega arith)
     ∙ ap Ok (sym is.whole)
 
 pub one_program : (text : List ℕ) (a b : List Slot) → Assembles text a → Assembles text b → a ≡ b

@@ -10,6 +10,7 @@ use Rattle.bpf_decode.specs.Encoding.{encoding}
 use Rattle.bpf_asm.specs.declared.error.AsmError.{AsmError}
 use Rattle.bpf_asm.specs.Tokens.{tokens_of}
 use Rattle.bpf_asm.specs.Reading.{statement_of, ◌>>=◌}
+use Rattle.bpf_profile.specs.Limits.{most_slots}
 
 -- the lines of a text in small letters
 abbrev pub lines_of : List ℕ → List (List ℕ)
@@ -33,7 +34,7 @@ pub record Assembles (text : List ℕ) (slots : List Slot) : Type 0 where
   pub lines : map statement_on (lines_of (small_letters text)) ≡ map Ok statements
   pub whole : slots ≡ flat_map slots_of statements
   pub some : 0 < length slots
-  pub few : length slots ≤ 4096
+  pub few : length slots ≤ most_slots
 
 -- ---- the first fault
 
@@ -44,7 +45,7 @@ abbrev pub out_of_memory : AsmError
 out_of_memory = fault 0 AssemblerOutOfMemory
 
 abbrev pub within : List Slot → Result (List Slot) RefusalNumber
-within slots = if nat_lt 4096 (length slots) then Err BadTextLength else Ok slots
+within slots = if nat_lt most_slots (length slots) then Err BadTextLength else Ok slots
 
 -- the slots with those of one line more
 unfoldable pub with_line : List Slot → List ℕ → Result (List Slot) RefusalNumber

@@ -6,6 +6,7 @@ use Rattle.refusals.specs.declared.RefusalNumber.TheVariants.{BadTextLength}
 use Rattle.bpf_profile.specs.declared.instruction.Instruction.{Instruction}
 use Rattle.bpf_profile.specs.declared.slot.Slot.{Slot}
 use Rattle.bpf_asm.specs.Assembly.{lines_of, small_letters, statement_on, slots_of}
+use Rattle.bpf_profile.specs.Limits.{most_slots}
 
 -- the lines of a text, as they are read
 abbrev pub lines_in : List ℕ → List (List ℕ)
@@ -22,7 +23,7 @@ slots_on line = slots_read (statement_on line)
 -- the line at this place, from 0 on, has a fault: it can't be read, or the slots up to its end are more than 4,096
 pub data HasFault (lines : List (List ℕ)) (place : ℕ) (kind : RefusalNumber) : Type 0 where
   unread : (line : List ℕ) → slice_get lines place ≡ Some line → statement_on line ≡ Err kind → HasFault lines place kind
-  too_long : (line : List ℕ) (statement : Option Instruction) → slice_get lines place ≡ Some line → statement_on line ≡ Ok statement → kind ≡ BadTextLength → 4096 < length (flat_map slots_on (take (suc place) lines)) → HasFault lines place kind
+  too_long : (line : List ℕ) (statement : Option Instruction) → slice_get lines place ≡ Some line → statement_on line ≡ Ok statement → kind ≡ BadTextLength → most_slots < length (flat_map slots_on (take (suc place) lines)) → HasFault lines place kind
 
 -- no line has a fault
 abbrev pub IsFaultless : List (List ℕ) → Type 0

@@ -6,4 +6,3 @@ pub mod Reading
 pub mod Assembly
 pub mod Faults
 pub mod Writing
-pub mod ErrorTexts

@@ -11,12 +11,9 @@ use crate::error::AsmError;
 use crate::reading::statement_of;
 use crate::tokens::read_tokens;
 use bpf_decode::{Encoded, Program};
-use bpf_profile::{Instruction, Slot};
+use bpf_profile::{Instruction, MOST_SLOTS, Slot};
 use refusals::RefusalNumber;
 use std::alloc::{AllocError, Global};
-
-/// How many slots a program has at most.
-const MOST_SLOTS: usize = 4096;
 
 /// Appends the slots of an instruction.
 fn push_slots(slots: &mut Vec<Slot>, instruction: &Instruction) -> Result<(), AllocError>

@@ -1,5 +1,5 @@
 //! Why a text is no program.
-use refusals::RefusalNumber;
+use refusals::{RefusalNumber, RefusalText};
 use std::alloc::AllocError;
 use std::fmt;
 use thiserror::Error;
@@ -17,18 +17,16 @@ pub struct AsmError {
 
 impl fmt::Display for AsmError {
     ghost use Rattle.std.specs.Prelude.{Some};
-    ghost use Rattle.bpf_asm.specs.ErrorTexts.{error_text};
+    ghost use Rattle.refusals.specs.Texts.{refusal_text};
 
-    ghost output = { λ e. Some (error_text e) };
+    ghost output = { λ e. Some (refusal_text e.kind e.line) };
 
     fn fmt<W: fmt::Write>(&self, f: &mut fmt::Formatter<W>) -> fmt::Result {
-        let number = self.kind.number();
-        let name = self.kind.name();
-        let line = self.line;
-        match number {
-            45 => write!(f, "refused {number} {name}"),
-            _ => write!(f, "refused {number} {name} line {line}"),
-        }
+        let shown = RefusalText {
+            number: self.kind,
+            place: self.line,
+        };
+        write!(f, "{shown}")
     }
 }
 

@@ -318,10 +318,7 @@ pub(crate) fn statement_of(tokens: &[Token]) -> Result<Option<Instruction>, Refu
     ensures { result ≡ statement_of tokens.now }
 {
     match tokens.split_first() {
-        Some((first, rest)) => match instruction_of_tokens(first, rest) {
-            Ok(instruction) => Ok(Some(instruction)),
-            Err(number) => Err(number),
-        },
+        Some((first, rest)) => Ok(Some(instruction_of_tokens(first, rest)?)),
         None => Ok(None),
     }
 }

@@ -3,6 +3,7 @@ use Rattle.std.proofs.Common.{◌≡◌, refl, sym, ap, ◌∙◌, ℕ, ◌*◌,
 use Rattle.std.proofs.lemmas.Bool.{eqb-true, eqb-false, ltb-false, ne_eqb, eq-eqb, le-ltb, or_parts, or_from, not_from_true}
 use Rattle.refusals.specs.declared.RefusalNumber.TheVariants.{Length}
 use Rattle.bpf_profile.specs.declared.slot.Slot.{Slot}
+use Rattle.bpf_profile.specs.Limits.{most_slots}
 use Rattle.bpf_profile.specs.Spelling.{Fault, Spells, slots_at, fault_from, is_bad_length, first_fault}
 use Rattle.bpf_decode.proofs.Runs.{program_run, none_run, run_none, run_instructions, run_tails}
 use Rattle.bpf_decode.proofs.Texts.{IsBytes, length_text, slots_again, text_again, slots_fit, length_slots}
@@ -17,7 +18,7 @@ was_true false e = cc
 pub record IsCount (count slots : ℕ) : Type 0 where
   pub whole : count ≡ 8 * slots
   pub some : 0 < slots
-  pub few : slots ≤ 4096
+  pub few : slots ≤ most_slots
 
 good_length : (count : ℕ) → is_bad_length count ≡ false → IsCount count (count / 8)
 good_length count e =
@@ -84,7 +85,7 @@ spelled_none bytes slots spells =
 
 -- ---- what a decoder has read
 
-pub read_few : (bytes : List ℕ) (slots : List Slot) → is_bad_length (length bytes) ≡ false → slots ≡ slots_at (length bytes / 8) bytes → length slots ≤ 4096
+pub read_few : (bytes : List ℕ) (slots : List Slot) → is_bad_length (length bytes) ≡ false → slots ≡ slots_at (length bytes / 8) bytes → length slots ≤ most_slots
 read_few bytes slots good e =
     let is = good_length (length bytes) good in
     omega (arith, ap length e, length_slots (length bytes / 8) bytes)

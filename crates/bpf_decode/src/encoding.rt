@@ -17,8 +17,8 @@ pub struct Encoded {
 }
 
 impl Encoded {
-    /// The slots that stand for the instruction. Decoding gives it back where it is one that slots can
-    /// hold; of a word that doesn't fit its field the low bits are kept.
+    /// Encodes an instruction. Decoding gives it back, if its numbers fit their fields; of a word that
+    /// doesn't fit, the low bits are kept.
     pub fn of(instruction: &Instruction) -> Encoded
         ensures first { result.first ≡ first_slot instruction.now }
         ensures second { result.second ≡ second_slot instruction.now }
@@ -44,7 +44,7 @@ fn offset_field(word: u64) -> u16
     (word % 0x1_0000) as u16
 }
 
-/// The number of a register, as its field of four bits has it.
+/// The number of a register, in four bits.
 fn register_field(register: Register) -> u8
     ensures { result ≡ register }
 {
@@ -60,7 +60,7 @@ fn source_of(operand: &Operand) -> Source
     }
 }
 
-/// What the second operand puts into the source register.
+/// The source register field of a second operand.
 fn source_field(operand: &Operand) -> u8
     ensures { result ≡ source_field operand.now }
 {
@@ -70,7 +70,7 @@ fn source_field(operand: &Operand) -> u8
     }
 }
 
-/// What the second operand puts into the immediate.
+/// The immediate field of a second operand.
 fn operand_field(operand: &Operand) -> u32
     ensures { result ≡ operand_field operand.now }
 {

@@ -1,6 +1,5 @@
 //! Why bytes are no program.
-use bpf_profile::FaultText;
-use refusals::RefusalNumber;
+use refusals::{RefusalNumber, RefusalText};
 use std::alloc::AllocError;
 use std::fmt;
 use thiserror::Error;
@@ -18,15 +17,14 @@ pub struct DecodeError {
 
 impl fmt::Display for DecodeError {
     ghost use Rattle.std.specs.Prelude.{Some};
-    ghost use Rattle.bpf_profile.specs.FaultTexts.{fault_text};
-    ghost use Rattle.bpf_decode.specs.Faults.{fault_of};
+    ghost use Rattle.refusals.specs.Texts.{refusal_text};
 
-    ghost output = { λ error. Some (fault_text (fault_of error)) };
+    ghost output = { λ error. Some (refusal_text error.number error.slot) };
 
     fn fmt<W: fmt::Write>(&self, f: &mut fmt::Formatter<W>) -> fmt::Result {
-        let shown = FaultText {
-            slot: self.slot,
+        let shown = RefusalText {
             number: self.number,
+            place: self.slot as usize,
         };
         write!(f, "{shown}")
     }

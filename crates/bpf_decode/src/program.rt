@@ -1,6 +1,7 @@
 //! Programs.
 ghost use Rattle.std.specs.Prelude.{◌≡◌, ◌<◌, suc, List, length, slice_get, IfSome, IfOk, IfErr, MatchResult, false};
 ghost use Rattle.bpf_profile.specs.declared.slot.Slot.{Slot};
+ghost use Rattle.bpf_profile.specs.Limits.{most_slots};
 ghost use Rattle.bpf_profile.specs.Slots.{instruction_of};
 ghost use Rattle.bpf_profile.specs.Spelling.{Spells, IsProgram, is_tail};
 ghost use Rattle.bpf_decode.specs.Faults.{out_of_memory, IsFirstFault};
@@ -33,15 +34,15 @@ impl Model for Program {
 }
 
 impl Program {
-    /// The program that the bytes spell, or their first fault in the order of the bytes, the length
-    /// before all others (RFC 9669, section 3). The program keeps the allocator.
+    /// Decodes bytes (RFC 9669, section 3). The error is the first fault: of the length, else of the least
+    /// slot that has one. The program keeps the allocator.
     pub fn decode(alloc: Global, bytes: &[u8]) -> Result<Program, DecodeError>
         // What is decoded is spelled so.
         ensures program { IfOk result (λ slots. Spells bytes.now slots) }
         // An error is the first fault of the bytes, unless memory ran out.
         ensures fault { IfErr result (λ e. IsFirstFault bytes.now e) }
         // The slot of an error is one that a program may have.
-        ensures slot { IfErr result (λ e. e.slot < 4096) }
+        ensures slot { IfErr result (λ e. e.slot < most_slots) }
         // What is spelled so is decoded, unless memory ran out.
         ensures complete { (slots : List Slot) → Spells bytes.now slots → MatchResult result (λ p. p ≡ slots) (λ e. e ≡ out_of_memory) }
     {
@@ -56,7 +57,7 @@ impl Program {
         Ok(Program { slots })
     }
 
-    /// The program of slots that are known to be one.
+    /// The program of slots, whose caller knows that they are one.
     pub fn from_slots(slots: Vec<Slot>) -> Program
         requires { IsProgram slots.items }
         ensures { result ≡ slots.items }
@@ -64,8 +65,7 @@ impl Program {
         Self { slots }
     }
 
-    /// The bytes that spell the program, eight for each slot. Memory is asked for once, before the
-    /// first byte is written, of the allocator that the program keeps.
+    /// Encodes the program, eight bytes a slot. Memory is taken once, before the first byte is written.
     pub fn encode(&self) -> Result<Vec<u8>, AllocError>
         ensures { IfOk result (λ v. Spells v.items self.now) }
     {
@@ -92,7 +92,7 @@ impl Program {
         self.slots.as_slice()
     }
 
-    /// The slot at a place, counted from 0.
+    /// The slot at an index.
     pub fn slot(&self, i: usize) -> Slot
         requires { i < length self.now }
         ensures { slice_get self.now i ≡ Some result }
@@ -100,7 +100,7 @@ impl Program {
         self.slots[i]
     }
 
-    /// The instruction that begins at a place, counted from 0, where no tail stands.
+    /// The instruction at the index of a slot that is no tail.
     pub fn instruction(&self, i: usize) -> Instruction
         requires place { i < length self.now }
         requires begins { IfSome (slice_get self.now i) (λ s. is_tail s ≡ false) }

@@ -1,11 +1,12 @@
 //! Bytes read as slots, and the first fault of the slots.
 ghost use Rattle.std.specs.Prelude.{◌≡◌, ◌≤◌, ◌/◌, ◌<◌, ◌+◌, length, slice_get, IfSome, IfOk, IfErr, false};
+ghost use Rattle.bpf_profile.specs.Limits.{most_slots};
 ghost use Rattle.bpf_profile.specs.Slots.{instruction_of};
 ghost use Rattle.bpf_profile.specs.Spelling.{is_bad_length, slot_at, slots_at, is_wide, fault_from};
 ghost use Rattle.bpf_decode.specs.Faults.{found_fault};
 
 use crate::error::DecodeError;
-use bpf_profile::{Instruction, Slot};
+use bpf_profile::{Instruction, MOST_SLOTS, Slot};
 use byteorder::{ByteOrder, LittleEndian};
 use refusals::RefusalNumber;
 use std::alloc::{AllocError, Global};
@@ -13,13 +14,10 @@ use std::alloc::{AllocError, Global};
 /// How many bytes a slot has.
 pub(crate) const SLOT_BYTES: usize = 8;
 
-/// How many slots a program has at most.
-const MOST_SLOTS: usize = 4096;
-
 /// The opcode of a wide immediate (RFC 9669, section 5.4).
 const WIDE_IMMEDIATE: u8 = 0x18;
 
-/// Whether so many bytes are none, no whole number of slots, or over 4,096 of them.
+/// Whether a length in bytes is 0, no multiple of eight, or more than 4,096 slots.
 pub(crate) fn has_bad_length(count: usize) -> bool
     ensures { result ≡ is_bad_length count }
 {
@@ -45,7 +43,7 @@ fn slot_at(bytes: &[u8; SLOT_BYTES]) -> Slot
     }
 }
 
-/// Each eight bytes as a slot. Bytes after the last whole slot are left out.
+/// The slots of a byte sequence, eight bytes each. Bytes after the last whole slot are ignored.
 pub(crate) fn slots_of(alloc: Global, bytes: &[u8]) -> Result<Vec<Slot>, AllocError>
     ensures { IfOk result (λ v. v.items ≡ slots_at (length bytes.now / 8) bytes.now) }
 {
@@ -70,7 +68,7 @@ fn begins_wide(slot: Slot) -> bool
     )
 }
 
-/// The instruction that begins at a place, or the fault of the slot there.
+/// The instruction at an index, or the fault of the slot there.
 pub(crate) fn instruction_at(slots: &[Slot], place: usize) -> Result<Instruction, RefusalNumber>
     requires { place < length slots.now }
     ensures { IfSome (slice_get slots.now place) (λ slot. result ≡ instruction_of slot (slice_get slots.now (place + 1))) }
@@ -79,12 +77,12 @@ pub(crate) fn instruction_at(slots: &[Slot], place: usize) -> Result<Instruction
     slots[place].instruction(next)
 }
 
-/// The first fault of the slots, with its place. The second slot of a wide immediate is not looked at
-/// again, since the first one is refused where it is no tail.
+/// The first fault of the slots, with its index. The second slot of a wide immediate isn't looked at
+/// again: a first slot with no tail behind it is a fault.
 pub(crate) fn check_slots(slots: &[Slot]) -> Result<(), DecodeError>
-    requires { length slots.now ≤ 4096 }
+    requires { length slots.now ≤ most_slots }
     ensures fault { found_fault result ≡ fault_from 0 false slots.now }
-    ensures slot { IfErr result (λ e. e.slot < 4096) }
+    ensures slot { IfErr result (λ e. e.slot < most_slots) }
 {
     let mut is_second = false;
     for (place, slot) in slots.iter().enumerate() {

@@ -13,6 +13,7 @@ use Rattle.bpf_profile.specs.declared.instruction.Instruction.TheVariants as ins
 use Rattle.bpf_profile.specs.declared.slot.Slot.{Slot}
 use Rattle.bpf_profile.specs.declared.slot.Slot.TheVariants.{Ins, Tail}
 use Rattle.bpf_profile.specs.declared.fields.Fields.{Fields}
+use Rattle.bpf_profile.specs.Limits.{most_slots}
 use Rattle.bpf_profile.specs.Flow.{flow_fault, flow_fault_from, flow_fault_at, flow_fault_of, successors, Edge, edges_of, next_of, distance_of, is_tail_at, is_entered, jump_fault, next_fault}
 use Rattle.bpf_profile.specs.Machine.{target_of}
 use Rattle.bpf_profile.specs.Meaning.{instruction_at}
@@ -251,7 +252,7 @@ jump_leads slots place distance e =
     (leb-false _ _ back.0, leb-false _ _ out.0, tail.0)
 
 -- the target of a jump forward in a program of at most 4,096 slots is behind it
-target_behind : (place distance count : ℕ) → place < count → count ≤ 4096 → distance < 2 ^ 63 → place < target_of place distance
+target_behind : (place distance count : ℕ) → place < count → count ≤ most_slots → distance < 2 ^ 63 → place < target_of place distance
 target_behind place distance count h few back =
     let small : place + 1 + distance < 2 ^ 64 = omega arith in
     let same : target_of place distance ≡ place + 1 + distance = mod-eq_of_lt small in

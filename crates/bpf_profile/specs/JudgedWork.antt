@@ -1,8 +1,9 @@
 -- Judged work as data: a program, an outcome, and what the program says of it.
 use Rattle.std.specs.Prelude.{ℕ}
 use Rattle.bpf_profile.specs.declared.machine.Verdict.{Verdict}
+use Rattle.bpf_profile.specs.Limits.{context_size}
 use Rattle.bpf_profile.specs.Meaning.{Judges}
-use Rattle.bpf_profile.specs.Outcomes.{Outcome, context_size}
+use Rattle.bpf_profile.specs.Outcomes.{Outcome}
 use Rattle.bpf_profile.specs.Programs.{VerifiedProgram}
 
 pub record JudgedData : Type 0 where

@@ -1,3 +1,4 @@
+pub mod Limits
 pub mod Words
 pub mod Opcodes
 pub mod Slots
@@ -7,7 +8,6 @@ pub mod Machine
 pub mod Helpers
 pub mod Meaning
 pub mod Faults
-pub mod FaultTexts
 pub mod Flow
 pub mod Safety
 pub mod Programs

@@ -2,6 +2,7 @@
 use Rattle.std.specs.Prelude.{ℕ, ◌^◌, ◌<◌, ◌≤◌, ◌≡◌, List, length, drop}
 use Rattle.std.specs.List.{AllByRecursion}
 use Rattle.byteorder.specs.Endian.{little_number}
+use Rattle.bpf_profile.specs.Limits.{fact_count, most_tag_bytes}
 
 -- the context's bytes, the facts, and the tag's bytes
 pub record Outcome : Type 0 where
@@ -17,13 +18,9 @@ pub record IsOutcome (size : ℕ) (outcome : Outcome) : Type 0 where
   pub context : AreBytes outcome.context
   pub long : size ≤ length outcome.context
   pub facts : AllByRecursion (λ fact. fact < 2 ^ 64) outcome.facts
-  pub sixteen : length outcome.facts ≡ 16
+  pub sixteen : length outcome.facts ≡ fact_count
   pub tag : AreBytes outcome.tag
-  pub short : length outcome.tag ≤ 32
-
--- how many bytes of the context programs see
-abbrev pub context_size : ℕ
-context_size = 128
+  pub short : length outcome.tag ≤ most_tag_bytes
 
 -- how long the call took, in milliseconds: the double word at offset 8
 abbrev pub duration_of : Outcome → ℕ

@@ -7,6 +7,7 @@ use Rattle.refusals.specs.declared.RefusalNumber.TheVariants.{Length}
 use Rattle.bpf_profile.specs.declared.instruction.Instruction.{Instruction}
 use Rattle.bpf_profile.specs.declared.slot.Slot.{Slot}
 use Rattle.bpf_profile.specs.declared.slot.Slot.TheVariants.{Ins, Tail}
+use Rattle.bpf_profile.specs.Limits.{most_slots}
 use Rattle.bpf_profile.specs.Slots.{instruction_of}
 
 -- the eight bytes of a slot: opcode, both registers in one byte, offset and immediate, the last two with their lowest byte first
@@ -35,7 +36,7 @@ FollowsWide slots place = (before : ℕ) × (wide : Slot) × (place ≡ suc befo
 -- 1 to 4,096 slots, each an instruction of the profile or a tail, where a tail stands after each wide immediate and nowhere else
 pub record IsProgram (slots : List Slot) : Type 0 where
   pub some : 0 < length slots
-  pub few : length slots ≤ 4096
+  pub few : length slots ≤ most_slots
   pub fields : AllByRecursion IsSlot slots
   pub instructions : (place : ℕ) (slot : Slot) → slice_get slots place ≡ Some slot → is_tail slot ≡ false → IsOk (instruction_of slot (slice_get slots (suc place)))
   pub tails : (place high : ℕ) → slice_get slots place ≡ Some (Tail high) → FollowsWide slots place
@@ -73,7 +74,7 @@ fault_from place false (slot ∷ slots) = fault_or place (instruction_of slot (s
 
 -- no bytes, no whole number of slots, or over 4,096 of them
 abbrev pub is_bad_length : ℕ → Bool
-is_bad_length count = (count == 0) || (not (count % 8 == 0) || nat_lt 32768 count)
+is_bad_length count = (count == 0) || (not (count % 8 == 0) || nat_lt (8 * most_slots) count)
 
 -- the first fault of bytes, in the order in which they are looked at: the length, then slot by slot
 abbrev pub first_fault : List ℕ → Option Fault

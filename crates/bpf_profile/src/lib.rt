@@ -2,18 +2,22 @@
 //! the plain types that the crates above share.
 #![tactic(auto)]
 
-mod fault_text;
 mod fields;
+mod helper;
 mod instruction;
 pub mod laws;
+mod limits;
 mod machine;
 mod opcode;
 mod register;
 mod slot;
 
-pub use fault_text::FaultText;
+pub use helper::Helper;
 pub use instruction::{
     ByteOrder, Comparison, Extension, Instruction, Operand, Operation, Size, Width,
+};
+pub use limits::{
+    CONTEXT_SIZE, FACT_COUNT, FRONT_OFFSET, FRONT_SIZE, MOST_SLOTS, MOST_TAG_BYTES, STACK_SIZE,
 };
 pub use machine::{Cell, Region, TrapReason, Value, Verdict};
 pub use opcode::{Opcode, Source};

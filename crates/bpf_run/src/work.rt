@@ -48,8 +48,7 @@ pub fn judge(program: Arc<Verified>, outcome: Record) -> Judged
 }
 
 impl Judged {
-    /// The same judged work once more, under one more owner of its program. The error comes where the
-    /// program can have no more owners.
+    /// A copy that shares the program. The error comes where the program can have no more owners.
     pub fn try_clone(&self) -> Result<Judged, AllocError>
         ensures { IfOk result (λ copy. copy ≡ self.now) }
     {
@@ -83,7 +82,7 @@ impl Judged {
         &self.outcome
     }
 
-    /// What the program says of the outcome.
+    /// The program's verdict on the outcome.
     pub fn verdict(&self) -> Verdict
         ensures verdict { result ≡ self.now.verdict }
         ensures tied { IsTied self.now }

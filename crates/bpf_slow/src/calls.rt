@@ -1,26 +1,21 @@
 //! The helper functions that a program may call (RFC 9669, section 4.3.1). Arguments are in R1 to R5,
 //! the answer comes in R0.
 ghost use Rattle.std.specs.Prelude.{◌≡◌, ◌≤◌, ◌<◌, ◌+◌, length, IfOk};
+ghost use Rattle.bpf_profile.specs.Limits.{most_slots, stack_size, context_size, most_tag_bytes};
 ghost use Rattle.bpf_profile.specs.Helpers.{stack_offset, number_argument, stretch_of, fact, front_byte, copy_tag, tag_starts, helper_answer, called};
 ghost use Rattle.bpf_slow.specs.Progress.{effect_of_step, answer_with};
 
 use crate::cells::{read_bytes, write_bytes};
-use crate::machine::{Machine, STACK};
+use crate::machine::Machine;
 use crate::memory::place_of;
 use crate::progress::Progress;
 use crate::registers::number_or;
-use bpf_profile::{Cell, Region, Register, TrapReason, Value};
+use bpf_profile::{
+    Cell, FACT_COUNT, FRONT_SIZE, Helper, MOST_TAG_BYTES, Region, Register, STACK_SIZE, TrapReason,
+    Value,
+};
 use helpers::Record;
 use std::marker::Model;
-
-/// How many bytes a helper takes at most.
-const MOST_BYTES: usize = 32;
-
-/// How many facts there are.
-const FACTS: u64 = 16;
-
-/// How many bytes the body's front has.
-const FRONT_BYTES: u64 = 64;
 
 /// A stretch of the stack: where it begins, and its 1 to 32 bytes. Contracts see the stretch of the
 /// definitions.
@@ -62,16 +57,16 @@ impl Machine {
     /// The arguments R1 and R2 as a stretch of the stack.
     fn stretch(&self) -> Result<Stretch, TrapReason>
         ensures stretch { result ≡ stretch_of self.now }
-        ensures inside { IfOk result (λ s. (s.place + s.count ≤ 512) × (s.count ≤ 32)) }
+        ensures inside { IfOk result (λ s. (s.place + s.count ≤ stack_size) × (s.count ≤ most_tag_bytes)) }
     {
         let pointer = self.read_register(Register::new(1))?;
         let offset = stack_offset(pointer)?;
         let count = self.number_argument(Register::new(2))?;
-        if count == 0 || count > MOST_BYTES as u64 {
+        if count == 0 || count > MOST_TAG_BYTES as u64 {
             return Err(TrapReason::Argument);
         }
         let place = place_of(Region::Stack, offset);
-        if place > STACK as u64 - count {
+        if place > STACK_SIZE as u64 - count {
             return Err(TrapReason::Argument);
         }
         Ok(Stretch {
@@ -85,7 +80,7 @@ impl Machine {
         ensures { answer_with result self.now.stack ≡ fact outcome.now self.now }
     {
         let i = self.number_argument(Register::new(1))?;
-        if i >= FACTS {
+        if i >= FACT_COUNT as u64 {
             return Err(TrapReason::Argument);
         }
         Ok(outcome.fact(i as usize))
@@ -93,10 +88,10 @@ impl Machine {
 
     /// Helper 2: byte R1 of the body's front.
     fn front_byte(&self, outcome: &Record) -> Result<u64, TrapReason>
-        ensures { answer_with result self.now.stack ≡ front_byte 128 outcome.now self.now }
+        ensures { answer_with result self.now.stack ≡ front_byte context_size outcome.now self.now }
     {
         let i = self.number_argument(Register::new(1))?;
-        if i >= FRONT_BYTES {
+        if i >= FRONT_SIZE as u64 {
             return Err(TrapReason::Argument);
         }
         Ok(u64::from(outcome.front_byte(i as usize)))
@@ -110,10 +105,10 @@ impl Machine {
         ensures registers { self.new.registers ≡ self.old.registers }
     {
         let Stretch { place, count } = self.stretch()?;
-        let mut room = [0u8; MOST_BYTES];
+        let mut room = [0u8; MOST_TAG_BYTES];
         let bytes = &mut room[..count];
         let length = outcome.copy_tag(bytes);
-        let mut cells = [Cell::Unset; MOST_BYTES];
+        let mut cells = [Cell::Unset; MOST_TAG_BYTES];
         write_bytes(bytes, &mut cells[..count]);
         self.overwrite(place, &cells[..count]);
         Ok(length)
@@ -124,7 +119,7 @@ impl Machine {
         ensures { answer_with result self.now.stack ≡ tag_starts outcome.now self.now }
     {
         let Stretch { place, count } = self.stretch()?;
-        let mut room = [0u8; MOST_BYTES];
+        let mut room = [0u8; MOST_TAG_BYTES];
         let bytes = &mut room[..count];
         if !read_bytes(self.cells(place, count), bytes) {
             return Err(TrapReason::Argument);
@@ -134,23 +129,23 @@ impl Machine {
 
     /// The answer of a helper, which may write to the stack.
     fn helper_answer(&mut self, outcome: &Record, helper: u32) -> Result<u64, TrapReason>
-        ensures answer { answer_with result self.new.stack ≡ helper_answer 128 outcome.now self.old helper }
+        ensures answer { answer_with result self.new.stack ≡ helper_answer context_size outcome.now self.old helper }
         ensures slot { self.new.slot ≡ self.old.slot }
         ensures registers { self.new.registers ≡ self.old.registers }
     {
-        match helper {
-            1 => self.fact(outcome),
-            2 => self.front_byte(outcome),
-            3 => self.copy_tag(outcome),
-            4 => self.tag_starts(outcome),
-            _ => Err(TrapReason::Helper),
+        match Helper::with_number(helper) {
+            Some(Helper::Fact) => self.fact(outcome),
+            Some(Helper::FrontByte) => self.front_byte(outcome),
+            Some(Helper::CopyTag) => self.copy_tag(outcome),
+            Some(Helper::TagStarts) => self.tag_starts(outcome),
+            None => Err(TrapReason::Helper),
         }
     }
 
     /// Calls a helper, and goes to the next slot. R1 to R5 are unset then.
     pub(crate) fn call(&mut self, outcome: &Record, helper: u32) -> Result<Progress, TrapReason>
-        requires { self.old.slot < 4096 }
-        ensures { effect_of_step result self.new ≡ called 128 outcome.now self.old helper }
+        requires { self.old.slot < most_slots }
+        ensures { effect_of_step result self.new ≡ called context_size outcome.now self.old helper }
     {
         let answer = self.helper_answer(outcome, helper)?;
         self.answer_call(answer);

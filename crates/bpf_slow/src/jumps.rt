@@ -1,5 +1,6 @@
 //! Jumps (RFC 9669, section 4.3).
 ghost use Rattle.std.specs.Prelude.{◌≡◌, ◌<◌, ◌≤◌};
+ghost use Rattle.bpf_profile.specs.Limits.{most_slots};
 ghost use Rattle.bpf_profile.specs.Machine.{branched, exited};
 ghost use Rattle.bpf_slow.specs.Progress.{effect_of_step};
 
@@ -19,7 +20,7 @@ impl Machine {
         right: &Operand,
         distance: u64,
     ) -> Result<Progress, TrapReason>
-        requires { self.old.slot < 4096 }
+        requires { self.old.slot < most_slots }
         ensures { effect_of_step result self.new ≡ branched self.old comparison width left right.now distance }
     {
         let a = self.read_register(left)?;

@@ -1,15 +1,13 @@
 //! The state of the tagged machine.
 ghost use Rattle.std.specs.Prelude.{◌≡◌, ◌<◌, ◌≤◌, ◌+◌, ◌^◌, List, length, take, drop, slice_set, IfOk};
+ghost use Rattle.bpf_profile.specs.Limits.{stack_size};
 ghost use Rattle.bpf_profile.specs.Machine.{State, goes, register_of, sets_register, jumps, overwritten};
 ghost use Rattle.bpf_profile.specs.Meaning.{entry};
 ghost use Rattle.bpf_profile.specs.Helpers.{after_call};
 
-use bpf_profile::{Cell, Region, Register, Value};
+use bpf_profile::{Cell, Region, Register, STACK_SIZE, Value};
 use std::alloc::{AllocError, Global};
 use std::marker::Model;
-
-/// How many bytes the stack has.
-pub(crate) const STACK: usize = 512;
 
 /// A slot, eleven registers, and the cells of the stack's offsets from -512 to -1. Contracts see the
 /// state of the definitions.
@@ -22,13 +20,14 @@ pub(crate) struct Machine {
 
 impl Model for Machine {
     ghost use Rattle.std.specs.Prelude.{◌≡◌, length};
+    ghost use Rattle.bpf_profile.specs.Limits.{stack_size};
     ghost use Rattle.bpf_profile.specs.Machine.{State};
 
     ghost Value = { State };
 
     ghost view = { λ m. record { slot = m.slot; registers = m.registers; stack = m.stack.items } };
 
-    ghost invariant = { λ m. length m.stack.items ≡ 512 };
+    ghost invariant = { λ m. length m.stack.items ≡ stack_size };
 }
 
 impl Machine {
@@ -39,7 +38,7 @@ impl Machine {
         let mut registers = [Value::Unset; Register::COUNT];
         registers[1] = Value::Pointer(Region::Context, 0);
         registers[10] = Value::Pointer(Region::Stack, 0);
-        let stack = vec![in alloc; Cell::Unset; STACK]?;
+        let stack = vec![in alloc; Cell::Unset; STACK_SIZE]?;
         Ok(Machine {
             slot: 0,
             registers,
@@ -79,7 +78,7 @@ impl Machine {
 
     /// So many cells of the stack, from a place on.
     pub(crate) fn cells(&self, place: usize, count: usize) -> &[Cell]
-        requires { place + count ≤ 512 }
+        requires { place + count ≤ stack_size }
         ensures cells { result.now ≡ take count (drop place self.now.stack) }
         ensures count { length result.now ≡ count }
     {
@@ -88,7 +87,7 @@ impl Machine {
 
     /// Writes the cells to the stack, from a place on.
     pub(crate) fn overwrite(&mut self, place: usize, cells: &[Cell])
-        requires { place + length cells.now ≤ 512 }
+        requires { place + length cells.now ≤ stack_size }
         ensures { self.new ≡ record { slot = self.old.slot; registers = self.old.registers; stack = overwritten self.old.stack place cells.now } }
     {
         self.stack[place..place + cells.len()].copy_from_slice(cells);

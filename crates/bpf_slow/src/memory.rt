@@ -1,13 +1,16 @@
 //! Loads and stores (RFC 9669, sections 5.1 and 5.2).
 ghost use Rattle.std.specs.Prelude.{◌≡◌, ◌≤◌, ◌<◌, ◌+◌, ◌%◌, ◌^◌, IfOk, OnOk};
+ghost use Rattle.bpf_profile.specs.Limits.{most_slots, context_size};
 ghost use Rattle.bpf_profile.specs.Machine.{address_of, place_of, region_size, place_for, loaded, load_value, is_stack, stored};
 ghost use Rattle.bpf_profile.specs.Words.{bytes_in};
 ghost use Rattle.bpf_slow.specs.Progress.{effect_of_step};
 
 use crate::cells::{value_of_cells, write_value};
-use crate::machine::{Machine, STACK};
+use crate::machine::Machine;
 use crate::progress::Progress;
-use bpf_profile::{Cell, Extension, Operand, Region, Register, Size, TrapReason, Value};
+use bpf_profile::{
+    CONTEXT_SIZE, Cell, Extension, Operand, Region, Register, STACK_SIZE, Size, TrapReason, Value,
+};
 use bpf_words::extended;
 use helpers::Record;
 use std::marker::Model;
@@ -47,25 +50,25 @@ pub(crate) fn place_of(region: Region, offset: u64) -> u64
     ensures { result ≡ place_of region offset }
 {
     match region {
-        Region::Stack => offset.wrapping_add(STACK as u64),
+        Region::Stack => offset.wrapping_add(STACK_SIZE as u64),
         Region::Context => offset,
     }
 }
 
 fn region_size(region: Region) -> u64
-    ensures { result ≡ region_size 128 region }
+    ensures { result ≡ region_size context_size region }
 {
     match region {
-        Region::Stack => STACK as u64,
-        Region::Context => Record::CONTEXT as u64,
+        Region::Stack => STACK_SIZE as u64,
+        Region::Context => CONTEXT_SIZE as u64,
     }
 }
 
 /// The place of an access that is aligned and lies in its region.
 fn place_for(size: Size, at: Address) -> Result<usize, TrapReason>
-    ensures place { result ≡ place_for 128 (bytes_in size) at }
+    ensures place { result ≡ place_for context_size (bytes_in size) at }
     ensures aligned { OnOk result (at.offset % bytes_in size ≡ 0) }
-    ensures inside { IfOk result (λ place. (place ≡ place_of at.region at.offset) × (place + bytes_in size ≤ region_size 128 at.region)) }
+    ensures inside { IfOk result (λ place. (place ≡ place_of at.region at.offset) × (place + bytes_in size ≤ region_size context_size at.region)) }
 {
     if at.offset % size.bytes() != 0 {
         return Err(TrapReason::Misaligned);
@@ -94,7 +97,7 @@ impl Machine {
         region: Region,
         place: usize,
     ) -> Result<Value, TrapReason>
-        requires inside { place + bytes_in size ≤ region_size 128 region }
+        requires inside { place + bytes_in size ≤ region_size context_size region }
         requires aligned { region ≡ Region.Context → place % bytes_in size ≡ 0 }
         ensures { result ≡ loaded outcome.now self.now extension (bytes_in size) region place }
     {
@@ -118,7 +121,7 @@ impl Machine {
         base: Register,
         distance: u64,
     ) -> Result<Value, TrapReason>
-        ensures { result ≡ load_value 128 outcome.now self.now size extension base distance }
+        ensures { result ≡ load_value context_size outcome.now self.now size extension base distance }
     {
         let pointer = self.read_register(base)?;
         let at = address_of(pointer, distance)?;
@@ -134,8 +137,8 @@ impl Machine {
         distance: u64,
         operand: &Operand,
     ) -> Result<Progress, TrapReason>
-        requires { self.old.slot < 4096 }
-        ensures { effect_of_step result self.new ≡ stored 128 self.old size base distance operand.now }
+        requires { self.old.slot < most_slots }
+        ensures { effect_of_step result self.new ≡ stored context_size self.old size base distance operand.now }
     {
         let pointer = self.read_register(base)?;
         let value = self.read_operand(operand)?;

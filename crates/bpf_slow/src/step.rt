@@ -1,5 +1,6 @@
 //! One step.
 ghost use Rattle.std.specs.Prelude.{◌≡◌, ◌≤◌, ◌<◌, ◌+◌, ◌^◌, length};
+ghost use Rattle.bpf_profile.specs.Limits.{most_slots, context_size};
 ghost use Rattle.bpf_profile.specs.Machine.{goes};
 ghost use Rattle.bpf_profile.specs.Meaning.{sets, effect_of, step};
 ghost use Rattle.bpf_slow.specs.Progress.{effect_of_step};
@@ -17,7 +18,7 @@ impl Machine {
         register: Register,
         value: Result<Value, TrapReason>,
     ) -> Result<Progress, TrapReason>
-        requires { self.old.slot < 4096 }
+        requires { self.old.slot < most_slots }
         ensures { effect_of_step result self.new ≡ sets self.old register value }
     {
         self.set_register(0, register, value?);
@@ -31,8 +32,8 @@ impl Machine {
         outcome: &Record,
         instruction: &Instruction,
     ) -> Result<Progress, TrapReason>
-        requires { self.old.slot < 4096 }
-        ensures { effect_of_step result self.new ≡ effect_of 128 outcome.now self.old instruction.now }
+        requires { self.old.slot < most_slots }
+        ensures { effect_of_step result self.new ≡ effect_of context_size outcome.now self.old instruction.now }
     {
         match *instruction {
             Instruction::Arithmetic {
@@ -104,8 +105,8 @@ impl Machine {
     /// One step of the program. On a trap or an answer nothing is said of the state.
     #[tactic(auto, unfolding(bpf_profile::specs::Meaning::step))]
     pub(crate) fn step(&mut self, slots: &[Slot], outcome: &Record) -> Result<Progress, TrapReason>
-        requires { length slots.now ≤ 4096 }
-        ensures { effect_of_step result self.new ≡ step 128 slots.now outcome.now self.old }
+        requires { length slots.now ≤ most_slots }
+        ensures { effect_of_step result self.new ≡ step context_size slots.now outcome.now self.old }
     {
         let slot = self.slot();
         if slot >= slots.len() {

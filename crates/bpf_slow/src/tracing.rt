@@ -1,7 +1,7 @@
 //! Runs of the tagged machine.
 ghost use Rattle.std.specs.Prelude.{◌≡◌, IfOk};
-ghost use Rattle.bpf_profile.specs.Outcomes.{context_size};
 ghost use Rattle.bpf_slow.specs.Ending.{IsEnd};
+ghost use Rattle.bpf_profile.specs.Limits.{context_size};
 
 use crate::ending::End;
 use crate::machine::Machine;

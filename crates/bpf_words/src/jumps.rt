@@ -1,5 +1,6 @@
 //! Comparisons of words, and where a jump leads (RFC 9669, section 4.3).
-ghost use Rattle.std.specs.Prelude.{◌≡◌, ◌<◌};
+ghost use Rattle.std.specs.Prelude.{◌≡◌, ◌≤◌};
+ghost use Rattle.bpf_profile.specs.Limits.{most_slots};
 ghost use Rattle.bpf_profile.specs.Machine.{target_of};
 ghost use Rattle.bpf_profile.specs.Words.{holds, holds_at};
 
@@ -57,7 +58,7 @@ pub fn holds(comparison: Comparison, width: Width, a: u64, b: u64) -> bool
 /// The slot so many slots after the next one, where a distance is a word that is read as signed. A
 /// target before slot 0 wraps to one past each program's end.
 pub fn target_of(slot: usize, distance: u64) -> usize
-    requires { slot < 4096 }
+    requires { slot ≤ most_slots }
     ensures { result ≡ target_of slot distance }
 {
     (slot as u64 + 1).wrapping_add(distance) as usize

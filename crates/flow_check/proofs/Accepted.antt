@@ -10,6 +10,7 @@ use Rattle.refusals.specs.declared.RefusalNumber.{RefusalNumber}
 use Rattle.refusals.specs.declared.RefusalNumber.TheVariants.{Unreachable}
 use Rattle.bpf_profile.specs.declared.instruction.Instruction.{Instruction}
 use Rattle.bpf_profile.specs.declared.slot.Slot.{Slot}
+use Rattle.bpf_profile.specs.Limits.{most_slots}
 use Rattle.bpf_profile.specs.Flow.{Edge, successors, edges_of, is_entered, is_entered_from, flow_fault, flow_fault_at, flow_fault_of, flow_fault_from}
 use Rattle.bpf_profile.specs.Meaning.{instruction_at}
 use Rattle.bpf_profile.specs.Slots.{instruction_of}
@@ -132,8 +133,8 @@ entered_from slots a place there =
 
 -- the two edges of a slot are within the first 4,096
 pub both_few : (slots : List Slot) → IsAccepted slots → (from : ℕ) (next target : Option ℕ) → option_to_list next ++ option_to_list target ≡ successors slots from
-    → IfSome next (λ n. n < 4096) × IfSome target (λ n. n < 4096)
+    → IfSome next (λ n. n < most_slots) × IfSome target (λ n. n < most_slots)
 both_few slots a from next target e =
     let inside = all_inside slots a from (option_to_list next ++ option_to_list target) e in
-    let few : All (λ n. n < 4096) (option_to_list next ++ option_to_list target) = λ k d h. let at = inside k d h in omega (arith, at, a.program.few) in
-    (first_of_two (λ n. n < 4096) next target few, second_of_two (λ n. n < 4096) next target few)
+    let few : All (λ n. n < most_slots) (option_to_list next ++ option_to_list target) = λ k d h. let at = inside k d h in omega (arith, at, a.program.few) in
+    (first_of_two (λ n. n < most_slots) next target few, second_of_two (λ n. n < most_slots) next target few)

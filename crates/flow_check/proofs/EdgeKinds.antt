@@ -5,6 +5,7 @@ use Rattle.std.specs.Option.{option_map_or}
 use Rattle.std.specs.Prelude.{All, option_and_then, option_map, option_to_list, slice_get}
 use Rattle.bpf_profile.specs.declared.instruction.Instruction.{Instruction}
 use Rattle.bpf_profile.specs.declared.slot.Slot.{Slot}
+use Rattle.bpf_profile.specs.Limits.{most_slots}
 use Rattle.bpf_profile.specs.Flow.{IsBudget, successors, edges_of, next_of, distance_of}
 use Rattle.bpf_profile.specs.Machine.{target_of}
 use Rattle.bpf_profile.specs.Meaning.{instruction_at}
@@ -40,5 +41,5 @@ are_few slots a kinds budget e b = record {
       few place (successor_list s) (ap successor_list is ∙ list_of slots place);
 }
   where
-    few : (place : ℕ) (edges : List ℕ) → edges ≡ successors slots place → All (λ to. to < 4096) edges
+    few : (place : ℕ) (edges : List ℕ) → edges ≡ successors slots place → All (λ to. to < most_slots) edges
     few place edges same = λ k d h. (let inside = all_inside slots a place edges same k d h in omega (arith, inside, a.program.few))

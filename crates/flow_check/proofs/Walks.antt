@@ -6,6 +6,7 @@ use Rattle.std.proofs.lemmas.Bool.{cases_eq, cases_lt}
 use Rattle.std.proofs.lemmas.List.{length-set, get_or-set_same, get_or-set_other, length-replicate}
 use Rattle.std.proofs.lemmas.List.Elements.{Contains-append_left, Contains-append_right, Contains-append_cases}
 use Rattle.bpf_profile.specs.declared.slot.Slot.{Slot}
+use Rattle.bpf_profile.specs.Limits.{most_slots}
 use Rattle.bpf_profile.specs.Flow.{Edge, successors, WalkFrom, IsWalk, IsBudget}
 use Rattle.bpf_profile.specs.Meaning.{instruction_at}
 use Rattle.flow_check.specs.Passes.{IsLengthened}
@@ -186,7 +187,7 @@ traced_step slots a place next budget best longest after t step is l = subst (λ
     }
 
 -- a walk is no longer than the program
-pub traced_few : (slots : List Slot) → IsAccepted slots → (place count budget : ℕ) (longest : List ℕ) → IsTraced slots place longest budget → count ≡ get_or longest place 0 → count ≤ 4096
+pub traced_few : (slots : List Slot) → IsAccepted slots → (place count budget : ℕ) (longest : List ℕ) → IsTraced slots place longest budget → count ≡ get_or longest place 0 → count ≤ most_slots
 traced_few slots a place count budget longest t e =
     elim (t.shown place) [
       | inl none ↦ omega (arith, e, none)

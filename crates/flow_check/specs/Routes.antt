@@ -1,6 +1,7 @@
 -- What callers see of an accepted flow.
 use Rattle.std.specs.Prelude.{◌≡◌, ℕ, ◌<◌, ◌≤◌, All, List, ◌++◌, slice_get, Some, option_and_then, option_map, option_to_list}
 use Rattle.bpf_profile.specs.declared.slot.Slot.{Slot}
+use Rattle.bpf_profile.specs.Limits.{most_slots}
 use Rattle.bpf_profile.specs.Flow.{next_of, distance_of}
 use Rattle.bpf_profile.specs.Machine.{target_of}
 use Rattle.bpf_profile.specs.Meaning.{instruction_at}
@@ -26,5 +27,5 @@ successors_at slots place = record {
 -- slots and budget are those of a program of at most 4,096 slots
 pub record AreFew (successors : List Successors) (budget : ℕ) : Type 0 where
   pub some_steps : 1 ≤ budget
-  pub few_steps : budget ≤ 4096
-  pub few_slots : (place : ℕ) (s : Successors) → slice_get successors place ≡ Some s → All (λ to. to < 4096) (successor_list s)
+  pub few_steps : budget ≤ most_slots
+  pub few_slots : (place : ℕ) (s : Successors) → slice_get successors place ≡ Some s → All (λ to. to < most_slots) (successor_list s)

@@ -1,5 +1,6 @@
 //! Where control may go on after an instruction.
 ghost use Rattle.std.specs.Prelude.{◌≡◌, ℕ, ◌+◌, ◌^◌, ◌<◌, ◌≤◌, length, All, IfSome, option_map, option_and_then};
+ghost use Rattle.bpf_profile.specs.Limits.{most_slots};
 ghost use Rattle.bpf_profile.specs.Spelling.{IsProgram};
 ghost use Rattle.bpf_profile.specs.Machine.{target_of};
 ghost use Rattle.bpf_profile.specs.Meaning.{instruction_at};
@@ -7,20 +8,21 @@ ghost use Rattle.bpf_profile.specs.Flow.{next_of, distance_of, successors, flow_
 ghost use Rattle.flow_check.specs.Routes.{successor_list};
 
 use bpf_profile::{Instruction, Slot, instruction_at};
+use bpf_words::target_of;
 
 /// The slots to which edges lead from a slot of an accepted program, each below 4,096.
 #[derive(Clone, Copy, Debug, PartialEq, Eq)]
 pub struct Successors {
-    /// The slot behind the instruction, two on for a wide immediate; none behind a jump and an exit
-    /// (RFC 9669, sections 3.2 and 4.3).
+    /// The fall-through edge: the next slot, two on for a wide immediate; none after an unconditional jump
+    /// and after exit (RFC 9669, sections 3.2 and 4.3).
     pub next: Option<u32>,
-    /// The slot to which the instruction jumps, always or on a condition (RFC 9669, section 4.3).
+    /// The jump edge: the target of an unconditional or a conditional jump (RFC 9669, section 4.3).
     pub target: Option<u32>,
 }
 
-/// The slot behind the instruction, where control may go on there.
+/// The slot after the instruction, if control may fall through to it.
 pub fn next_of(place: usize, instruction: &Instruction) -> Option<usize>
-    requires { place ≤ 4096 }
+    requires { place ≤ most_slots }
     ensures { result ≡ next_of place instruction.now }
 {
     match instruction {
@@ -30,7 +32,7 @@ pub fn next_of(place: usize, instruction: &Instruction) -> Option<usize>
     }
 }
 
-/// How far the instruction jumps, as a word.
+/// The jump offset of a jump, as a word.
 pub fn distance_of(instruction: &Instruction) -> Option<u64>
     ensures { result ≡ distance_of instruction.now }
 {
@@ -42,17 +44,9 @@ pub fn distance_of(instruction: &Instruction) -> Option<u64>
     }
 }
 
-/// The slot to which a jump leads. The sum wraps, since a distance may be negative.
-pub fn target_of(place: usize, distance: u64) -> usize
-    requires { place ≤ 4096 }
-    ensures { result ≡ target_of place distance }
-{
-    (place as u64 + 1).wrapping_add(distance) as usize
-}
-
 /// The target of the instruction's jump.
 pub fn jump_of(place: usize, instruction: &Instruction) -> Option<usize>
-    requires { place ≤ 4096 }
+    requires { place ≤ most_slots }
     ensures { result ≡ option_map (target_of place) (distance_of instruction.now) }
 {
     distance_of(instruction).map(|distance| target_of(place, distance))
@@ -60,7 +54,7 @@ pub fn jump_of(place: usize, instruction: &Instruction) -> Option<usize>
 
 /// A slot of a program in 32 bits.
 fn narrow(slot: Option<usize>) -> Option<u32>
-    requires { IfSome slot (λ n. n < 4096) }
+    requires { IfSome slot (λ n. n < most_slots) }
     ensures { result ≡ slot }
 {
     match slot {

@@ -1,6 +1,7 @@
-//! To which slots an edge leads.
+//! Which slots have an incoming edge.
 ghost use Rattle.std.specs.Prelude.{◌≡◌, ℕ, ◌<◌, ◌≤◌, length, option_to_list, replicate, false};
 ghost use Rattle.flow_check.specs.Passes.{AreEntered, marked_all};
+ghost use Rattle.bpf_profile.specs.Limits.{most_slots};
 ghost use Rattle.bpf_profile.specs.Flow.{successors};
 
 use crate::edges::{jump_of, next_of};
@@ -19,7 +20,7 @@ fn mark(entered: &mut [bool], slot: Option<usize>)
 
 /// Marks the slots to which edges lead from a slot.
 fn mark_successors(entered: &mut [bool], slots: &[Slot], place: usize)
-    requires few { length slots.now ≤ 4096 }
+    requires few { length slots.now ≤ most_slots }
     requires within { place < length slots.now }
     ensures { entered.new ≡ marked_all entered.old (successors slots.now place) }
 {
@@ -29,10 +30,9 @@ fn mark_successors(entered: &mut [bool], slots: &[Slot], place: usize)
     }
 }
 
-/// Marks each slot where control may come: slot 0, and those to which an edge leads from any
-/// instruction.
+/// Marks each slot that control may reach by an edge: slot 0, and the successors of every instruction.
 pub fn mark_entered(entered: &mut [bool], slots: &[Slot])
-    requires few { length slots.now ≤ 4096 }
+    requires few { length slots.now ≤ most_slots }
     requires unmarked { entered.old ≡ replicate (length slots.now) false }
     ensures { AreEntered slots.now (length slots.now) entered.new }
 {

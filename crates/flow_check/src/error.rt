@@ -2,8 +2,7 @@
 ghost use Rattle.std.specs.Prelude.{◌≡◌};
 ghost use Rattle.flow_check.specs.Refused.{out_of_memory};
 
-use bpf_profile::FaultText;
-use refusals::RefusalNumber;
+use refusals::{RefusalNumber, RefusalText};
 use std::alloc::AllocError;
 use std::fmt;
 use thiserror::Error;
@@ -21,15 +20,14 @@ pub struct FlowError {
 
 impl fmt::Display for FlowError {
     ghost use Rattle.std.specs.Prelude.{Some};
-    ghost use Rattle.bpf_profile.specs.FaultTexts.{fault_text};
-    ghost use Rattle.flow_check.specs.Refused.{fault_of};
+    ghost use Rattle.refusals.specs.Texts.{refusal_text};
 
-    ghost output = { λ error. Some (fault_text (fault_of error)) };
+    ghost output = { λ error. Some (refusal_text error.number error.slot) };
 
     fn fmt<W: fmt::Write>(&self, f: &mut fmt::Formatter<W>) -> fmt::Result {
-        let shown = FaultText {
-            slot: self.slot,
+        let shown = RefusalText {
             number: self.number,
+            place: self.slot as usize,
         };
         write!(f, "{shown}")
     }

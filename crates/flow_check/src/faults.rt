@@ -1,15 +1,17 @@
-//! What is refused before any value is looked at.
+//! Faults of control flow.
 ghost use Rattle.std.specs.Prelude.{◌≡◌, ℕ, ◌<◌, ◌≤◌, length, option_map, IfSome};
+ghost use Rattle.bpf_profile.specs.Limits.{most_slots};
 ghost use Rattle.bpf_profile.specs.Flow.{jump_fault, next_fault, flow_fault_at, flow_fault, is_tail_at};
 ghost use Rattle.flow_check.specs.Passes.{AreEntered, edge_fault};
 ghost use Rattle.flow_check.specs.Refused.{fault_of};
 
-use crate::edges::{distance_of, next_of, target_of};
+use crate::edges::{distance_of, next_of};
 use crate::error::FlowError;
 use bpf_profile::{Instruction, Slot, instruction_at};
+use bpf_words::target_of;
 use refusals::RefusalNumber;
 
-/// A distance from here on is negative.
+/// A jump offset from here on is negative, as a word.
 const LEAST_NEGATIVE: u64 = 1 << 63;
 
 fn is_tail_at(slots: &[Slot], place: usize) -> bool
@@ -21,7 +23,7 @@ fn is_tail_at(slots: &[Slot], place: usize) -> bool
 
 /// What is wrong with a jump: `BackJump`, `JumpOut` or `IntoTail`.
 fn jump_fault(slots: &[Slot], place: usize, distance: u64) -> Option<RefusalNumber>
-    requires { place ≤ 4096 }
+    requires { place ≤ most_slots }
     ensures { result ≡ jump_fault slots.now place distance }
 {
     let target = target_of(place, distance);
@@ -36,7 +38,7 @@ fn jump_fault(slots: &[Slot], place: usize, distance: u64) -> Option<RefusalNumb
     }
 }
 
-/// `FallsOff`, where control would go on past the end.
+/// `FallsOff`, where control would fall through past the end.
 fn next_fault(slots: &[Slot], next: usize) -> Option<RefusalNumber>
     ensures { result ≡ next_fault slots.now next }
 {
@@ -47,9 +49,9 @@ fn next_fault(slots: &[Slot], next: usize) -> Option<RefusalNumber>
     }
 }
 
-/// What is wrong with where control goes on after an instruction.
+/// The first fault of an instruction's outgoing edges.
 fn edge_fault(slots: &[Slot], place: usize, instruction: &Instruction) -> Option<RefusalNumber>
-    requires { place ≤ 4096 }
+    requires { place ≤ most_slots }
     ensures { result ≡ edge_fault slots.now place instruction.now }
 {
     if let Some(distance) = distance_of(instruction)
@@ -61,10 +63,9 @@ fn edge_fault(slots: &[Slot], place: usize, instruction: &Instruction) -> Option
     next_fault(slots, next)
 }
 
-/// What is wrong with the instruction at a slot, the first in the order in which it is tried. With a
-/// tail nothing is wrong.
+/// The first fault of the instruction at a slot, in the order in which faults are tried. A tail has none.
 fn fault_at(slots: &[Slot], entered: &[bool], place: usize) -> Option<RefusalNumber>
-    requires few { length slots.now ≤ 4096 }
+    requires few { length slots.now ≤ most_slots }
     requires entered { AreEntered slots.now (length slots.now) entered.now }
     requires within { place < length slots.now }
     ensures { result ≡ flow_fault_at slots.now place }
@@ -78,10 +79,10 @@ fn fault_at(slots: &[Slot], entered: &[bool], place: usize) -> Option<RefusalNum
 
 /// The first fault of a program.
 pub fn first_fault(slots: &[Slot], entered: &[bool]) -> Option<FlowError>
-    requires few { length slots.now ≤ 4096 }
+    requires few { length slots.now ≤ most_slots }
     requires entered { AreEntered slots.now (length slots.now) entered.now }
     ensures fault { option_map fault_of result ≡ flow_fault slots.now }
-    ensures slot { IfSome result (λ e. e.slot < 4096) }
+    ensures slot { IfSome result (λ e. e.slot < most_slots) }
 {
     for place in 0..slots.len() {
         if let Some(number) = fault_at(slots, entered, place) {

@@ -1,6 +1,7 @@
 //! The flow of an accepted program, and its check.
 ghost use Rattle.std.specs.Prelude.{◌≡◌, ℕ, ◌+◌, ◌<◌, ◌≤◌, ◌⊎◌, length, map, replicate, [], slice_get, option_map, All, OnOk, IfOk, IfErr, IfSome, option_to_list};
 ghost use Rattle.std.specs.List.{range_with_len};
+ghost use Rattle.bpf_profile.specs.Limits.{most_slots};
 ghost use Rattle.bpf_profile.specs.Spelling.{IsProgram};
 ghost use Rattle.bpf_profile.specs.Flow.{IsBudget, successors, flow_fault};
 ghost use Rattle.flow_check.specs.Passes.{IsLengthened};
@@ -12,12 +13,9 @@ use crate::entered::mark_entered;
 use crate::error::FlowError;
 use crate::faults::first_fault;
 use bpf_decode::Program;
-use bpf_profile::Slot;
+use bpf_profile::{MOST_SLOTS, Slot};
 use std::alloc::{AllocError, Global};
 use std::marker::Model;
-
-/// How many slots a program has at most.
-const MOST_SLOTS: usize = 4096;
 
 /// The flow of an accepted program: the edges of each slot, and the budget.
 #[derive(Debug, Drop)]
@@ -40,7 +38,7 @@ impl Flow {
         requires { slot < length self.now.edges }
         ensures edges { slice_get self.now.edges slot ≡ Some (successor_list result) }
         ensures kinds { slice_get self.now.successors slot ≡ Some result }
-        ensures few { All (λ to. to < 4096) (successor_list result) }
+        ensures few { All (λ to. to < most_slots) (successor_list result) }
     {
         self.edges[slot]
     }
@@ -49,13 +47,13 @@ impl Flow {
     pub fn budget(&self) -> u32
         ensures budget { result ≡ self.now.budget }
         ensures some { 1 ≤ result }
-        ensures few { result ≤ 4096 }
+        ensures few { result ≤ most_slots }
     {
         self.budget
     }
 }
 
-/// Notes that a walk of `count` slots ends at the slot, if there is one; a longer walk stays noted.
+/// Records that a walk of `count` slots ends at a slot, if there is one, unless a longer one is recorded.
 fn lengthen(longest: &mut [u32], to: Option<u32>, count: u32)
     requires { IfSome to (λ slot. slot < length longest.old) }
     ensures { IsLengthened longest.old longest.new count (option_to_list to) }
@@ -66,7 +64,7 @@ fn lengthen(longest: &mut [u32], to: Option<u32>, count: u32)
     }
 }
 
-/// Notes that walks of `count` slots end at the successors.
+/// Records that walks of `count` slots end at the successors.
 fn follow(longest: &mut [u32], successors: Successors, count: u32)
     requires { All (λ to. to < length longest.old) (successor_list successors) }
     ensures { IsLengthened longest.old longest.new count (successor_list successors) }
@@ -121,9 +119,9 @@ fn routes_of(alloc: Global, slots: &[Slot]) -> Result<Flow, AllocError>
 
 /// The first fault of a program.
 fn fault(slots: &[Slot]) -> Option<FlowError>
-    requires { length slots.now ≤ 4096 }
+    requires { length slots.now ≤ most_slots }
     ensures fault { option_map fault_of result ≡ flow_fault slots.now }
-    ensures slot { IfSome result (λ e. e.slot < 4096) }
+    ensures slot { IfSome result (λ e. e.slot < most_slots) }
 {
     let mut marks = [false; MOST_SLOTS];
     let entered = &mut marks[..slots.len()];
@@ -147,7 +145,7 @@ pub fn check(alloc: Global, program: &Program) -> Result<Flow, FlowError>
     // An error is the first fault, unless memory ran out.
     ensures refused { IfErr result (λ e. (e ≡ out_of_memory) ⊎ (flow_fault program.now ≡ Some (fault_of e))) }
     // Its slot is one that a program may have.
-    ensures slot { IfErr result (λ e. e.slot < 4096) }
+    ensures slot { IfErr result (λ e. e.slot < most_slots) }
 {
     let slots = program.slots();
     if let Some(error) = fault(slots) {

@@ -3,6 +3,7 @@ use Rattle.std.specs.Prelude.{ℕ, ◌^◌, List, [], ◌∷◌, length, Option,
 use Rattle.hex.specs.Hex.{decode_of}
 use Rattle.serde_json.specs.Data.{Data, Items, no_items, item}
 use Rattle.serde_json.specs.Find.{get, as_number, as_u64, as_str, as_array, as_object}
+use Rattle.bpf_profile.specs.Limits.{front_size, fact_count, most_tag_bytes}
 use Rattle.bpf_profile.specs.Outcomes.{Outcome}
 use Rattle.helpers.specs.declared.fields.Fields.{Fields}
 use Rattle.helpers.specs.declared.fields.Kind.{Kind}
@@ -63,10 +64,10 @@ abbrev pub bytes_at : ℕ → List ℕ → Data → Option (List ℕ)
 bytes_at limit key d = if_there [] (λ v. option_and_then (hex_bytes limit) (as_str v)) (get key d)
 
 abbrev pub front_at : Data → Option (List ℕ)
-front_at d = option_map (padded 64) (bytes_at 64 (codes "body_front") d)
+front_at d = option_map (padded front_size) (bytes_at front_size (codes "body_front") d)
 
 abbrev pub tag_at : Data → Option (List ℕ)
-tag_at d = bytes_at 32 (codes "tag") d
+tag_at d = bytes_at most_tag_bytes (codes "tag") d
 
 -- each item as a whole number
 abbrev pub numbers_of : Items → Option (List ℕ)
@@ -74,10 +75,10 @@ numbers_of no_items = Some []
 numbers_of (item d ds) = option_and_then (λ n. option_map (λ ns. n ∷ ns) (numbers_of ds)) (u64_of d)
 
 abbrev pub facts_of : Items → Option (List ℕ)
-facts_of items = option_and_then (at_most 16) (numbers_of items)
+facts_of items = option_and_then (at_most fact_count) (numbers_of items)
 
 abbrev pub facts_at : Data → Option (List ℕ)
-facts_at d = option_map (padded 16) (if_there [] (λ v. option_and_then facts_of (as_array v)) (get (codes "facts") d))
+facts_at d = option_map (padded fact_count) (if_there [] (λ v. option_and_then facts_of (as_array v)) (get (codes "facts") d))
 
 -- ---- the whole
 

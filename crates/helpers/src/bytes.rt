@@ -1,10 +1,10 @@
-//! Stretches of bytes.
+//! Byte buffers.
 ghost use Rattle.std.specs.Prelude.{◌≡◌, ◌≤◌, ◌<◌, ◌^◌, length};
 ghost use Rattle.std.specs.List.{AllByRecursion};
 ghost use Rattle.bpf_profile.specs.Outcomes.{AreBytes};
 ghost use Rattle.helpers.specs.Padded.{padded};
 
-/// Writes bytes, and zeros over what is left of the room.
+/// Writes bytes at a buffer's start and fills the rest with zeros.
 pub fn write_padded(bytes: &[u8], room: &mut [u8])
     requires { length bytes.now ≤ length room.old }
     ensures { room.new ≡ padded (length room.old) bytes.now }

@@ -4,6 +4,7 @@ ghost use Rattle.helpers.specs.Layout.{kind_number, method_number, context_of};
 ghost use Rattle.helpers.specs.Names.{kind_named, method_named};
 
 use crate::writer::Writer;
+use bpf_profile::{CONTEXT_SIZE, FRONT_SIZE};
 
 /// How a call ended.
 #[derive(Clone, Copy, Debug, PartialEq, Eq)]
@@ -97,7 +98,7 @@ impl Method {
     }
 }
 
-/// The fields of a context.
+/// The fields of a context, as numbers.
 #[derive(Clone, Copy)]
 pub struct Fields {
     pub kind: Kind,
@@ -110,14 +111,14 @@ pub struct Fields {
     pub method: Method,
     pub flags: u64,
     pub body_length: u64,
-    /// The first bytes of the body, and zeros behind them.
-    pub front: [u8; 64],
+    /// The first bytes of the body; zeros fill the rest.
+    pub front: [u8; FRONT_SIZE],
 }
 
 impl Fields {
     /// The context with these fields.
     #[tactic(auto, unfolding(crate::specs::Layout::context_of))]
-    pub fn context(&self) -> [u8; 128]
+    pub fn context(&self) -> [u8; CONTEXT_SIZE]
         ensures { result ≡ context_of self.now }
     {
         let mut context = Writer::new();

@@ -3,9 +3,9 @@ ghost use Rattle.std.specs.Prelude.{◌≡◌, length, Some, None, MatchOption};
 ghost use Rattle.helpers.specs.Json.{hex_bytes};
 ghost use Rattle.helpers.specs.Padded.{padded};
 
-/// Reads bytes into the room, and zeros behind them. Returns how many bytes there are; None where
-/// the text has an odd length, another character or more bytes than the room, of which then
-/// nothing is said.
+/// Decodes hexadecimal into a buffer and fills the rest of it with zeros. Returns the number of bytes
+/// decoded; None where the text has an odd length, a character that is no digit, or more bytes than the
+/// buffer, whose content is then unspecified.
 pub fn read_padded(text: &str, room: &mut [u8]) -> Option<usize>
     ensures { MatchOption (hex_bytes (length room.old) text.now)
         (result ≡ None)

@@ -3,13 +3,14 @@ ghost use Rattle.std.specs.Prelude.{◌≡◌, None, Some, IfOk, OnErr, IfErr, o
 ghost use Rattle.serde_json.specs.View.{view, items_view};
 ghost use Rattle.helpers.specs.Padded.{padded};
 ghost use Rattle.helpers.specs.Json.{u64_at, u32_at, kind_at, method_at, front_at, tag_at, facts_of, facts_at, fields_of, outcome_of};
+ghost use Rattle.bpf_profile.specs.Limits.{fact_count};
 
 use crate::fields::{Fields, Kind, Method};
 use crate::hexadecimal::read_padded;
 use crate::record::Record;
 use crate::tag::Tag;
-use bpf_profile::FaultText;
-use refusals::RefusalNumber;
+use bpf_profile::{FACT_COUNT, FRONT_SIZE, MOST_TAG_BYTES};
+use refusals::{RefusalNumber, RefusalText};
 use serde_json::Value;
 use std::fmt;
 use thiserror::Error;
@@ -23,14 +24,14 @@ pub struct BadField {
 
 impl fmt::Display for BadField {
     ghost use Rattle.std.specs.Prelude.{Some};
-    ghost use Rattle.bpf_profile.specs.FaultTexts.{fault_text};
+    ghost use Rattle.refusals.specs.Texts.{refusal_text};
 
-    ghost output = { λ error. Some (fault_text (record { slot = 0; number = error.number })) };
+    ghost output = { λ error. Some (refusal_text error.number 0) };
 
     fn fmt<W: fmt::Write>(&self, f: &mut fmt::Formatter<W>) -> fmt::Result {
-        let shown = FaultText {
-            slot: 0,
+        let shown = RefusalText {
             number: self.number,
+            place: 0,
         };
         write!(f, "{shown}")
     }
@@ -63,7 +64,7 @@ fn kind(value: &Value) -> Option<Kind>
     }
 }
 
-/// The method; every text names one.
+/// The method; a text that names none stands for another method.
 fn method(value: &Value) -> Option<Method>
     ensures { result ≡ method_at (view value.now) }
 {
@@ -73,11 +74,11 @@ fn method(value: &Value) -> Option<Method>
     }
 }
 
-/// The front of the body, and zeros behind it.
-fn front(value: &Value) -> Option<[u8; 64]>
+/// The front of the body; zeros fill the rest.
+fn front(value: &Value) -> Option<[u8; FRONT_SIZE]>
     ensures { result ≡ front_at (view value.now) }
 {
-    let mut front = [0; 64];
+    let mut front = [0; FRONT_SIZE];
     if let Some(found) = value.get("body_front") {
         read_padded(found.as_str()?, &mut front)?;
     }
@@ -91,19 +92,19 @@ fn tag(value: &Value) -> Option<Tag>
     let Some(found) = value.get("tag") else {
         return Tag::new(&[]);
     };
-    let mut room = [0; 32];
+    let mut room = [0; MOST_TAG_BYTES];
     let count = read_padded(found.as_str()?, &mut room)?;
     Tag::new(&room[..count])
 }
 
-/// At most sixteen numbers, and zeros behind them.
-fn numbers(items: &[Value]) -> Option<[u64; 16]>
-    ensures { result ≡ option_map (padded 16) (facts_of (items_view items.now)) }
+/// At most sixteen numbers; zeros fill the rest.
+fn numbers(items: &[Value]) -> Option<[u64; FACT_COUNT]>
+    ensures { result ≡ option_map (padded fact_count) (facts_of (items_view items.now)) }
 {
-    if items.len() > 16 {
+    if items.len() > FACT_COUNT {
         return None;
     }
-    let mut numbers = [0; 16];
+    let mut numbers = [0; FACT_COUNT];
     for (i, item) in items.iter().enumerate() {
         numbers[i] = item.as_u64()?;
     }
@@ -111,11 +112,11 @@ fn numbers(items: &[Value]) -> Option<[u64; 16]>
 }
 
 /// The facts; zeros where the key is missing.
-fn facts(value: &Value) -> Option<[u64; 16]>
+fn facts(value: &Value) -> Option<[u64; FACT_COUNT]>
     ensures { result ≡ facts_at (view value.now) }
 {
     match value.get("facts") {
-        None => Some([0; 16]),
+        None => Some([0; FACT_COUNT]),
         Some(found) => numbers(found.as_array()?),
     }
 }
@@ -139,7 +140,7 @@ fn fields(value: &Value) -> Option<Fields>
     })
 }
 
-/// The whole record; None where the value is no object, too.
+/// The whole record; None also where the value is no object.
 #[tactic(auto, unfolding(crate::specs::Json::outcome_of))]
 fn outcome(value: &Value) -> Option<Record>
     ensures { result ≡ outcome_of (view value.now) }

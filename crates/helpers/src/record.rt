@@ -2,18 +2,16 @@
 ghost use Rattle.std.specs.Prelude.{◌≡◌, ◌≤◌, ◌<◌, ◌+◌, ◌%◌, length, drop, IsNone, IfSome, ◌↔◌, nat_eq, slice_index};
 ghost use Rattle.std.specs.List.{starts_with};
 ghost use Rattle.byteorder.specs.Endian.{little_number};
-ghost use Rattle.bpf_profile.specs.Helpers.{front, tag_front};
+ghost use Rattle.bpf_profile.specs.Limits.{context_size, front_offset, front_size, fact_count, most_tag_bytes};
+ghost use Rattle.bpf_profile.specs.Helpers.{tag_front};
 ghost use Rattle.bpf_profile.specs.Outcomes.{IsOutcome, duration_of};
 ghost use Rattle.bpf_profile.specs.Words.{bytes_in};
 
 use crate::bytes::{show_bytes, show_words, write_padded};
 use crate::tag::Tag;
-use bpf_profile::Size;
+use bpf_profile::{CONTEXT_SIZE, FACT_COUNT, FRONT_OFFSET, Size};
 use byteorder::{ByteOrder, LittleEndian};
 use std::marker::Model;
-
-/// Where the front of the body begins in the context.
-const FRONT: usize = 64;
 
 /// Where the duration stands in the context.
 const DURATION: usize = 8;
@@ -30,8 +28,8 @@ const DURATION: usize = 8;
 /// body's first 64 bytes, filled up with zeros.
 #[derive(Clone, Copy, Debug, PartialEq)]
 pub struct Record {
-    context: [u8; 128],
-    facts: [u64; 16],
+    context: [u8; CONTEXT_SIZE],
+    facts: [u64; FACT_COUNT],
     tag: Tag,
 }
 
@@ -40,21 +38,19 @@ impl Model for Record {
 
     ghost Value = { Outcome };
 
+    ghost use Rattle.bpf_profile.specs.Limits.{context_size};
     ghost use Rattle.helpers.specs.RecordFields.{outcome_in};
 
     ghost view = { outcome_in };
 
-    ghost invariant = { λ inside. IsOutcome 128 (outcome_in inside) };
+    ghost invariant = { λ inside. IsOutcome context_size (outcome_in inside) };
 
     ghost inverse = { λ o. record { context = o.context; facts = o.facts; tag = o.tag } };
 }
 
 impl Record {
-    /// How many bytes a context has.
-    pub const CONTEXT: usize = 128;
-
     /// The record of these parts.
-    pub(crate) fn new(context: [u8; 128], facts: [u64; 16], tag: Tag) -> Record
+    pub(crate) fn new(context: [u8; CONTEXT_SIZE], facts: [u64; FACT_COUNT], tag: Tag) -> Record
         ensures { result ≡ record { context = context; facts = facts; tag = tag } }
     {
         show_bytes(&context);
@@ -68,8 +64,12 @@ impl Record {
     }
 
     /// The record of these parts; None exactly where the tag has over 32 bytes.
-    pub fn from_parts(context: [u8; 128], facts: [u64; 16], tag: &[u8]) -> Option<Record>
-        ensures none { IsNone result ↔ (32 < length tag.now) }
+    pub fn from_parts(
+        context: [u8; CONTEXT_SIZE],
+        facts: [u64; FACT_COUNT],
+        tag: &[u8],
+    ) -> Option<Record>
+        ensures none { IsNone result ↔ (most_tag_bytes < length tag.now) }
         ensures some { IfSome result (λ outcome. outcome ≡ record { context = context; facts = facts; tag = tag.now }) }
     {
         let tag = Tag::new(tag)?;
@@ -77,17 +77,17 @@ impl Record {
     }
 
     /// The context's bytes.
-    pub fn context(&self) -> &[u8; 128]
+    pub fn context(&self) -> &[u8; CONTEXT_SIZE]
         ensures bytes { result.now ≡ self.now.context }
-        ensures fits { IsOutcome 128 self.now }
+        ensures fits { IsOutcome context_size self.now }
     {
         &self.context
     }
 
     /// The facts, in their order.
-    pub fn facts(&self) -> &[u64; 16]
+    pub fn facts(&self) -> &[u64; FACT_COUNT]
         ensures words { result.now ≡ self.now.facts }
-        ensures fits { IsOutcome 128 self.now }
+        ensures fits { IsOutcome context_size self.now }
     {
         &self.facts
     }
@@ -95,7 +95,7 @@ impl Record {
     /// The tag's bytes, at most 32.
     pub fn tag(&self) -> &[u8]
         ensures bytes { result.now ≡ self.now.tag }
-        ensures fits { IsOutcome 128 self.now }
+        ensures fits { IsOutcome context_size self.now }
     {
         self.tag.as_bytes()
     }
@@ -103,7 +103,7 @@ impl Record {
     /// The number of this size at an offset of the context, its lowest byte first.
     pub fn word_at(&self, offset: usize, size: Size) -> u64
         requires aligned { offset % bytes_in size ≡ 0 }
-        requires inside { offset + bytes_in size ≤ 128 }
+        requires inside { offset + bytes_in size ≤ context_size }
         ensures { result ≡ little_number (bytes_in size) (drop offset self.now.context) }
     {
         let bytes = &self.context[offset..];
@@ -124,7 +124,7 @@ impl Record {
 
     /// Helper 1: a fact, by its place from 0 to 15.
     pub fn fact(&self, i: usize) -> u64
-        requires { i < 16 }
+        requires { i < fact_count }
         ensures { result ≡ slice_index self.now.facts i }
     {
         self.facts[i]
@@ -132,10 +132,10 @@ impl Record {
 
     /// Helper 2: a byte of the body's front, by its place from 0 to 63.
     pub fn front_byte(&self, i: usize) -> u8
-        requires { i < 64 }
-        ensures { result ≡ slice_index self.now.context (front + i) }
+        requires { i < front_size }
+        ensures { result ≡ slice_index self.now.context (front_offset + i) }
     {
-        self.context[FRONT + i]
+        self.context[FRONT_OFFSET + i]
     }
 
     /// Helper 3: writes the tag's first bytes to all of `to`, with zeros past the tag's end. Returns

@@ -1,15 +1,17 @@
 //! The tag of a record.
 ghost use Rattle.std.specs.Prelude.{◌≡◌, ◌≤◌, ◌<◌, length, IsNone, IfSome, ◌↔◌};
+ghost use Rattle.bpf_profile.specs.Limits.{most_tag_bytes};
 ghost use Rattle.bpf_profile.specs.Outcomes.{AreBytes};
 
 use crate::bytes::write_padded;
+use bpf_profile::MOST_TAG_BYTES;
 use std::marker::Model;
 
-/// At most 32 bytes.
+/// A tag: a label of at most 32 bytes that an application attaches to an outcome.
 #[derive(Clone, Copy, Debug, PartialEq)]
 pub struct Tag {
-    /// The bytes, and zeros behind them.
-    bytes: [u8; 32],
+    /// The bytes; zeros fill the rest.
+    bytes: [u8; MOST_TAG_BYTES],
     count: usize,
 }
 
@@ -18,6 +20,7 @@ impl Model for Tag {
 
     ghost Value = { List ℕ };
 
+    ghost use Rattle.bpf_profile.specs.Limits.{most_tag_bytes};
     ghost use Rattle.helpers.specs.Padded.{padded};
     ghost use Rattle.helpers.specs.TagFields.{IsTag, tag_of_fields};
 
@@ -25,7 +28,7 @@ impl Model for Tag {
 
     ghost invariant = { λ tag. IsTag tag.bytes tag.count (take tag.count tag.bytes) };
 
-    ghost inverse = { λ bytes. record { bytes = padded 32 bytes; count = length bytes } };
+    ghost inverse = { λ bytes. record { bytes = padded most_tag_bytes bytes; count = length bytes } };
 
     ghost inverse_ok = { λ tag is. tag_of_fields tag is };
 }
@@ -33,13 +36,13 @@ impl Model for Tag {
 impl Tag {
     /// The tag of these bytes; None where there are over 32.
     pub fn new(bytes: &[u8]) -> Option<Tag>
-        ensures none { IsNone result ↔ (32 < length bytes.now) }
+        ensures none { IsNone result ↔ (most_tag_bytes < length bytes.now) }
         ensures some { IfSome result (λ tag. tag ≡ bytes.now) }
     {
-        if bytes.len() > 32 {
+        if bytes.len() > MOST_TAG_BYTES {
             return None;
         }
-        let mut room = [0; 32];
+        let mut room = [0; MOST_TAG_BYTES];
         write_padded(bytes, &mut room);
         Some(Tag {
             bytes: room,
@@ -50,7 +53,7 @@ impl Tag {
     /// The bytes.
     pub fn as_bytes(&self) -> &[u8]
         ensures bytes { result.now ≡ self.now }
-        ensures short { length self.now ≤ 32 }
+        ensures short { length self.now ≤ most_tag_bytes }
         ensures in_range { AreBytes self.now }
     {
         &self.bytes[..self.count]

@@ -1,13 +1,15 @@
 //! A context that is written from its start to its end.
 ghost use Rattle.std.specs.Prelude.{◌≡◌, ◌≤◌, ◌+◌, ◌++◌, [], length};
 ghost use Rattle.byteorder.specs.Endian.{little_bytes};
+ghost use Rattle.bpf_profile.specs.Limits.{context_size};
 
+use bpf_profile::CONTEXT_SIZE;
 use std::marker::Model;
 
 /// The bytes that have been written.
 #[derive(Drop)]
 pub struct Writer {
-    room: [u8; 128],
+    room: [u8; CONTEXT_SIZE],
     count: usize,
 }
 
@@ -16,9 +18,11 @@ impl Model for Writer {
 
     ghost Value = { List ℕ };
 
+    ghost use Rattle.bpf_profile.specs.Limits.{context_size};
+
     ghost view = { λ writer. take writer.count writer.room };
 
-    ghost invariant = { λ writer. writer.count ≤ 128 };
+    ghost invariant = { λ writer. writer.count ≤ context_size };
 }
 
 impl Writer {
@@ -26,14 +30,14 @@ impl Writer {
         ensures { result ≡ [] }
     {
         Writer {
-            room: [0; 128],
+            room: [0; CONTEXT_SIZE],
             count: 0,
         }
     }
 
-    /// Writes bytes.
+    /// Appends bytes.
     pub fn push(&mut self, bytes: &[u8])
-        requires { length self.old + length bytes.now ≤ 128 }
+        requires { length self.old + length bytes.now ≤ context_size }
         ensures { self.new ≡ self.old ++ bytes.now }
     {
         let end = self.count + bytes.len();
@@ -43,7 +47,7 @@ impl Writer {
 
     /// Writes a number, its lowest byte first.
     pub fn push_u32(&mut self, number: u32)
-        requires { length self.old + 4 ≤ 128 }
+        requires { length self.old + 4 ≤ context_size }
         ensures { self.new ≡ self.old ++ little_bytes 4 number }
     {
         self.push(&number.to_le_bytes());
@@ -51,15 +55,15 @@ impl Writer {
 
     /// Writes a number, its lowest byte first.
     pub fn push_u64(&mut self, number: u64)
-        requires { length self.old + 8 ≤ 128 }
+        requires { length self.old + 8 ≤ context_size }
         ensures { self.new ≡ self.old ++ little_bytes 8 number }
     {
         self.push(&number.to_le_bytes());
     }
 
     /// The bytes of a whole context.
-    pub fn bytes(self) -> [u8; 128]
-        requires { length self ≡ 128 }
+    pub fn bytes(self) -> [u8; CONTEXT_SIZE]
+        requires { length self ≡ context_size }
         ensures { result ≡ self }
     {
         self.room

@@ -1,19 +1,20 @@
 -- The table of refusals: number, name and HTTP status of each (RFC 9110, section 15).
-use Rattle.std.specs.Prelude.{ℕ, List, Option, Some, None, codes}
+use Rattle.std.specs.Prelude.{ℕ, Bool, true, false, List, codes}
 use Rattle.refusals.specs.declared.RefusalNumber.{RefusalNumber}
 use Rattle.refusals.specs.declared.RefusalNumber.TheVariants as is
 
 pub record Row : Type 0 where
   pub number : ℕ
   pub name : List ℕ
-  pub status : Option ℕ
+  pub status : ℕ
+  pub is_answered : Bool
 
 abbrev pub answered : ℕ → List ℕ → ℕ → Row
-answered number name status = record { number = number; name = name; status = Some status }
+answered number name status = record { number = number; name = name; status = status; is_answered = true }
 
--- a refusal that HTTP never answers
+-- a refusal that HTTP never answers: in an answer it would be a fault of the server (section 15.6.1)
 abbrev pub unanswered : ℕ → List ℕ → Row
-unanswered number name = record { number = number; name = name; status = None }
+unanswered number name = record { number = number; name = name; status = 500; is_answered = false }
 
 abbrev pub row_of : RefusalNumber → Row
 row_of is.Length = answered 1 (codes "Length") 422
@@ -77,5 +78,8 @@ number_of r = (row_of r).number
 abbrev pub name_of : RefusalNumber → List ℕ
 name_of r = (row_of r).name
 
-abbrev pub status_of : RefusalNumber → Option ℕ
+abbrev pub status_of : RefusalNumber → ℕ
 status_of r = (row_of r).status
+
+abbrev pub is_answered : RefusalNumber → Bool
+is_answered r = (row_of r).is_answered

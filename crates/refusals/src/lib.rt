@@ -1,12 +1,15 @@
 //! Every refusal of the product, with its number, its name and its HTTP status.
 #![tactic(auto)]
 
-ghost use Rattle.std.specs.Prelude.{◌≡◌};
-ghost use Rattle.refusals.specs.Table.{number_of, name_of, status_of};
+ghost use Rattle.std.specs.Prelude.{◌≡◌, true, false};
+ghost use Rattle.refusals.specs.Table.{number_of, name_of, status_of, is_answered};
 
 pub mod laws;
+mod refusal_text;
 #[cfg(test)]
 mod tests;
+
+pub use refusal_text::RefusalText;
 
 /// Why something was refused. A refusal leaves what it was asked of as it was, except where the
 /// documented machine makes an entry in the journal.
@@ -127,32 +130,38 @@ pub enum RefusalNumber {
 struct Row {
     number: u8,
     name: &'static str,
-    status: Option<u16>,
+    status: u16,
+    is_answered: bool,
 }
 
 impl Row {
     fn answered(number: u8, name: &'static str, status: u16) -> Row
         ensures number { result.number ≡ number }
         ensures name { result.name.now ≡ name.now }
-        ensures status { result.status ≡ Some status }
+        ensures status { result.status ≡ status }
+        ensures answered { result.is_answered ≡ true }
     {
         Row {
             number,
             name,
-            status: Some(status),
+            status,
+            is_answered: true,
         }
     }
 
-    /// The row of a refusal that HTTP never answers.
+    /// The row of a refusal that HTTP never answers. In an answer it would be a fault of the server, whose
+    /// status is 500 (RFC 9110, section 15.6.1).
     fn unanswered(number: u8, name: &'static str) -> Row
         ensures number { result.number ≡ number }
         ensures name { result.name.now ≡ name.now }
-        ensures status { result.status ≡ None }
+        ensures status { result.status ≡ 500 }
+        ensures answered { result.is_answered ≡ false }
     {
         Row {
             number,
             name,
-            status: None,
+            status: 500,
+            is_answered: false,
         }
     }
 }
@@ -162,6 +171,7 @@ impl RefusalNumber {
         ensures number { result.number ≡ number_of self }
         ensures name { result.name.now ≡ name_of self }
         ensures status { result.status ≡ status_of self }
+        ensures answered { result.is_answered ≡ is_answered self }
     {
         match self {
             RefusalNumber::Length => Row::answered(1, "Length", 422),
@@ -235,10 +245,18 @@ impl RefusalNumber {
         self.row().name
     }
 
-    /// The status code of an HTTP answer (RFC 9110, section 15), or None where HTTP never answers it.
-    pub fn status(self) -> Option<u16>
+    /// The status code of an HTTP answer (RFC 9110, section 15). A refusal that HTTP never answers has 500,
+    /// since an answer with it would be a fault of the server.
+    pub fn status(self) -> u16
         ensures { result ≡ status_of self }
     {
         self.row().status
+    }
+
+    /// Whether HTTP answers it.
+    pub fn is_answered(self) -> bool
+        ensures { result ≡ is_answered self }
+    {
+        self.row().is_answered
     }
 }

@@ -4,36 +4,40 @@ use super::RefusalNumber;
 #[test]
 fn rows_are_those_of_answers(rt: HostRuntime) {
     let rows = [
-        (RefusalNumber::AnswerRange, 22, "AnswerRange", Some(422)),
+        (RefusalNumber::AnswerRange, 22, "AnswerRange", 422, true),
         (
             RefusalNumber::ProgramOutOfMemory,
             23,
             "OutOfMemory",
-            Some(503),
+            503,
+            true,
         ),
         (
             RefusalNumber::CallNotPermitted,
             31,
             "CallNotPermitted",
-            Some(503),
+            503,
+            true,
         ),
-        (RefusalNumber::BulkheadFull, 32, "BulkheadFull", Some(429)),
-        (RefusalNumber::TicketSpent, 34, "TicketSpent", Some(409)),
-        (RefusalNumber::JournalFull, 37, "JournalFull", Some(503)),
-        (RefusalNumber::BadTextLength, 44, "BadLength", None),
-        (RefusalNumber::BadConfig, 47, "BadConfig", None),
+        (RefusalNumber::BulkheadFull, 32, "BulkheadFull", 429, true),
+        (RefusalNumber::TicketSpent, 34, "TicketSpent", 409, true),
+        (RefusalNumber::JournalFull, 37, "JournalFull", 503, true),
+        (RefusalNumber::BadTextLength, 44, "BadLength", 500, false),
+        (RefusalNumber::BadConfig, 47, "BadConfig", 500, false),
         (
             RefusalNumber::TransferCoding,
             55,
             "TransferCoding",
-            Some(501),
+            501,
+            true,
         ),
-        (RefusalNumber::BadValue, 59, "BadField", Some(422)),
-        (RefusalNumber::SeatsMissing, 73, "SeatsMissing", None),
+        (RefusalNumber::BadValue, 59, "BadField", 422, true),
+        (RefusalNumber::SeatsMissing, 73, "SeatsMissing", 500, false),
     ];
-    for (refusal, number, name, status) in rows {
+    for (refusal, number, name, status, is_answered) in rows {
         assert_eq!(rt; refusal.number(), number);
         assert_eq!(rt; refusal.name(), name);
         assert_eq!(rt; refusal.status(), status);
+        assert_eq!(rt; refusal.is_answered(), is_answered);
     }
 }

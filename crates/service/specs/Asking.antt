@@ -1,11 +1,11 @@
 -- What a service answers, by its history.
 use Rattle.std.specs.Prelude.{◌≡◌, ◌⊎◌, ℕ, List, Result, Ok, Err}
+use Rattle.bpf_profile.specs.Limits.{context_size}
 use Rattle.bpf_profile.specs.Safety.{IsSafe}
 use Rattle.bpf_profile.specs.JudgedWork.{JudgedData, IsTied}
 use Rattle.refusals.specs.declared.RefusalNumber.{RefusalNumber}
 use Rattle.refusals.specs.declared.RefusalNumber.TheVariants as refusal
 use Rattle.verifier.specs.declared.refusal.Refusal.{Refusal}
-use Rattle.bpf_profile.specs.Outcomes.{context_size}
 use Rattle.bpf_profile.specs.Programs.{VerifiedProgram}
 use Rattle.verifier.specs.Verifying.{IsVerification, IsRefused, fault_of, out_of_memory}
 use Rattle.service_profile.specs.declared.replies.Reply.{Reply}

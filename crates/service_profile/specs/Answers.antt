@@ -10,6 +10,7 @@ use Rattle.service_profile.specs.declared.tickets.OpenTicket.{OpenTicket}
 use Rattle.service_profile.specs.declared.replies.Reply.{Reply}
 use Rattle.service_profile.specs.declared.replies.Reply.TheVariants as reply
 use Rattle.service_profile.specs.declared.notes.Totals.{Totals}
+use Rattle.service_profile.specs.Limits.{most_page_entries, greatest_number}
 use Rattle.service_profile.specs.Events.{EventData, EntryData, line, Opening, History}
 use Rattle.service_profile.specs.Histories.{Past, past_of, machine, raised, greatest, next_line, install_at, situation_of, refused_of}
 use Rattle.service_profile.specs.Machine.{Situation, is_entered, is_issued, open_ticket, program_from, current_version}
@@ -100,7 +101,7 @@ lines_from history from = drop (from - history.opening.line) history.lines
 -- ---- a page: at most 100 lines, from a number on
 
 abbrev pub page_from : History → ℕ → List EntryData
-page_from history from = take 100 (lines_from history from)
+page_from history from = take most_page_entries (lines_from history from)
 
 -- the page; or no memory for copies, where there is a line to be copied
 pub data IsPage (history : History) (from : ℕ) (result : Result (List EntryData) RefusalNumber) : Type 0 where
@@ -118,7 +119,7 @@ abbrev pub current_program : Past → VerifiedProgram
 current_program past = last_of past.opening.program (filter_map install_at past.stages)
 
 abbrev pub is_past_the_limit : ℕ → Bool
-is_past_the_limit number = nat_lt (2 ^ 63) number
+is_past_the_limit number = nat_lt greatest_number number
 
 -- a number that would go on is past its limit
 abbrev pub is_worn_out : Past → Bool

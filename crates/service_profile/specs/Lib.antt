@@ -1,3 +1,4 @@
+pub mod Limits
 pub mod Configuration
 pub mod Windows
 pub mod Standings

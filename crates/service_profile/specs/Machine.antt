@@ -22,6 +22,7 @@ use Rattle.service_profile.specs.declared.replies.Reply.TheVariants as reply
 use Rattle.service_profile.specs.declared.states.State.{State}
 use Rattle.service_profile.specs.declared.states.State.TheVariants as state
 use Rattle.service_profile.specs.declared.notes.Note.{Note}
+use Rattle.service_profile.specs.Limits.{most_versions, most_entries}
 use Rattle.service_profile.specs.Events.{EventData, acquires, finishes, releases, installs, moves, resets}
 use Rattle.service_profile.specs.Rates.{after_notes}
 use Rattle.service_profile.specs.Standings.{moved, is_half_open, is_disabled}
@@ -203,7 +204,7 @@ released s ticket = if is_issued s ticket then released_under s (open_ticket s.o
 -- at most 256 versions are held
 abbrev pub installed : Situation → VerifiedProgram → Decision
 installed s program =
-    if nat_le 256 (length s.programs)
+    if nat_le most_versions (length s.programs)
     then refused s.standing refusal.VersionsFull
     else record { reply = reply.Installed (s.first_version + length s.programs) program.budget; next = s.standing }
 
@@ -225,12 +226,12 @@ abbrev pub used : Situation → ℕ
 used s = s.held + length s.open_tickets
 
 abbrev pub is_full : Situation → EventData → Bool
-is_full s acquires = nat_lt 65534 (used s)
-is_full s (finishes work ticket) = nat_lt 65535 (used s) && not (is_open s.open_tickets ticket)
-is_full s (releases ticket) = nat_lt 65535 (used s) && not (is_open s.open_tickets ticket)
-is_full s (installs program) = nat_lt 65535 (used s)
-is_full s (moves state) = nat_lt 65535 (used s)
-is_full s resets = nat_lt 65535 (used s)
+is_full s acquires = nat_lt (most_entries - 2) (used s)
+is_full s (finishes work ticket) = nat_lt (most_entries - 1) (used s) && not (is_open s.open_tickets ticket)
+is_full s (releases ticket) = nat_lt (most_entries - 1) (used s) && not (is_open s.open_tickets ticket)
+is_full s (installs program) = nat_lt (most_entries - 1) (used s)
+is_full s (moves state) = nat_lt (most_entries - 1) (used s)
+is_full s resets = nat_lt (most_entries - 1) (used s)
 
 -- a full journal is answered before anything else is looked at
 unfoldable pub decision : Situation → ℕ → EventData → Decision

@@ -1,9 +1,9 @@
 -- What it means that a verdict is the meaning's for the version that its ticket names.
 use Rattle.std.specs.Prelude.{◌≡◌, ℕ, List, Contains, Some}
 use Rattle.bpf_profile.specs.declared.machine.Verdict.{Verdict}
+use Rattle.bpf_profile.specs.Limits.{context_size}
 use Rattle.bpf_profile.specs.JudgedWork.{JudgedData}
 use Rattle.bpf_profile.specs.Meaning.{Judges}
-use Rattle.bpf_profile.specs.Outcomes.{context_size}
 use Rattle.bpf_profile.specs.Programs.{VerifiedProgram}
 use Rattle.service_profile.specs.declared.replies.Fate.{Fate}
 use Rattle.service_profile.specs.declared.replies.Reply.TheVariants as reply

@@ -2,6 +2,7 @@
 use Rattle.std.specs.Prelude.{◌^◌, ◌<◌, ◌≤◌}
 use Rattle.bpf_profile.specs.Programs.{VerifiedProgram}
 use Rattle.service_profile.specs.declared.configuration.ConfigParts.{ConfigParts}
+use Rattle.service_profile.specs.Limits.{greatest_number}
 use Rattle.service_profile.specs.Configuration.{IsInRange}
 use Rattle.service_profile.specs.Events.{Opening}
 
@@ -12,12 +13,12 @@ first_opening config program = record { config = config; program = program; vers
 -- an opening whose configuration is in range, and whose numbers begin at 1 or later and leave room
 pub record IsOpening (opening : Opening) : Type 0 where
   pub config : IsInRange opening.config
-  pub version : opening.version ≤ 2 ^ 63
+  pub version : opening.version ≤ greatest_number
   pub first_version : 1 ≤ opening.version
-  pub period : opening.period ≤ 2 ^ 63
+  pub period : opening.period ≤ greatest_number
   pub first_period : 1 ≤ opening.period
-  pub ticket : opening.ticket ≤ 2 ^ 63
+  pub ticket : opening.ticket ≤ greatest_number
   pub first_ticket : 1 ≤ opening.ticket
-  pub line : opening.line ≤ 2 ^ 63
+  pub line : opening.line ≤ greatest_number
   pub first_line : 1 ≤ opening.line
   pub moment : opening.moment < 2 ^ 64

@@ -5,9 +5,10 @@ use Rattle.bpf_profile.specs.declared.machine.TrapReason.{TrapReason}
 use Rattle.bpf_profile.specs.declared.machine.Verdict.{Verdict}
 use Rattle.bpf_profile.specs.declared.machine.Verdict.TheVariants as verdict
 use Rattle.bpf_profile.specs.declared.slot.Slot.{Slot}
+use Rattle.bpf_profile.specs.Limits.{context_size}
 use Rattle.bpf_profile.specs.Machine.{State, Effect, goes, answers}
 use Rattle.bpf_profile.specs.Meaning.{step, entry}
-use Rattle.bpf_profile.specs.Outcomes.{Outcome, context_size}
+use Rattle.bpf_profile.specs.Outcomes.{Outcome}
 use Rattle.bpf_profile.specs.Programs.{VerifiedProgram}
 use Rattle.service_profile.specs.declared.decisions.Judgement.{Judgement}
 

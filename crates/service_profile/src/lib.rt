@@ -6,6 +6,7 @@
 mod configuration;
 mod decisions;
 pub mod laws;
+mod limits;
 mod notes;
 mod readings;
 mod replies;
@@ -17,6 +18,7 @@ mod tickets;
 
 pub use configuration::{BadConfig, Config, ConfigField, ConfigParts, SlidingWindowType};
 pub use decisions::{Decision, Judgement, Permission};
+pub use limits::{GREATEST_NUMBER, MOST_ENTRIES, MOST_PAGE_ENTRIES, MOST_VERSIONS};
 pub use notes::{Note, Totals};
 pub use readings::Reading;
 pub use replies::{Fate, Reply};

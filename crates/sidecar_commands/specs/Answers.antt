@@ -3,8 +3,9 @@ use Rattle.std.specs.Prelude.{◌≡◌, ◌⊎◌, ℕ, List, length, Option, S
 use Rattle.serde_json.specs.Data.{Data}
 use Rattle.refusals.specs.declared.RefusalNumber.TheVariants.{ProgramOutOfMemory, BadHex, BadJson, BadValue}
 use Rattle.bpf_profile.specs.declared.slot.Slot.{Slot}
+use Rattle.bpf_profile.specs.Limits.{context_size}
 use Rattle.bpf_profile.specs.Meaning.{Judges}
-use Rattle.bpf_profile.specs.Outcomes.{Outcome, context_size}
+use Rattle.bpf_profile.specs.Outcomes.{Outcome}
 use Rattle.bpf_profile.specs.Safety.{IsSafe}
 use Rattle.helpers.specs.Json.{outcome_of}
 use Rattle.requests.specs.Text.{json_of}

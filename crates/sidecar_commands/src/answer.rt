@@ -1,9 +1,12 @@
 //! What the commands print.
 
 use answers::verdict_name;
+use bpf_asm::AsmError;
+use bpf_decode::DecodeError;
 use bpf_profile::Verdict;
-use refusals::RefusalNumber;
+use refusals::{RefusalNumber, RefusalText};
 use std::fmt;
+use verifier::Refusal;
 
 /// Why a command is refused.
 #[derive(Clone, Copy, Debug, PartialEq, Eq)]
@@ -37,22 +40,68 @@ pub enum Answer {
     Refused(Fault),
 }
 
+impl From<RefusalNumber> for Fault {
+    ghost use Rattle.std.specs.Prelude.{◌≡◌};
+
+    ghost from_gives = { λ number e. e ≡ record { number = number; place = 0 } };
+
+    /// A refusal that has no place.
+    fn from(number: RefusalNumber) -> Fault {
+        Fault { number, place: 0 }
+    }
+}
+
+impl From<Refusal> for Fault {
+    ghost use Rattle.std.specs.Prelude.{◌≡◌};
+
+    ghost from_gives = { λ refusal e. e ≡ record { number = refusal.number; place = refusal.slot } };
+
+    fn from(refusal: Refusal) -> Fault {
+        Fault {
+            number: refusal.number,
+            place: refusal.slot as usize,
+        }
+    }
+}
+
+impl From<DecodeError> for Fault {
+    ghost use Rattle.std.specs.Prelude.{◌≡◌};
+
+    ghost from_gives = { λ error e. e ≡ record { number = error.number; place = error.slot } };
+
+    fn from(error: DecodeError) -> Fault {
+        Fault {
+            number: error.number,
+            place: error.slot as usize,
+        }
+    }
+}
+
+impl From<AsmError> for Fault {
+    ghost use Rattle.std.specs.Prelude.{◌≡◌};
+
+    ghost from_gives = { λ error e. e ≡ record { number = error.kind; place = error.line } };
+
+    fn from(error: AsmError) -> Fault {
+        Fault {
+            number: error.kind,
+            place: error.line,
+        }
+    }
+}
+
 impl fmt::Display for Fault {
     ghost use Rattle.std.specs.Prelude.{Some};
-    ghost use Rattle.sidecar_commands.specs.Text.{fault_text};
+    ghost use Rattle.refusals.specs.Texts.{refusal_text};
 
-    ghost output = { λ fault. Some (fault_text fault) };
+    ghost output = { λ fault. Some (refusal_text fault.number fault.place) };
 
     fn fmt<W: fmt::Write>(&self, f: &mut fmt::Formatter<W>) -> fmt::Result {
-        let number = self.number.number();
-        let name = self.number.name();
-        let place = self.place;
-        // The refusals of programs for their bytes have a slot, and those of texts a line.
-        match number {
-            0..=22 => write!(f, "refused {number} {name} slot {place}"),
-            41..=44 => write!(f, "refused {number} {name} line {place}"),
-            _ => write!(f, "refused {number} {name}"),
-        }
+        let shown = RefusalText {
+            number: self.number,
+            place: self.place,
+        };
+        write!(f, "{shown}")
     }
 }
 

@@ -4,7 +4,6 @@ ghost use Rattle.sidecar_commands.specs.Assembling.{IsAssembled, IsAssemblyRefus
 
 use crate::answer::Fault;
 use crate::hexadecimal::hex_bytes;
-use crate::judging::unplaced;
 use bpf_asm::{assemble, disassemble};
 use bpf_decode::Program;
 use refusals::RefusalNumber;
@@ -37,15 +36,10 @@ fn hexadecimal(alloc: Global, program: &Program) -> Result<String, AllocError>
 fn assembled_text(alloc: Global, text: &str) -> Result<String, Fault>
     ensures { MatchResult result (λ hex. IsTextAssembled text.now (string_bytes hex)) (λ fault. IsTextFault text.now fault) }
 {
-    match assemble(alloc, text) {
-        Ok(program) => match hexadecimal(alloc, &program) {
-            Ok(hex) => Ok(hex),
-            Err(_) => Err(unplaced(RefusalNumber::AssemblerOutOfMemory)),
-        },
-        Err(error) => Err(Fault {
-            number: error.kind,
-            place: error.line,
-        }),
+    let program = assemble(alloc, text)?;
+    match hexadecimal(alloc, &program) {
+        Ok(hex) => Ok(hex),
+        Err(_) => Err(Fault::from(RefusalNumber::AssemblerOutOfMemory)),
     }
 }
 
@@ -67,29 +61,17 @@ pub fn assembled(alloc: Global, bytes: &[u8]) -> Result<String, Fault>
 fn decoded(alloc: Global, text: &str) -> Result<Program, Fault>
     ensures { MatchResult result (λ program. IsDecoded text.now program) (λ fault. IsDisassemblyRefused text.now fault) }
 {
-    let bytes = match hex_bytes(alloc, text) {
-        Ok(bytes) => bytes,
-        Err(number) => return Err(unplaced(number)),
-    };
-    match Program::decode(alloc, &bytes) {
-        Ok(program) => Ok(program),
-        Err(error) => Err(Fault {
-            number: error.number,
-            place: error.slot as usize,
-        }),
-    }
+    let bytes = hex_bytes(alloc, text)?;
+    Ok(Program::decode(alloc, &bytes)?)
 }
 
 /// The canonical lines of a program in hexadecimal, or why it is refused.
 pub fn disassembled(alloc: Global, text: &str) -> Result<String, Fault>
     ensures { MatchResult result (λ lines. IsDisassembled text.now (string_bytes lines)) (λ fault. IsDisassemblyRefused text.now fault) }
 {
-    let program = match decoded(alloc, text) {
-        Ok(program) => program,
-        Err(fault) => return Err(fault),
-    };
+    let program = decoded(alloc, text)?;
     match disassemble(alloc, &program) {
         Ok(lines) => Ok(lines),
-        Err(_) => Err(unplaced(RefusalNumber::ProgramOutOfMemory)),
+        Err(_) => Err(Fault::from(RefusalNumber::ProgramOutOfMemory)),
     }
 }

@@ -19,30 +19,13 @@ use std::alloc::{AllocError, Global};
 use std::io::Read;
 use verifier::Verified;
 
-/// A refusal that has no place.
-pub(crate) fn unplaced(number: RefusalNumber) -> Fault
-    ensures number { result.number ≡ number }
-    ensures place { result.place ≡ 0 }
-{
-    Fault { number, place: 0 }
-}
-
 /// The verified program of hexadecimal text.
 fn admitted(alloc: Global, text: &str) -> Result<Verified, Fault>
     ensures ok { IfOk result (λ program. IsAdmitted text.now program.slots program.budget) }
     ensures err { IfErr result (λ fault. IsTextRefused text.now fault) }
 {
-    let bytes = match hex_bytes(alloc, text) {
-        Ok(bytes) => bytes,
-        Err(number) => return Err(unplaced(number)),
-    };
-    match verifier::verify(alloc, &bytes) {
-        Ok(program) => Ok(program),
-        Err(refusal) => Err(Fault {
-            number: refusal.number,
-            place: refusal.slot as usize,
-        }),
-    }
+    let bytes = hex_bytes(alloc, text)?;
+    Ok(verifier::verify(alloc, &bytes)?)
 }
 
 /// The budget and the number of slots of a program in hexadecimal, or why it is refused.
@@ -65,7 +48,7 @@ fn outcome_in(value: &Value) -> Result<Record, Fault>
 {
     match Record::from_json(value) {
         Ok(outcome) => Ok(outcome),
-        Err(error) => Err(unplaced(error.number)),
+        Err(error) => Err(Fault::from(error.number)),
     }
 }
 
@@ -76,7 +59,7 @@ fn outcome(alloc: Global, text: &[u8]) -> Result<Result<Record, Fault>, AllocErr
 {
     match json(alloc, text)? {
         Some(value) => Ok(outcome_in(&value)),
-        None => Ok(Err(unplaced(RefusalNumber::BadJson))),
+        None => Ok(Err(Fault::from(RefusalNumber::BadJson))),
     }
 }
 

@@ -19,7 +19,8 @@ use Rattle.bpf_profile.specs.declared.machine.Cell.TheVariants as byte
 use Rattle.bpf_profile.specs.declared.machine.Region.TheVariants as region
 use Rattle.bpf_profile.specs.declared.machine.Value.{Value}
 use Rattle.bpf_profile.specs.declared.machine.Value.TheVariants as value
-use Rattle.bpf_profile.specs.Machine.{cells_of, stack_size}
+use Rattle.bpf_profile.specs.Limits.{stack_size}
+use Rattle.bpf_profile.specs.Machine.{cells_of}
 use Rattle.bpf_profile.specs.Words.{IsWord}
 use Rattle.stack_track.specs.declared.cell.Cell.{Cell}
 use Rattle.stack_track.specs.declared.cell.Cell.TheVariants as cell

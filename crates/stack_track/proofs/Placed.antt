@@ -10,7 +10,8 @@ use Rattle.abs_regs.specs.Transfers.{◌>>=◌}
 use Rattle.bpf_profile.specs.declared.instruction.Size.{Size}
 use Rattle.bpf_profile.specs.declared.instruction.Size.TheVariants as size
 use Rattle.bpf_profile.specs.declared.machine.Region.TheVariants as region
-use Rattle.bpf_profile.specs.Machine.{Address, place_of, place_for, region_size, stack_size}
+use Rattle.bpf_profile.specs.Limits.{stack_size}
+use Rattle.bpf_profile.specs.Machine.{Address, place_of, place_for, region_size}
 use Rattle.bpf_profile.specs.Words.{bytes_in}
 use Rattle.stack_track.specs.Accesses.{stack_place}
 use Rattle.stack_track.specs.Cells.{bits_at, are_set}
@@ -54,7 +55,7 @@ pub stack_place_for : (context : ℕ) (size : Size) (offset place : ℕ) → IsP
 stack_place_for context size offset place p = placed_for context (bytes_in size) place (record { region = region.Stack; offset = offset }) p.aligned p.inside p.same
 
 -- it lies in the stack
-pub place_inside : (size : Size) (offset place : ℕ) → IsPlaced size offset place → place + bytes_in size ≤ 512
+pub place_inside : (size : Size) (offset place : ℕ) → IsPlaced size offset place → place + bytes_in size ≤ stack_size
 place_inside size offset place p =
     let inside = leb-true (place_of region.Stack offset + bytes_in size) stack_size p.inside in
     let same = p.same in

@@ -6,6 +6,7 @@ use Rattle.std.specs.Prelude.{slice_get, slice_set}
 use Rattle.abs_domain.specs.declared.domain.Domain.{Ghosts}
 use Rattle.bpf_profile.specs.declared.machine.Cell.{Cell as Byte}
 use Rattle.bpf_profile.specs.declared.machine.Cell.TheVariants as byte
+use Rattle.bpf_profile.specs.Limits.{stack_size}
 use Rattle.bpf_profile.specs.Machine.{cell_bytes, overwritten}
 use Rattle.bpf_profile.specs.Outcomes.{AreBytes}
 use Rattle.stack_track.specs.declared.cell.Cell.{Cell}
@@ -20,7 +21,7 @@ use Rattle.stack_track.proofs.Stores.{cell_written, part_written}
 -- ---- bytes that are read
 
 -- a single byte that is known to hold a number does
-byte_follows : {X : Type 0} (domain : Ghosts X) (cells : List (Cell X)) (stack : List Byte) (place : ℕ) → AreCells domain cells stack → place < 512
+byte_follows : {X : Type 0} (domain : Ghosts X) (cells : List (Cell X)) (stack : List Byte) (place : ℕ) → AreCells domain cells stack → place < stack_size
     → are_set (mask_of (cell_in cells (place / 8))) place 1 ≡ true → HoldsByte stack (place + 0)
 byte_follows domain cells stack place h inside e =
     let less : place % 8 + 0 < 8 = omega arith in
@@ -30,7 +31,7 @@ byte_follows domain cells stack place h inside e =
     (there.0, sym (in_window stack (8 * (place / 8)) (place % 8 + 0) less ∙ ap (slice_get stack) same) ∙ there.1, there.2)
 
 -- each byte of a stretch that is known to hold numbers does
-bytes_follow : {X : Type 0} (domain : Ghosts X) (cells : List (Cell X)) (stack : List Byte) (place count : ℕ) → AreCells domain cells stack → place + count ≤ 512
+bytes_follow : {X : Type 0} (domain : Ghosts X) (cells : List (Cell X)) (stack : List Byte) (place count : ℕ) → AreCells domain cells stack → place + count ≤ stack_size
     → stretch_is_set cells place count ≡ true → (i : ℕ) → i < count → HoldsByte stack (place + i)
 bytes_follow domain cells stack place zero h inside e i less = absurd (omega arith)
 bytes_follow domain cells stack place (suc count) h inside e zero less = byte_follows domain cells stack place h (omega arith) (and_parts _ _ e).0
@@ -39,14 +40,14 @@ bytes_follow domain cells stack place (suc count) h inside e (suc i) less =
     subst (HoldsByte stack) next (bytes_follow domain cells stack (suc place) count h (omega arith) (and_parts _ _ e).1 i (omega arith))
 
 -- a stretch that is known to hold numbers does
-pub stretch_holds : {X : Type 0} (domain : Ghosts X) (cells : List (Cell X)) (stack : List Byte) (place count : ℕ) → AreCells domain cells stack → place + count ≤ 512
+pub stretch_holds : {X : Type 0} (domain : Ghosts X) (cells : List (Cell X)) (stack : List Byte) (place count : ℕ) → AreCells domain cells stack → place + count ≤ stack_size
     → stretch_is_set cells place count ≡ true → AreNumbers (take count (drop place stack)) count
 stretch_holds domain cells stack place count h inside e = numbers_of count (drop place stack) (λ i less.
     (let there = bytes_follow domain cells stack place count h inside e i less in
     (there.0, get-drop place stack i ∙ there.1, there.2)))
 
 -- its bytes, each below 256
-pub stretch_reads : {X : Type 0} (domain : Ghosts X) (cells : List (Cell X)) (stack : List Byte) (place count : ℕ) → AreCells domain cells stack → place + count ≤ 512
+pub stretch_reads : {X : Type 0} (domain : Ghosts X) (cells : List (Cell X)) (stack : List Byte) (place count : ℕ) → AreCells domain cells stack → place + count ≤ stack_size
     → stretch_is_set cells place count ≡ true → (bytes : List ℕ) × (cell_bytes (take count (drop place stack)) ≡ Some bytes) × AreBytes bytes
 stretch_reads domain cells stack place count h inside e =
     let numbers = stretch_holds domain cells stack place count h inside e in
@@ -88,7 +89,7 @@ written_none : (stack : List Byte) (place : ℕ) → overwritten stack place [] 
 written_none stack place = let same : place + 0 ≡ place = omega arith in ap (λ (from : ℕ). take place stack ++ drop from stack) same ∙ take-append-drop place stack
 
 -- numbers that are written to a stretch stand there, and leave the stack as known
-pub stretch_writes : {X : Type 0} (domain : Ghosts X) (cells : List (Cell X)) (stack : List Byte) (place : ℕ) (bytes : List ℕ) → AreCells domain cells stack → place + length bytes ≤ 512 → AreBytes bytes
+pub stretch_writes : {X : Type 0} (domain : Ghosts X) (cells : List (Cell X)) (stack : List Byte) (place : ℕ) (bytes : List ℕ) → AreCells domain cells stack → place + length bytes ≤ stack_size → AreBytes bytes
     → AreCells domain (stretch_written cells place (length bytes)) (overwritten stack place (map byte.Byte bytes))
 stretch_writes domain cells stack place [] h inside below = subst (AreCells domain cells) (sym (written_none stack place)) h
 stretch_writes domain cells stack place (b ∷ bytes) h inside below =

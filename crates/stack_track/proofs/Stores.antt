@@ -21,6 +21,7 @@ use Rattle.bpf_profile.specs.declared.machine.Region.{Region}
 use Rattle.bpf_profile.specs.declared.machine.Region.TheVariants as region
 use Rattle.bpf_profile.specs.declared.machine.Value.{Value}
 use Rattle.bpf_profile.specs.declared.machine.Value.TheVariants as value
+use Rattle.bpf_profile.specs.Limits.{stack_size}
 use Rattle.bpf_profile.specs.Machine.{Address as Place, cells_of, pieces_from, overwritten}
 use Rattle.bpf_profile.specs.Words.{bytes_in}
 use Rattle.stack_track.specs.declared.cell.Cell.{Cell}
@@ -46,7 +47,7 @@ apart place count k within (inl before) = inl (omega arith)
 apart place count k within (inr behind) = inr (omega arith)
 
 -- bytes within a cell are written: of the others as much is known as before
-pub cell_written : {X : Type 0} (domain : Ghosts X) (cells : List (Cell X)) (stack bytes : List Byte) (c : Cell X) (place : ℕ) → AreCells domain cells stack → place % 8 + length bytes ≤ 8 → place + length bytes ≤ 512
+pub cell_written : {X : Type 0} (domain : Ghosts X) (cells : List (Cell X)) (stack bytes : List Byte) (c : Cell X) (place : ℕ) → AreCells domain cells stack → place % 8 + length bytes ≤ 8 → place + length bytes ≤ stack_size
     → IsCell domain c (take 8 (drop (8 * (place / 8)) (overwritten stack place bytes))) → AreCells domain (slice_set cells (place / 8) c) (overwritten stack place bytes)
 cell_written {X} domain cells stack bytes c place h within inside is = record { size = length-overwritten stack bytes place fits ∙ h.size; each = λ k less. by_cell k less (cases_order k (place / 8)) }
   where

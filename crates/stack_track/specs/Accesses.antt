@@ -1,4 +1,4 @@
--- Loads and stores, or what is wrong with them, the first in the order in which it is tried (RFC 9669, section 5).
+-- What loads and stores make of abstract values and cells, or the first check that they fail (RFC 9669, section 5).
 use Rattle.std.specs.Prelude.{ℕ, zero, suc, ◌+◌, ◌/◌, ◌%◌, ◌==◌, nat_le, ◌&&◌, Bool, true, if◌then◌else◌, List, slice_set, bit_or, Result, Ok, Err}
 use Rattle.refusals.specs.declared.RefusalNumber.{RefusalNumber}
 use Rattle.refusals.specs.declared.RefusalNumber.TheVariants as refusal
@@ -14,7 +14,8 @@ use Rattle.bpf_profile.specs.declared.instruction.Extension.TheVariants as exten
 use Rattle.bpf_profile.specs.declared.instruction.Size.{Size}
 use Rattle.bpf_profile.specs.declared.instruction.Size.TheVariants as size
 use Rattle.bpf_profile.specs.declared.machine.Region.TheVariants as region
-use Rattle.bpf_profile.specs.Machine.{place_of, stack_size}
+use Rattle.bpf_profile.specs.Limits.{stack_size}
+use Rattle.bpf_profile.specs.Machine.{place_of}
 use Rattle.bpf_profile.specs.Words.{bytes_in}
 use Rattle.stack_track.specs.declared.cell.Cell.{Cell}
 use Rattle.stack_track.specs.declared.cell.Cell.TheVariants as cell
@@ -74,7 +75,7 @@ abbrev pub load_at : {X : Type 0} → Ghosts X → ℕ → List (Cell X) → Add
 load_at domain context cells (address.Context offset) extension size = load_context domain context offset extension size
 load_at domain context cells (address.Stack offset) extension size = load_stack domain cells offset extension size
 
--- what a cell keeps once so many of its bytes were written with numbers
+-- the cell after so many of its bytes were overwritten with numbers
 abbrev pub with_numbers : {X : Type 0} → Cell X → ℕ → ℕ → Cell X
 with_numbers c place count = cell.Bytes (bit_or (mask_of c) (bits_at place count))
 

@@ -1,4 +1,4 @@
--- What is known of the stack: 64 cells of eight bytes, the lowest offsets first.
+-- The abstract stack: 64 cells of eight bytes, the lowest offsets first.
 use Rattle.std.specs.Prelude.{ℕ, ◌-◌, ◌*◌, ◌%◌, ◌^◌, ◌==◌, Bool, List, map, replicate, slice_index_or, bit_and}
 use Rattle.std.specs.List.{zip}
 use Rattle.abs_domain.specs.declared.domain.Domain.{Ghosts}
@@ -14,12 +14,12 @@ mask_of (cell.Bytes mask) = mask
 mask_of (cell.Kept (known.Number a)) = 255
 mask_of (cell.Kept a) = 0
 
--- a value that is kept, unless nothing is known of it
+-- a cell that keeps an abstract value, unless the value describes everything
 abbrev pub kept : {X : Type 0} → AbsVal X → Cell X
 kept known.Unset = cell.Bytes 0
 kept a = cell.Kept a
 
--- what is known where either of two paths was taken
+-- the join of two cells, which describes all that either describes
 abbrev pub joined_cell : {X : Type 0} → Ghosts X → Cell X → Cell X → Cell X
 joined_cell domain (cell.Kept a) (cell.Kept b) = kept (joined_value domain a b)
 joined_cell domain (cell.Kept (known.Number a)) (cell.Bytes mask) = cell.Bytes mask
@@ -33,7 +33,7 @@ joined_cells {X} domain a b = map (λ (p : Cell X × Cell X). joined_cell domain
 abbrev pub cell_in : {X : Type 0} → List (Cell X) → ℕ → Cell X
 cell_in cells k = slice_index_or cells k (cell.Bytes 0)
 
--- before the first instruction
+-- the entry state: no byte of the stack is set
 abbrev pub entry_cells : {X : Type 0} → List (Cell X)
 entry_cells = replicate 64 (cell.Bytes 0)
 

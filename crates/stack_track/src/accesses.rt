@@ -1,5 +1,6 @@
 //! Loads and stores (RFC 9669, section 5).
 ghost use Rattle.std.specs.Prelude.{◌≡◌, ◌+◌, ◌%◌, ◌≤◌, IfOk};
+ghost use Rattle.bpf_profile.specs.Limits.{stack_size, context_size};
 ghost use Rattle.bpf_profile.specs.Words.{bytes_in};
 ghost use Rattle.stack_track.specs.Accesses.{any_loaded, zeros_of, load_context, stack_place, whole_cell, part_of_cell, load_cell, load_stack, load_at, stored_cell, store_stack, store_at};
 
@@ -7,11 +8,8 @@ use crate::cell::Cell;
 use crate::stack::StackState;
 use abs_domain::{Conversion, Domain};
 use abs_regs::{AbsVal, Address};
-use bpf_profile::{Extension, Size};
+use bpf_profile::{Extension, STACK_SIZE, Size};
 use refusals::RefusalNumber;
-
-/// The stack's size in bytes.
-const STACK: u64 = 512;
 
 impl<D: Domain> StackState<D> {
     /// The abstract value that a load gives, where the context has `context_size` bytes. It is refused with
@@ -120,13 +118,13 @@ fn load_context<D: Domain>(
 fn stack_place(offset: u64, size: Size) -> Result<usize, RefusalNumber>
     ensures place { result ≡ stack_place offset size }
     ensures within { IfOk result (λ place. place % 8 + bytes_in size ≤ 8) }
-    ensures inside { IfOk result (λ place. place + bytes_in size ≤ 512) }
+    ensures inside { IfOk result (λ place. place + bytes_in size ≤ stack_size) }
 {
     if offset % size.bytes() != 0 {
         return Err(RefusalNumber::Misaligned);
     }
-    let place = offset.wrapping_add(STACK);
-    if place > STACK - size.bytes() {
+    let place = offset.wrapping_add(STACK_SIZE as u64);
+    if place > STACK_SIZE as u64 - size.bytes() {
         return Err(RefusalNumber::OutOfBounds);
     }
     Ok(place as usize)

@@ -7,7 +7,8 @@ ghost use Rattle.abs_regs.specs.Steps.{Gives, IsAt};
 ghost use Rattle.abs_regs.specs.Values.{IsAs};
 ghost use Rattle.bpf_profile.specs.declared.machine.Cell.{Cell as Byte};
 ghost use Rattle.bpf_profile.specs.declared.machine.Cell.TheVariants as byte;
-ghost use Rattle.bpf_profile.specs.Machine.{State, Address, cell_bytes, overwritten, stack_size};
+ghost use Rattle.bpf_profile.specs.Limits.{stack_size};
+ghost use Rattle.bpf_profile.specs.Machine.{State, Address, cell_bytes, overwritten};
 ghost use Rattle.bpf_profile.specs.Outcomes.{Outcome, AreBytes};
 ghost use Rattle.stack_track.specs.declared.cell.Cell.{Cell};
 ghost use Rattle.stack_track.specs.Accesses.{load_at, store_at, stretch_is_set, stretch_written};
@@ -46,8 +47,8 @@ pub fn stores_follow<D: Domain>()
 /// A byte range that is known to be set can be read as bytes, and after bytes were written to a range the
 /// cells describe the stack.
 pub fn stretches_follow<D: Domain>()
-    ensures read { (cells : List (Cell D)) (stack : List Byte) (place count : ℕ) → AreCells ⟦<D as Domain>⟧ cells stack → place + count ≤ 512 → stretch_is_set cells place count ≡ true
+    ensures read { (cells : List (Cell D)) (stack : List Byte) (place count : ℕ) → AreCells ⟦<D as Domain>⟧ cells stack → place + count ≤ stack_size → stretch_is_set cells place count ≡ true
         → (bytes : List ℕ) × (cell_bytes (take count (drop place stack)) ≡ Some bytes) × AreBytes bytes }
-    ensures written { (cells : List (Cell D)) (stack : List Byte) (place : ℕ) (bytes : List ℕ) → AreCells ⟦<D as Domain>⟧ cells stack → place + length bytes ≤ 512 → AreBytes bytes
+    ensures written { (cells : List (Cell D)) (stack : List Byte) (place : ℕ) (bytes : List ℕ) → AreCells ⟦<D as Domain>⟧ cells stack → place + length bytes ≤ stack_size → AreBytes bytes
         → AreCells ⟦<D as Domain>⟧ (stretch_written cells place (length bytes)) (overwritten stack place (map byte.Byte bytes)) }
 {}

@@ -2,6 +2,7 @@
 ghost use Rattle.std.specs.Prelude.{◌≡◌, ◌+◌, ◌/◌, ◌<◌, ◌≤◌, slice_set};
 ghost use Rattle.stack_track.specs.Cells.{cell_in, mask_of, are_set};
 ghost use Rattle.stack_track.specs.Accesses.{with_numbers, stretch_is_set, stretch_written};
+ghost use Rattle.bpf_profile.specs.Limits.{stack_size};
 
 use crate::stack::StackState;
 use abs_domain::Domain;
@@ -11,7 +12,7 @@ impl<D: Domain> StackState<D> {
     /// Whether each byte of a range is known to be set and part of a number. `place` is the index of its
     /// first byte in the stack, from 0 at the lowest offset on, and `count` its length.
     pub fn stretch_is_set(&self, place: u64, count: u64) -> bool
-        requires { place + count ≤ 512 }
+        requires { place + count ≤ stack_size }
         ensures { result ≡ stretch_is_set self.now place count }
     {
         for i in 0..count {
@@ -25,7 +26,7 @@ impl<D: Domain> StackState<D> {
     /// The state after bytes were written to a range. `place` is the index of its first byte in the
     /// stack, and `count` its length.
     pub fn stretch_written(self, place: u64, count: u64) -> Self
-        requires { place + count ≤ 512 }
+        requires { place + count ≤ stack_size }
         ensures { result ≡ stretch_written self place count }
     {
         let mut state = self;
@@ -37,7 +38,7 @@ impl<D: Domain> StackState<D> {
 
     /// Whether the byte at an index is known to be set and part of a number.
     fn byte_is_set(&self, place: usize) -> bool
-        requires { place < 512 }
+        requires { place < stack_size }
         ensures { result ≡ are_set (mask_of (cell_in self.now (place / 8))) place 1 }
     {
         self.cell(place / 8).is_set(place, Size::Byte)
@@ -45,7 +46,7 @@ impl<D: Domain> StackState<D> {
 
     /// The state after a byte was written at an index.
     fn with_byte(self, place: usize) -> Self
-        requires { place < 512 }
+        requires { place < stack_size }
         ensures { result ≡ slice_set self (place / 8) (with_numbers (cell_in self (place / 8)) place 1) }
     {
         let cell = self.cell(place / 8).with_numbers(place, Size::Byte);

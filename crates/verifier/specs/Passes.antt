@@ -1,4 +1,4 @@
--- What the pass over the slots keeps: the states so far, into which each slot sends.
+-- What one pass over the slots does to its list of abstract states: each slot is sent what its predecessors send, and joins it.
 use Rattle.std.specs.Prelude.{ℕ, List, [], ◌∷◌, replicate, slice_set, slice_index_or, Option, Some, None}
 use Rattle.abs_domain.specs.declared.domain.Domain.{Ghosts}
 use Rattle.abs_states.specs.declared.state.AbsState.{AbsState}
@@ -8,7 +8,7 @@ use Rattle.verifier.specs.Analysis.{Message, joined_into}
 abbrev pub state_of : {X : Type 0} → List (Option (AbsState X)) → ℕ → Option (AbsState X)
 state_of states place = slice_index_or states place None
 
--- before the first slot
+-- the states before the pass: the entry state at slot 0, none elsewhere
 abbrev pub entry_states : {X : Type 0} → Ghosts X → ℕ → List (Option (AbsState X))
 entry_states domain count = slice_set (replicate count None) 0 (Some (entry_state domain))
 

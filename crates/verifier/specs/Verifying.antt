@@ -2,15 +2,15 @@
 use Rattle.std.specs.Prelude.{◌≡◌, ◌⊎◌, ℕ, ◌<◌, List, length, slice_get, Some, None}
 use Rattle.refusals.specs.declared.RefusalNumber.TheVariants.{ProgramOutOfMemory}
 use Rattle.bpf_profile.specs.declared.slot.Slot.{Slot}
+use Rattle.bpf_profile.specs.Limits.{context_size}
 use Rattle.bpf_profile.specs.Flow.{flow_fault, successors, IsBudget}
 use Rattle.bpf_profile.specs.Spelling.{Spells, Fault, first_fault}
-use Rattle.bpf_profile.specs.Outcomes.{context_size}
 use Rattle.verifier.specs.Analysis.{analysis_fault}
 use Rattle.verifier.specs.Product.{product}
 use Rattle.bpf_profile.specs.Programs.{VerifiedProgram}
 use Rattle.verifier.specs.declared.refusal.Refusal.{Refusal}
 
--- the refusal that says that memory ran out
+-- the refusal for want of memory
 abbrev pub out_of_memory : Refusal
 out_of_memory = record { slot = 0; number = ProgramOutOfMemory }
 

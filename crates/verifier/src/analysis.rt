@@ -1,9 +1,9 @@
 //! The analysis of a program, over any domain.
 ghost use Rattle.std.specs.Prelude.{◌≡◌, ◌⊎◌, ◌<◌, ℕ, length, map, option_map, slice_index_or, Some, None, IfOk, IfErr, OnOk};
 ghost use Rattle.std.specs.List.{range_with_len};
+ghost use Rattle.bpf_profile.specs.Limits.{most_slots, context_size};
 ghost use Rattle.bpf_profile.specs.Flow.{flow_fault, successors, IsBudget};
 ghost use Rattle.bpf_profile.specs.Safety.{IsSafe};
-ghost use Rattle.bpf_profile.specs.Outcomes.{context_size};
 ghost use Rattle.verifier.specs.Analysis.{analysis_fault, AreKnown};
 ghost use Rattle.verifier.specs.Memory.{StateFits};
 ghost use Rattle.verifier.specs.Passes.{entry_states};
@@ -19,7 +19,8 @@ use flow_check::Flow;
 use std::alloc::{AllocError, Global};
 use std::marker::Model;
 
-/// What is known before each slot of a program. Contracts see the list, with none at a tail.
+/// The abstract state before each slot of a program, over a domain. Contracts see the list of states; a
+/// tail has none.
 #[derive(Drop)]
 pub struct States<D> {
     states: Vec<Option<AbsState<D>>>,
@@ -35,7 +36,7 @@ impl<D> Model for States<D> {
 }
 
 impl<D: Domain> States<D> {
-    /// What is known before the instruction at a slot; none at a tail and past the program's end.
+    /// The abstract state before the instruction at a slot; None at a tail and past the program's end.
     pub fn at(&self, slot: usize) -> Option<&AbsState<D>>
         ensures { option_map (λ state. state.now) result ≡ slice_index_or self.now slot None }
     {
@@ -46,7 +47,7 @@ impl<D: Domain> States<D> {
     }
 }
 
-/// Before each slot nothing is known, but that a program begins at slot 0.
+/// The abstract states before the pass: the entry state at slot 0, none elsewhere.
 fn entry_states<D: Domain>(
     alloc: Global,
     slots: &[Slot],
@@ -59,9 +60,9 @@ fn entry_states<D: Domain>(
     Ok(states)
 }
 
-/// What is known before each slot of a program, whose flow this is; or the least slot at which the program
-/// may do what it must not, with the first of its faults (numbers 12 to 22). The only other error is
-/// `ProgramOutOfMemory`, at slot 0. A program that passes over any domain is safe.
+/// The abstract state before each slot of a program, whose flow this is. The error is the least slot that
+/// fails a check, with the refusal of the first check that it fails (numbers 12 to 22). The only other
+/// error is `ProgramOutOfMemory`, at slot 0. A program that passes over any domain is safe.
 pub fn analyse<D: Domain>(
     alloc: Global,
     program: &Program,
@@ -76,7 +77,7 @@ pub fn analyse<D: Domain>(
     ensures accepted { OnOk result (analysis_fault ⟦<D as Domain>⟧ context_size program.now ≡ None) }
     ensures safe { OnOk result ((budget : ℕ) → IsBudget program.now budget → IsSafe context_size program.now budget) }
     ensures refused { IfErr result (λ e. (e ≡ out_of_memory) ⊎ (analysis_fault ⟦<D as Domain>⟧ context_size program.now ≡ Some (fault_of e))) }
-    ensures slot { IfErr result (λ e. e.slot < 4096) }
+    ensures slot { IfErr result (λ e. e.slot < most_slots) }
 {
     let slots = program.slots();
     let mut states = entry_states(alloc, slots)?;

@@ -1,8 +1,8 @@
 //! The classifier that a service has before another one is installed.
 ghost use Rattle.std.specs.Prelude.{◌≡◌, IfOk, IfErr};
+ghost use Rattle.bpf_profile.specs.Limits.{context_size};
 ghost use Rattle.bpf_profile.specs.Safety.{IsSafe};
 ghost use Rattle.bpf_profile.specs.Spelling.{Spells};
-ghost use Rattle.bpf_profile.specs.Outcomes.{context_size};
 ghost use Rattle.verifier.specs.DefaultClassifier.{default_classifier_bytes};
 ghost use Rattle.verifier.specs.Verifying.{IsVerification, out_of_memory};
 
@@ -10,7 +10,7 @@ use crate::refusal::Refusal;
 use crate::verified::{Verified, verify};
 use std::alloc::Global;
 
-/// A kind other than response is a failure, and so is a status from 500 on.
+/// Its bytes, eight for each slot: a failure is an outcome that is no response, or a status from 500 on.
 const DEFAULT_CLASSIFIER: [u8; 64] = [
     0x61, 0x12, 0x00, 0x00, 0x00, 0x00, 0x00, 0x00, // r2 = kind
     0x55, 0x02, 0x04, 0x00, 0x00, 0x00, 0x00, 0x00, // if r2 is no response, fail

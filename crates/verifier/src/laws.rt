@@ -1,11 +1,11 @@
 //! What the definitions of verifying entail, stated apart from them.
 ghost use Rattle.std.specs.Prelude.{◌≡◌, ◌↔◌, ℕ, List, length, Some, None};
 ghost use Rattle.bpf_profile.specs.declared.slot.Slot.{Slot};
+ghost use Rattle.bpf_profile.specs.Limits.{context_size};
 ghost use Rattle.bpf_profile.specs.Faults.{IsLeastFault, IsFaultless};
 ghost use Rattle.bpf_profile.specs.Flow.{flow_fault, IsBudget};
 ghost use Rattle.bpf_profile.specs.Safety.{IsSafe};
 ghost use Rattle.bpf_profile.specs.Spelling.{IsProgram, Fault};
-ghost use Rattle.bpf_profile.specs.Outcomes.{context_size};
 ghost use Rattle.verifier.specs.Analysis.{analysis_fault, fault_at};
 ghost use Rattle.bpf_profile.specs.Programs.{VerifiedProgram};
 ghost use Rattle.verifier.specs.Verifying.{IsVerification};

@@ -1,11 +1,11 @@
-//! The pass over the slots. All edges lead forward, so one pass in order meets each slot after whatever
-//! leads to it.
+//! The pass over the slots, in order. All edges lead forward, so each slot comes after all its
+//! predecessors.
 ghost use Rattle.std.specs.Prelude.{◌≡◌, ◌<◌, length, true, false, Some, None, Ok, Err, IfSome, IfErr, OnOk};
+ghost use Rattle.bpf_profile.specs.Limits.{most_slots, context_size};
 ghost use Rattle.bpf_profile.specs.Flow.{successors, flow_fault};
 ghost use Rattle.bpf_profile.specs.Meaning.{instruction_at};
 ghost use Rattle.bpf_profile.specs.Spelling.{IsProgram};
 ghost use Rattle.flow_check.specs.Routes.{successor_list};
-ghost use Rattle.bpf_profile.specs.Outcomes.{context_size};
 ghost use Rattle.verifier.specs.Analysis.{message_to, sent_with, fault_with, analysis_fault, AreKnown};
 ghost use Rattle.verifier.specs.Passes.{state_of, entry_states, delivered, delivered_all};
 ghost use Rattle.abs_states.specs.Transfers.{transfer_in};
@@ -14,14 +14,11 @@ ghost use Rattle.verifier.specs.Verifying.{IsFlowOf, fault_of};
 use crate::refusal::Refusal;
 use abs_domain::Domain;
 use abs_states::AbsState;
-use bpf_profile::{Instruction, Slot, instruction_at};
+use bpf_profile::{CONTEXT_SIZE, Instruction, Slot, instruction_at};
 use flow_check::{Flow, Successors};
 use refusals::RefusalNumber;
 
-/// The size of an outcome's context in bytes.
-const CONTEXT_SIZE: u64 = 128;
-
-/// Joins what is sent to a slot into what is known there.
+/// Joins an abstract state that was sent to a slot into the state before that slot.
 fn join_at<D: Domain>(states: &mut [Option<AbsState<D>>], to: usize, state: AbsState<D>)
     requires { to < length states.old }
     ensures { states.new ≡ delivered ⟦<D as Domain>⟧ states.old (record { to = to; state = state }) }
@@ -33,7 +30,7 @@ fn join_at<D: Domain>(states: &mut [Option<AbsState<D>>], to: usize, state: AbsS
     states[to] = Some(joined);
 }
 
-/// The same along an edge, where there is one.
+/// The same for an edge that may not be there.
 fn deliver<D: Domain>(states: &mut [Option<AbsState<D>>], to: Option<u32>, state: AbsState<D>)
     requires { IfSome to (λ slot. slot < length states.old) }
     ensures { states.new ≡ delivered_all ⟦<D as Domain>⟧ states.old (message_to to (Ok state)) }
@@ -56,7 +53,7 @@ fn edges_at(flow: &Flow, slots: &[Slot], place: usize) -> Successors
     flow.successors(place)
 }
 
-/// What an instruction sends to the target of its jump.
+/// Sends the abstract state after an instruction along its jump edge, where it has one.
 fn deliver_target<D: Domain>(
     states: &mut [Option<AbsState<D>>],
     to: Option<u32>,
@@ -68,13 +65,13 @@ fn deliver_target<D: Domain>(
     ensures fault { IfErr result (λ number. transfer_in ⟦<D as Domain>⟧ context_size state.now true instruction.now ≡ Err number) }
 {
     if to.is_some() {
-        let target = state.transfer(CONTEXT_SIZE, true, instruction)?;
+        let target = state.transfer(CONTEXT_SIZE as u64, true, instruction)?;
         deliver(states, to, target);
     }
     Ok(())
 }
 
-/// What an instruction at a slot sends along its edges is delivered; nothing from a tail.
+/// Sends the abstract states after the instruction at a slot along its edges. A tail sends nothing.
 fn pass<D: Domain>(
     states: &mut [Option<AbsState<D>>],
     slots: &[Slot],
@@ -96,7 +93,7 @@ fn pass<D: Domain>(
     let Some(state) = states[place] else {
         return Ok(());
     };
-    let next = state.transfer(CONTEXT_SIZE, false, &instruction)?;
+    let next = state.transfer(CONTEXT_SIZE as u64, false, &instruction)?;
     let edges = edges_at(flow, slots, place);
     deliver(states, edges.next, next);
     deliver_target(states, edges.target, &state, &instruction)
@@ -115,7 +112,7 @@ pub(crate) fn pass_all<D: Domain>(
     ensures passed { OnOk result (analysis_fault ⟦<D as Domain>⟧ context_size slots.now ≡ None) }
     ensures known { OnOk result (AreKnown ⟦<D as Domain>⟧ context_size slots.now states.new) }
     ensures fault { IfErr result (λ e. analysis_fault ⟦<D as Domain>⟧ context_size slots.now ≡ Some (fault_of e)) }
-    ensures slot { IfErr result (λ e. e.slot < 4096) }
+    ensures slot { IfErr result (λ e. e.slot < most_slots) }
 {
     for place in 0..slots.len() {
         if let Err(number) = pass(states, slots, flow, place) {

@@ -1,8 +1,7 @@
 //! Why bytes are no verified program.
 use bpf_decode::DecodeError;
-use bpf_profile::FaultText;
 use flow_check::FlowError;
-use refusals::RefusalNumber;
+use refusals::{RefusalNumber, RefusalText};
 use std::alloc::AllocError;
 use std::fmt;
 use thiserror::Error;
@@ -34,15 +33,14 @@ impl Refusal {
 
 impl fmt::Display for Refusal {
     ghost use Rattle.std.specs.Prelude.{Some};
-    ghost use Rattle.bpf_profile.specs.FaultTexts.{fault_text};
-    ghost use Rattle.verifier.specs.Verifying.{fault_of};
+    ghost use Rattle.refusals.specs.Texts.{refusal_text};
 
-    ghost output = { λ refusal. Some (fault_text (fault_of refusal)) };
+    ghost output = { λ refusal. Some (refusal_text refusal.number refusal.slot) };
 
     fn fmt<W: fmt::Write>(&self, f: &mut fmt::Formatter<W>) -> fmt::Result {
-        let shown = FaultText {
-            slot: self.slot,
+        let shown = RefusalText {
             number: self.number,
+            place: self.slot as usize,
         };
         write!(f, "{shown}")
     }

@@ -1,11 +1,11 @@
 //! Verified programs.
 ghost use Rattle.std.specs.Prelude.{◌≡◌, ◌⊎◌, ℕ, ◌<◌, ◌≤◌, List, length, IsSome, IsOk, Some, None, IfOk, IfErr, OnOk};
 ghost use Rattle.bpf_profile.specs.declared.slot.Slot.{Slot};
+ghost use Rattle.bpf_profile.specs.Limits.{most_slots, context_size};
 ghost use Rattle.bpf_profile.specs.Meaning.{instruction_at};
 ghost use Rattle.bpf_profile.specs.Safety.{IsSafe};
 ghost use Rattle.bpf_profile.specs.Spelling.{Spells};
 ghost use Rattle.bpf_profile.specs.Flow.{flow_fault, IsBudget};
-ghost use Rattle.bpf_profile.specs.Outcomes.{context_size};
 ghost use Rattle.verifier.specs.Analysis.{analysis_fault};
 ghost use Rattle.verifier.specs.Verifying.{out_of_memory, fault_of, IsAccepted, IsProgramRefused, IsRefused, IsVerification};
 
@@ -48,9 +48,9 @@ impl Verified {
     pub fn budget(&self) -> u32
         ensures budget { result ≡ self.now.budget }
         ensures some { 1 ≤ result }
-        ensures most { result ≤ 4096 }
+        ensures most { result ≤ most_slots }
         ensures safe { IsSafe context_size self.now.slots self.now.budget }
-        ensures few { length self.now.slots ≤ 4096 }
+        ensures few { length self.now.slots ≤ most_slots }
         // Decoding, flow and the analysis accepted some bytes as this program.
         ensures verified { (bytes : List ℕ) × IsVerification bytes self.now }
     {
@@ -71,7 +71,7 @@ impl Verified {
         &self.program
     }
 
-    /// The instruction at a slot that is no tail, as it was decoded when the program was verified.
+    /// The instruction at a slot that is no tail. It was decoded when the program was verified.
     pub fn instruction(&self, slot: usize) -> &Instruction
         requires { IsSome (instruction_at self.now.slots slot) }
         ensures { instruction_at self.now.slots slot ≡ Some result.now }
@@ -84,28 +84,23 @@ impl Verified {
 fn checked(alloc: Global, program: &Program) -> Result<u32, Refusal>
     ensures budget { IfOk result (λ budget. IsBudget program.now budget) }
     ensures some { IfOk result (λ budget. 1 ≤ budget) }
-    ensures most { IfOk result (λ budget. budget ≤ 4096) }
+    ensures most { IfOk result (λ budget. budget ≤ most_slots) }
     ensures safe { IfOk result (λ budget. IsSafe context_size program.now budget) }
     ensures accepted { OnOk result (IsAccepted program.now) }
     ensures refused { IfErr result (λ e. (e ≡ out_of_memory) ⊎ IsProgramRefused program.now (fault_of e)) }
-    ensures slot { IfErr result (λ e. e.slot < 4096) }
+    ensures slot { IfErr result (λ e. e.slot < most_slots) }
 {
-    let flow = match check(alloc, program) {
-        Ok(flow) => flow,
-        Err(error) => return Err(Refusal::from(error)),
-    };
-    match analyse::<Both<Range, KnownBits>>(alloc, program, &flow) {
-        Ok(_) => Ok(flow.budget()),
-        Err(refusal) => Err(refusal),
-    }
+    let flow = check(alloc, program)?;
+    analyse::<Both<Range, KnownBits>>(alloc, program, &flow)?;
+    Ok(flow.budget())
 }
 
-/// What is kept of a program that was checked.
+/// The verified program, made of what was checked.
 fn kept(alloc: Global, program: Program, bytes: &[u8], budget: u32) -> Result<Verified, AllocError>
     requires verified { IsVerification bytes.now (record { slots = program; budget = budget }) }
     requires safe { IsSafe context_size program budget }
     requires some { 1 ≤ budget }
-    requires most { budget ≤ 4096 }
+    requires most { budget ≤ most_slots }
     ensures program { IfOk result (λ v. v.slots ≡ program) }
     ensures budget { IfOk result (λ v. v.budget ≡ budget) }
 {
@@ -132,18 +127,9 @@ pub fn verify(alloc: Global, bytes: &[u8]) -> Result<Verified, Refusal>
     // A refusal is the first fault, unless memory ran out.
     ensures refused { IfErr result (λ e. (e ≡ out_of_memory) ⊎ IsRefused bytes.now (fault_of e)) }
     // Its slot is one that a program may have.
-    ensures slot { IfErr result (λ e. e.slot < 4096) }
+    ensures slot { IfErr result (λ e. e.slot < most_slots) }
 {
-    let program = match Program::decode(alloc, bytes) {
-        Ok(program) => program,
-        Err(error) => return Err(Refusal::from(error)),
-    };
-    let budget = match checked(alloc, &program) {
-        Ok(budget) => budget,
-        Err(refusal) => return Err(refusal),
-    };
-    match kept(alloc, program, bytes, budget) {
-        Ok(verified) => Ok(verified),
-        Err(_) => Err(Refusal::out_of_memory()),
-    }
+    let program = Program::decode(alloc, bytes)?;
+    let budget = checked(alloc, &program)?;
+    Ok(kept(alloc, program, bytes, budget)?)
 }

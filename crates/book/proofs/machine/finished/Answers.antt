@@ -1,6 +1,6 @@
 use Rattle.std.proofs.Common.{◌≡◌, ◌∙◌, Some, sym, subst}
 use Rattle.service_profile.specs.Machine.{open_ticket, is_issued}
-use Rattle.book.specs.Situations.{situation_in}
+use Rattle.book.specs.Following.{situation_in}
 use Rattle.book.proofs.Planned.{found_number, finished_under_plan}
 use Rattle.book.proofs.machine.finished.Goals as goal
 

@@ -1,10 +1,10 @@
 use Rattle.std.proofs.Common.{◌≡◌, ◌+◌, ◌∙◌, ℕ, suc, List, Result, Ok, sym, ap, subst, arith}
 use Rattle.bpf_profile.specs.declared.machine.TrapReason.{TrapReason}
 use Rattle.bpf_profile.specs.declared.slot.Slot.{Slot}
+use Rattle.bpf_profile.specs.Limits.{context_size}
 use Rattle.bpf_profile.specs.Machine.{goes}
 use Rattle.bpf_profile.specs.Meaning.{step, entry, Reaches}
 use Rattle.bpf_slow.specs.declared.progress.Progress.{Progress}
-use Rattle.bpf_profile.specs.Outcomes.{context_size}
 use Rattle.bpf_slow.specs.Progress.{effect_of_step}
 use Rattle.bpf_slow.proofs.Traces.{reaches_none, reaches_more}
 use Rattle.bpf_slow.proofs.tracing.trace.Goals as goal

@@ -1,5 +1,5 @@
+use Rattle.bpf_profile.specs.Limits.{context_size}
 use Rattle.bpf_profile.specs.Meaning.{entry, Reaches}
-use Rattle.bpf_profile.specs.Outcomes.{context_size}
 use Rattle.bpf_slow.proofs.tracing.trace.Given as goal
 
 -- so many steps were made

@@ -2,6 +2,7 @@ use Rattle.std.proofs.Common.{◌≡◌, ◌+◌, ℕ, ◌≤◌, ◌∷◌, [],
 use Rattle.std.proofs.lemmas.List.{map-append}
 use Rattle.std.specs.List.{range_with_len}
 use Rattle.std.proofs.lemmas.List.FromFn.{length-map-range_with_len, map-range_with_len_more}
+use Rattle.bpf_profile.specs.Limits.{most_slots}
 use Rattle.bpf_profile.specs.Flow.{successors}
 use Rattle.flow_check.specs.Passes.{IsLengthened}
 use Rattle.flow_check.specs.Routes.{successor_list, successors_at}
@@ -13,7 +14,7 @@ use Rattle.flow_check.proofs.flow.follow_all.Goals as goal
 pub overflow_add-count : goal.overflow_add-count
 overflow_add-count c =
     let accepted : IsAccepted c.args.slots.now = record { program = c.requires.program; faultless = c.requires.accepted } in
-    let few : get_or c.loop-place.longest c.loop-place.place 0 ≤ 4096 = traced_few c.args.slots.now accepted c.loop-place.place _ _ _ c.loop-place.invariant.0 refl in
+    let few : get_or c.loop-place.longest c.loop-place.place 0 ≤ most_slots = traced_few c.args.slots.now accepted c.loop-place.place _ _ _ c.loop-place.invariant.0 refl in
     omega (arith, few)
 
 pub loop-place-preserved : goal.loop-place-preserved

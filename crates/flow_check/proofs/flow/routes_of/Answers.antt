@@ -2,9 +2,10 @@ use Rattle.std.proofs.Common.{length}
 use Rattle.std.proofs.lemmas.List.{take-replicate}
 use Rattle.flow_check.proofs.EdgeKinds.{are_few}
 use Rattle.flow_check.proofs.flow.routes_of.Goals as goal
+use Rattle.bpf_profile.specs.Limits.{most_slots}
 
 pub follow_all-requires-clause-unfound : goal.follow_all-requires-clause-unfound
-follow_all-requires-clause-unfound c = take-replicate (length c.args.slots.now) 4096 0 c.requires.program.few
+follow_all-requires-clause-unfound c = take-replicate (length c.args.slots.now) most_slots 0 c.requires.program.few
 
 pub invariant_of-result : goal.invariant_of-result
 invariant_of-result c =

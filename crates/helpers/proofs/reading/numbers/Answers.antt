@@ -5,8 +5,8 @@ use Rattle.helpers.specs.Json.{u64_of}
 use Rattle.helpers.proofs.Numbers.{none_if_many, read_next, zeros_next, read_all}
 use Rattle.helpers.proofs.reading.numbers.Goals as goal
 
-pub returns-then-items-gt16 : goal.returns-then-items-gt16
-returns-then-items-gt16 c = none_if_many 16 c.args.items.now c.if-items-gt16.true
+pub returns-then-items-gt-FACT_COUNT : goal.returns-then-items-gt-FACT_COUNT
+returns-then-items-gt-FACT_COUNT c = none_if_many 16 c.args.items.now c.if-items-gt-FACT_COUNT.true
 
 pub loop-i-preserved : goal.loop-i-preserved
 loop-i-preserved c =

@@ -1,8 +1,8 @@
 use Rattle.std.proofs.Common.{◌≡◌, List, None, sym, ap, ◌∙◌, subst}
+use Rattle.bpf_profile.specs.Limits.{context_size}
 use Rattle.bpf_profile.specs.Flow.{flow_fault}
 use Rattle.bpf_profile.specs.Spelling.{IsProgram}
 use Rattle.bpf_profile.specs.declared.slot.Slot.{Slot}
-use Rattle.bpf_profile.specs.Outcomes.{context_size}
 use Rattle.verifier.specs.Analysis.{analysis_fault}
 use Rattle.verifier.specs.Verifying.{IsFlowOf}
 use Rattle.verifier.proofs.Edges.{is_flow_of}

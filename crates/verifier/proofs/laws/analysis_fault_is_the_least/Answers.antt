@@ -1,9 +1,9 @@
 use Rattle.std.proofs.Common.{length, sym, ◌∙◌}
 use Rattle.bpf_profile.proofs.FirstFaults.{least_is, is_least, none_is, is_none}
-use Rattle.bpf_profile.specs.Outcomes.{context_size}
 use Rattle.verifier.specs.Analysis.{fault_at}
 use Rattle.verifier.proofs.FirstFault.{analysis_is}
 use Rattle.verifier.proofs.laws.analysis_fault_is_the_least.Goals as goal
+use Rattle.bpf_profile.specs.Limits.{context_size}
 
 pub returns : goal.returns
 returns g c = record {

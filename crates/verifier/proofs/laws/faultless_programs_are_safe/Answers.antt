@@ -1,6 +1,6 @@
-use Rattle.bpf_profile.specs.Outcomes.{context_size}
 use Rattle.verifier.proofs.Sound.{sound, are_words}
 use Rattle.verifier.proofs.laws.faultless_programs_are_safe.Goals as goal
+use Rattle.bpf_profile.specs.Limits.{context_size}
 
 -- the laws of the domain are all that soundness stands on
 pub returns : goal.returns

@@ -4,9 +4,9 @@ use Rattle.refusals.specs.declared.RefusalNumber.{RefusalNumber}
 use Rattle.abs_states.specs.declared.state.AbsState.{AbsState}
 use Rattle.abs_states.specs.Transfers.{transfer_in}
 use Rattle.bpf_profile.specs.declared.instruction.Instruction.{Instruction}
+use Rattle.bpf_profile.specs.Limits.{context_size}
 use Rattle.bpf_profile.specs.Flow.{edges_of}
 use Rattle.bpf_profile.specs.Meaning.{instruction_at}
-use Rattle.bpf_profile.specs.Outcomes.{context_size}
 use Rattle.verifier.specs.Analysis.{message_to, sent_with}
 use Rattle.verifier.specs.Passes.{state_of, delivered_all}
 use Rattle.verifier.proofs.Delivered.{delivered_both, sent_along}

@@ -1,9 +1,9 @@
 use Rattle.std.proofs.Common.{◌≤◌, length, sym, ap, ◌∙◌, subst, arith}
-use Rattle.bpf_profile.specs.Outcomes.{context_size}
 use Rattle.verifier.specs.Analysis.{fault_from}
 use Rattle.verifier.proofs.Edges.{forward}
 use Rattle.verifier.proofs.Known.{Sent, none_sent, sent_more, all_known, fault_here, fault_on, fault_ends, fault_done}
 use Rattle.verifier.proofs.passes.pass_all.Goals as goal
+use Rattle.bpf_profile.specs.Limits.{context_size}
 
 pub loop-place-init : goal.loop-place-init
 loop-place-init g c = record {

@@ -1,8 +1,8 @@
 use Rattle.std.proofs.Common.{◌≡◌, ◌-◌, length}
-use Rattle.bpf_profile.specs.Outcomes.{context_size}
 use Rattle.verifier.specs.Analysis.{fault_from}
 use Rattle.verifier.proofs.Known.{Sent}
 use Rattle.verifier.proofs.passes.pass_all.Given as goal
+use Rattle.bpf_profile.specs.Limits.{context_size}
 
 -- the slots so far have sent, and the fault is the first of those that are left
 abbrev pub invariant-loop-place : goal.invariant-loop-place

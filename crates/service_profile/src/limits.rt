@@ -1,0 +1,13 @@
+//! The limits of a service. Contracts have the same numbers by the names in `specs/Limits`.
+
+/// How many versions of its program a service holds at most.
+pub const MOST_VERSIONS: usize = 256;
+
+/// How many entries a journal holds at most.
+pub const MOST_ENTRIES: usize = 65_536;
+
+/// How many entries a page of the journal has at most.
+pub const MOST_PAGE_ENTRIES: usize = 100;
+
+/// The greatest number that an opening goes on from.
+pub const GREATEST_NUMBER: u64 = 1 << 63;
