@@ -1,0 +1,44 @@
+-- What a request asks for, by its route, the number in its path and its body.
+use Rattle.std.specs.Prelude.{ℕ, List, Option, Some, None, option_map, Result, Ok, Err, codes}
+use Rattle.std.specs.Option.{ok_or}
+use Rattle.serde_json.specs.Data.{Data}
+use Rattle.refusals.specs.declared.RefusalNumber.{RefusalNumber}
+use Rattle.refusals.specs.declared.RefusalNumber.TheVariants as refusal
+use Rattle.requests.specs.Reports.{report_of}
+use Rattle.requests.specs.Text.{json_of}
+use Rattle.requests.specs.Transitions.{state_of}
+use Rattle.requests.specs.Values.{number_at}
+use Rattle.service_profile.specs.Answers.{map_ok}
+use Rattle.service.specs.Asked.{RequestData, acquire, report, release, install, move, reset, read, page, cut}
+use Rattle.http_routes.specs.EntryNumbers.{entry_number}
+use Rattle.http_routes.specs.declared.table.Route.{Route}
+use Rattle.http_routes.specs.declared.table.Route.TheVariants as route
+
+-- what a JSON value asks for by a route whose body is JSON; None where a value is missing, of the wrong kind or out of range
+abbrev pub value_asks : Route → Data → Option RequestData
+value_asks route.Report d = option_map report (report_of d)
+value_asks route.Release d = option_map release (number_at (codes "ticket") d)
+value_asks route.Transition d = option_map move (state_of d)
+value_asks other d = None
+
+-- a body that is no JSON is refused as such, before its values are looked at
+abbrev pub json_asks : Route → Option Data → Result RequestData RefusalNumber
+json_asks route None = Err refusal.BadJson
+json_asks route (Some d) = ok_or (value_asks route d) refusal.BadValue
+
+-- a page of the journal, from the number in the path on
+abbrev pub page_asks : Option (List ℕ) → Result RequestData RefusalNumber
+page_asks None = Err refusal.BadValue
+page_asks (Some number) = map_ok page (entry_number number)
+
+-- what is asked for, or why nothing is: a report, a release and a transition have a body of JSON, a program is its body, and the other routes ignore theirs
+abbrev pub body_asks : Route → Option (List ℕ) → List ℕ → Result RequestData RefusalNumber
+body_asks route.Acquire number body = Ok acquire
+body_asks route.Report number body = json_asks route.Report (json_of body)
+body_asks route.Release number body = json_asks route.Release (json_of body)
+body_asks route.Transition number body = json_asks route.Transition (json_of body)
+body_asks route.Reset number body = Ok reset
+body_asks route.Cut number body = Ok cut
+body_asks route.Program number body = Ok (install body)
+body_asks route.State number body = Ok read
+body_asks route.Journal number body = page_asks number

@@ -1,0 +1,4 @@
+pub mod Asked
+pub mod Wanted
+pub mod Answered
+pub mod Named

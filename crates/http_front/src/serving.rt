@@ -1,0 +1,41 @@
+//! Serving services over HTTP.
+ghost use Rattle.std.specs.Prelude.{◌≡◌, ℕ, List};
+ghost use Rattle.std.specs.Io.KnownBytes.{Consumes, IsAtEnd};
+ghost use Rattle.http_serving.specs.Serving.{IsServed};
+ghost use Rattle.http_serving.specs.Writing.{IsCause};
+ghost use Rattle.http_front.specs.Answered.{fault_text, IsAnswered};
+
+use crate::answerer::Answerer;
+use crate::front::Front;
+use counted_io::Counted;
+use http_serving::{Clock, Ended};
+use std::alloc::Global;
+use std::io::{Read, Write};
+use std::sync::Wait;
+
+/// Serves one connection: answers its messages, one after another, until the input or the connection
+/// ends, a call fails or memory runs out. Each is answered at the moment that the clock tells once its
+/// body is whole.
+pub fn serve<R: Read, W: Write, A: Answerer, C: Clock>(
+    rt: &impl Wait,
+    alloc: Global,
+    reader: &mut Counted<R>,
+    writer: &mut Counted<W>,
+    answerer: &mut A,
+    clock: &mut C,
+) -> Ended
+    // What was written are the answers to the messages of the bytes that were read, in order, by how
+    // serving ended.
+    ensures served { (bytes : List ℕ) × Consumes (R.remaining reader.old.inner) (R.remaining reader.new.inner) bytes
+        × IsServed fault_text (IsAnswered A.holds A.answers) C.ticks result bytes answerer.old clock.old answerer.new clock.new (W.contents writer.old.inner) (W.contents writer.new.inner) }
+    // `Closed` and `Truncated` come only where no byte is left.
+    ensures closed { result ≡ Ended.Closed → IsAtEnd (R.remaining reader.new.inner) }
+    ensures truncated { result ≡ Ended.Truncated → IsAtEnd (R.remaining reader.new.inner) }
+    // `ReadFailed` and `WriteFailed` come only where that count went up by one, and no other call failed.
+    ensures cause { IsCause result reader.old.failures reader.new.failures writer.old.failures writer.new.failures }
+{
+    let Ok(front) = Front::new(alloc) else {
+        return Ended::OutOfMemory;
+    };
+    http_serving::serve(rt, alloc, reader, writer, &front, answerer, clock)
+}

@@ -1,0 +1,5 @@
+pub mod Lengths
+pub mod Fields
+pub mod Heads
+pub mod Messages
+pub mod Fronts

@@ -1,0 +1,12 @@
+//! The messages of HTTP/1.0 and HTTP/1.1 (RFC 9112) at the front of bytes: where the head is, how long the
+//! body is, what is refused, and whether more is to be read behind.
+#![tactic(auto)]
+
+mod fields;
+mod front;
+mod lengths;
+#[cfg(test)]
+mod tests;
+
+pub use front::{Fault, Front, Head, HeadParser};
+pub use lengths::decimal;

@@ -1,0 +1,7 @@
+pub mod Cuts
+pub mod Found
+pub mod Decimals
+pub mod Searches
+pub mod Readings
+pub mod Completeness
+pub mod Named

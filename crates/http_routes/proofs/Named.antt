@@ -1,0 +1,95 @@
+-- A path whose segments name a route asks for it.
+use Rattle.std.proofs.Common.{◌≡◌, ℕ, ◌<◌, List, [], ◌∷◌, ◌++◌, false, cond, ◌==◌, Option, Some, None, option_map, refl, ap, subst, ◌∙◌, arith, codes}
+use Rattle.std.specs.Prelude.{option_and_then}
+use Rattle.std.specs.Str.{IsUtf8}
+use Rattle.std.proofs.lemmas.Str.{is_utf8-from_IsUtf8}
+use Rattle.std.proofs.lemmas.Bool.Decides.{nat_tests}
+use Rattle.matchit.specs.Rows.{RowsOf, param_token}
+use Rattle.matchit.specs.Router.{RouteOf}
+use Rattle.matchit.specs.Seek.{has_slash, seek, first, param_step}
+use Rattle.http_routes.specs.declared.table.Route.{Route}
+use Rattle.http_routes.specs.declared.table.Route.TheVariants as route
+use Rattle.http_routes.specs.Finding.{Asked, asked_of, asked_at}
+use Rattle.http_routes.specs.Patterns.{IsSegment, IsRead, IsBytes}
+use Rattle.http_routes.specs.Routing.{row, journal_row, routes, route_of}
+use Rattle.http_routes.specs.Table.{word_of}
+use Rattle.http_routes.proofs.Completeness.{steps, seek-bytes, seek-param, seek-last}
+use Rattle.http_routes.proofs.Readings.{asks, read-asked}
+
+-- what is left of a route's pattern behind the service
+abbrev word_row : Route → List ℕ × RouteOf Route
+word_row r = (word_of r, (row r).1)
+
+abbrev word_rows : RowsOf (RouteOf Route)
+word_rows =
+    word_row route.Acquire ∷ word_row route.Cut ∷ (codes "journal/" ++ (param_token ∷ []), journal_row.1) ∷ word_row route.Program
+    ∷ word_row route.Release ∷ word_row route.Report ∷ word_row route.Reset ∷ word_row route.State ∷ word_row route.Transition ∷ []
+
+abbrev below : RowsOf (RouteOf Route)
+below = steps (codes "/v1/services/") routes
+
+no-byte : (b : ℕ) → b < 256 → (256 == b) ≡ false
+no-byte b small = grind (arith, nat_tests)
+
+behind-service : (b : ℕ) (s rest : List ℕ) → b < 256 → has_slash (b ∷ s) ≡ false → seek 0 routes (codes "/v1/services/" ++ ((b ∷ s) ++ (47 ∷ rest))) ≡ seek 0 word_rows rest
+unfolding routes
+behind-service b s rest small whole =
+    seek-bytes (codes "/v1/services/") ((b ∷ s) ++ (47 ∷ rest)) routes refl
+    ∙ seek-param below b s rest _ _ _ (rw (no-byte b small) refl) refl refl whole
+
+bytes-behind : (w rest : List ℕ) → IsBytes (w ++ rest) → IsBytes rest
+bytes-behind [] rest h = h
+bytes-behind (b ∷ w) rest h = bytes-behind w rest h.1
+
+-- a route is found whose row has this value
+abbrev Finds : List ℕ → Route → Type 0
+Finds path r = (x : RouteOf Route) × (first routes path ≡ Some x) × (x.value ≡ r)
+
+under : (service rest path : List ℕ) → IsBytes path → IsSegment service → path ≡ codes "/v1/services/" ++ (service ++ (47 ∷ rest)) → first routes path ≡ seek 0 word_rows rest
+under [] rest path bytes is e = absurd (omega (arith, is.nonempty))
+under (b ∷ s) rest path bytes is e =
+    let P : List ℕ → Type 0 = λ p. IsBytes p in
+    let tail = bytes-behind (codes "/v1/services/") ((b ∷ s) ++ (47 ∷ rest)) (subst P e bytes) in
+    ap (λ p. seek 0 routes p) e ∙ behind-service b s rest tail.0 is.whole
+
+number-found : (number : List ℕ) → IsBytes number → IsSegment number → seek 0 word_rows (codes "journal/" ++ number) ≡ Some journal_row.1
+number-found [] bytes is = absurd (omega (arith, is.nonempty))
+number-found (b ∷ s) bytes is =
+    seek-bytes (codes "journal/") (b ∷ s) word_rows refl
+    ∙ seek-last b s journal_row.1 (steps (codes "journal/") word_rows) (rw (no-byte b bytes.0) refl) refl refl is.whole
+
+number-bytes : (service number path : List ℕ) → IsBytes path → path ≡ codes "/v1/services/" ++ (service ++ (codes "/journal/" ++ number)) → IsBytes number
+number-bytes service number path bytes e =
+    let P : List ℕ → Type 0 = λ p. IsBytes p in
+    let tail = bytes-behind (codes "/v1/services/") (service ++ (codes "/journal/" ++ number)) (subst P e bytes) in
+    bytes-behind (codes "/journal/") number (bytes-behind service (codes "/journal/" ++ number) tail)
+
+finds-named : (r : Route) (service : List ℕ) (number : Option (List ℕ)) (path : List ℕ) → IsBytes path → IsRead path (asks r service number) → Finds path r
+unfolding seek param_step
+finds-named route.Acquire service None path bytes read = ((row route.Acquire).1, under service (codes "acquire") path bytes read.1 read.0, refl)
+finds-named route.Acquire service (Some number) path bytes read = absurd read.2
+finds-named route.Report service None path bytes read = ((row route.Report).1, under service (codes "report") path bytes read.1 read.0, refl)
+finds-named route.Report service (Some number) path bytes read = absurd read.2
+finds-named route.Release service None path bytes read = ((row route.Release).1, under service (codes "release") path bytes read.1 read.0, refl)
+finds-named route.Release service (Some number) path bytes read = absurd read.2
+finds-named route.Transition service None path bytes read = ((row route.Transition).1, under service (codes "transition") path bytes read.1 read.0, refl)
+finds-named route.Transition service (Some number) path bytes read = absurd read.2
+finds-named route.Reset service None path bytes read = ((row route.Reset).1, under service (codes "reset") path bytes read.1 read.0, refl)
+finds-named route.Reset service (Some number) path bytes read = absurd read.2
+finds-named route.Cut service None path bytes read = ((row route.Cut).1, under service (codes "cut") path bytes read.1 read.0, refl)
+finds-named route.Cut service (Some number) path bytes read = absurd read.2
+finds-named route.Program service None path bytes read = ((row route.Program).1, under service (codes "program") path bytes read.1 read.0, refl)
+finds-named route.Program service (Some number) path bytes read = absurd read.2
+finds-named route.State service None path bytes read = ((row route.State).1, under service (codes "state") path bytes read.1 read.0, refl)
+finds-named route.State service (Some number) path bytes read = absurd read.2
+finds-named route.Journal service None path bytes read = absurd read.2
+finds-named route.Journal service (Some number) path bytes read =
+    (journal_row.1, under service (codes "journal/" ++ number) path bytes read.1 read.0 ∙ number-found number (number-bytes service number path bytes read.0) read.2, refl)
+
+pub named-asked : (path : List ℕ) (asked : Asked) → IsBytes path → IsUtf8 path → IsRead path asked → asked_at path ≡ Some asked
+named-asked path asked bytes text read =
+    let found = finds-named asked.route asked.service asked.number path bytes read in
+    let value : Option (RouteOf Route) → Option Route = λ o. option_map (λ (x : RouteOf Route). x.value) o in
+    let is_route : route_of path ≡ Some asked.route =
+    ap (λ c. cond c (value (first routes path)) None) (is_utf8-from_IsUtf8 path text) ∙ ap value found.1 ∙ ap (λ r. Some r) found.2 in
+    ap (option_and_then (asked_of path)) is_route ∙ read-asked path asked read

@@ -1,0 +1,218 @@
+-- The route that the search finds is the one that the segments of the path name.
+use Rattle.std.proofs.Common.{◌≡◌, ℕ, zero, suc, ◌<◌, get_or, take, List, [], ◌∷◌, ◌++◌, Bool, true, false, cond, ◌&&◌, ltb, ◌==◌, Option, Some, None, option_map, inl, inr, refl, ap, sym, subst, ◌∙◌, arith, codes, append-nil}
+use Rattle.std.proofs.lemmas.Bool.{ltb-true}
+use Rattle.std.proofs.lemmas.Bool.Decides.{nat_tests}
+use Rattle.matchit.specs.Rows.{param_token}
+use Rattle.matchit.specs.Router.{RouteOf}
+use Rattle.matchit.specs.Seek.{first, has_slash}
+use Rattle.http_routes.specs.declared.table.Route.{Route}
+use Rattle.http_routes.specs.declared.table.Route.TheVariants as route
+use Rattle.http_routes.specs.Finding.{Asked, asked_of, asked_at}
+use Rattle.http_routes.specs.Paths.{path_of, segments}
+use Rattle.http_routes.specs.Patterns.{IsSegment, HasNumber, IsRead, IsBytes}
+use Rattle.http_routes.specs.Routing.{Row, row, journal_row, routes, route_of}
+use Rattle.http_routes.specs.Table.{word_of}
+use Rattle.std.specs.List.{slice_split, onto_first, position_or_len}
+use Rattle.std.specs.Prelude.{slice_get, option_and_then}
+use Rattle.std.specs.Str.{is_utf8}
+use Rattle.http_routes.proofs.Searches.{Fits, first-reads}
+
+abbrev is_plain : List ℕ → Bool
+is_plain [] = true
+is_plain (x ∷ w) = ltb x 256 && is_plain w
+
+pub and-both : (a b : Bool) → a && b ≡ true → (a ≡ true) × (b ≡ true)
+and-both true b e = (refl, e)
+and-both false b e = absurd (let never : false ≡ true = e in cc)
+
+behind : (x : ℕ) (path rest w last : List ℕ) → path ≡ x ∷ rest → rest ≡ w ++ last → path ≡ x ∷ (w ++ last)
+behind x path rest w last e f = e ∙ ap (λ l. x ∷ l) f
+
+-- a pattern's bytes stand for themselves
+fits-text : (w t path : List ℕ) → is_plain w ≡ true → Fits (w ++ t) path → (rest : List ℕ) × (path ≡ w ++ rest) × Fits t rest
+fits-text [] t path plain fits = (path, refl, fits)
+fits-text (x ∷ w) t path plain fits =
+    let both = and-both (ltb x 256) (is_plain w) plain in
+    let small : x < 256 = ltb-true x 256 both.0 in
+    let byte : (x == 256) ≡ false = grind (arith, nat_tests) in
+    let byte_too : (x == 257) ≡ false = grind (arith, nat_tests) in
+    let head = rw (byte, byte_too) at fits in
+    let tail = fits-text w t head.0 both.1 head.2 in
+    (tail.0, behind x path head.0 w tail.0 head.1 tail.1, tail.2)
+
+-- a path under a service
+under : (t path : List ℕ) → Fits (codes "/v1/services/" ++ (param_token ∷ t)) path
+    → (service : List ℕ) × (rest : List ℕ) × (path ≡ codes "/v1/services/" ++ (service ++ rest)) × IsSegment service × Fits t rest
+under t path fits =
+    let below = fits-text (codes "/v1/services/") (param_token ∷ t) path refl fits in
+    let s = below.2 in
+    (s.0, s.1, below.1 ∙ ap (λ l. codes "/v1/services/" ++ l) s.2, s.3, s.4)
+
+abbrev Asks : List ℕ → Route → Type 0
+Asks path r = (asked : Asked) × (asked.route ≡ r) × IsRead path asked
+
+-- a route without a number
+plain-asks : (r : Route) (path : List ℕ) → is_plain (word_of r) ≡ true → HasNumber r None → Fits (codes "/v1/services/" ++ (param_token ∷ (47 ∷ word_of r ++ []))) path → Asks path r
+plain-asks r path plain none fits =
+    let found = under (47 ∷ word_of r ++ []) path fits in
+    let word = fits-text (47 ∷ word_of r) [] found.1 plain found.4 in
+    let end : found.1 ≡ 47 ∷ (word_of r ++ []) = word.1 ∙ ap (λ l. 47 ∷ (word_of r ++ l)) word.2 in
+    (record { route = r; service = found.0; number = None }, refl, (found.2 ∙ ap (λ l. codes "/v1/services/" ++ (found.0 ++ l)) end, found.3, none))
+
+journal-asks : (path : List ℕ) → Fits (codes "/v1/services/" ++ (param_token ∷ (codes "/journal/" ++ (param_token ∷ [])))) path → Asks path route.Journal
+journal-asks path fits =
+    let found = under (codes "/journal/" ++ (param_token ∷ [])) path fits in
+    let word = fits-text (codes "/journal/") (param_token ∷ []) found.1 refl found.4 in
+    let last = word.2 in
+    let number : word.0 ≡ last.0 = last.2 ∙ ap (λ l. last.0 ++ l) last.4 ∙ append-nil last.0 in
+    let end : found.1 ≡ codes "/journal/" ++ last.0 = word.1 ∙ ap (λ l. codes "/journal/" ++ l) number in
+    (record { route = route.Journal; service = found.0; number = Some last.0 }, refl, (found.2 ∙ ap (λ l. codes "/v1/services/" ++ (found.0 ++ l)) end, found.3, last.3))
+
+by-row : (x : Row) (path t : List ℕ) (r : RouteOf Route) → (x.0 ≡ t) × (x.1 ≡ r) → (Fits x.0 path → Asks path x.1.value) → Fits t path → Asks path r.value
+by-row x path t r same asks fits =
+    let P : List ℕ → Type 0 = λ u. Fits u path in
+    let Q : RouteOf Route → Type 0 = λ l. Asks path l.value in
+    subst Q same.1 (asks (subst P (sym same.0) fits))
+
+route-asks : (path : List ℕ) (r : RouteOf Route) → IsBytes path → first routes path ≡ Some r → Asks path r.value
+unfolding routes
+route-asks path r bytes e =
+    let found = first-reads path routes r bytes e in
+    elim found.1 [
+      | inl h ↦ by-row (row route.Acquire) path found.0 r h (plain-asks route.Acquire path refl tt) found.2
+      | inr h1 ↦ elim h1 [
+        | inl h ↦ by-row (row route.Cut) path found.0 r h (plain-asks route.Cut path refl tt) found.2
+        | inr h2 ↦ elim h2 [
+          | inl h ↦ by-row journal_row path found.0 r h (journal-asks path) found.2
+          | inr h3 ↦ elim h3 [
+            | inl h ↦ by-row (row route.Program) path found.0 r h (plain-asks route.Program path refl tt) found.2
+            | inr h4 ↦ elim h4 [
+              | inl h ↦ by-row (row route.Release) path found.0 r h (plain-asks route.Release path refl tt) found.2
+              | inr h5 ↦ elim h5 [
+                | inl h ↦ by-row (row route.Report) path found.0 r h (plain-asks route.Report path refl tt) found.2
+                | inr h6 ↦ elim h6 [
+                  | inl h ↦ by-row (row route.Reset) path found.0 r h (plain-asks route.Reset path refl tt) found.2
+                  | inr h7 ↦ elim h7 [
+                    | inl h ↦ by-row (row route.State) path found.0 r h (plain-asks route.State path refl tt) found.2
+                    | inr h8 ↦ elim h8 [
+                      | inl h ↦ by-row (row route.Transition) path found.0 r h (plain-asks route.Transition path refl tt) found.2
+                      | inr none ↦ absurd none
+                    ]
+                  ]
+                ]
+              ]
+            ]
+          ]
+        ]
+      ]
+    ]
+
+-- ---- segments
+
+abbrev is_slash : ℕ → Bool
+is_slash b = b == 47
+
+pub byte-of : (c : Bool) (rest : Bool) → cond c true rest ≡ false → (c ≡ false) × (rest ≡ false)
+byte-of true rest e = absurd (let never : true ≡ false = e in cc)
+byte-of false rest e = (refl, e)
+
+split-segment : (s ys : List ℕ) → has_slash s ≡ false → slice_split is_slash (s ++ (47 ∷ ys)) ≡ s ∷ slice_split is_slash ys
+split-segment [] ys whole = refl
+split-segment (b ∷ s) ys whole =
+    let both = byte-of (b == 47) (has_slash s) whole in
+    rw (both.0, split-segment s ys both.1) refl
+
+split-last : (s : List ℕ) → has_slash s ≡ false → slice_split is_slash s ≡ s ∷ []
+split-last [] whole = refl
+split-last (b ∷ s) whole =
+    let both = byte-of (b == 47) (has_slash s) whole in
+    rw (both.0, split-last s both.1) refl
+
+-- the segments of a route's path
+segments-under : (s rest : List ℕ) → IsSegment s → segments (codes "/v1/services/" ++ (s ++ (47 ∷ rest))) ≡ [] ∷ codes "v1" ∷ codes "services" ∷ s ∷ slice_split is_slash rest
+segments-under s rest is = ap (λ l. [] ∷ onto_first 118 (onto_first 49 ([] ∷ l))) (ap (λ l. onto_first 115 (onto_first 101 (onto_first 114 (onto_first 118 (onto_first 105 (onto_first 99 (onto_first 101 (onto_first 115 ([] ∷ l))))))))) (split-segment s rest is.whole))
+
+abbrev Places : List ℕ → Asked → Type 0
+Places path asked = (slice_get (segments path) 3 ≡ Some asked.service) × (slice_get (segments path) 5 ≡ asked.number)
+
+places-plain : (asked : Asked) (path : List ℕ) (word : List ℕ) → IsSegment asked.service → path ≡ codes "/v1/services/" ++ (asked.service ++ (47 ∷ word)) → slice_split is_slash word ≡ word ∷ [] → asked.number ≡ None → Places path asked
+places-plain asked path word is e whole none =
+    let parts = ap segments e ∙ segments-under asked.service word is ∙ ap (λ l. [] ∷ codes "v1" ∷ codes "services" ∷ asked.service ∷ l) whole in
+    (ap (λ l. slice_get l 3) parts, ap (λ l. slice_get l 5) parts ∙ sym none)
+
+abbrev pub asks : Route → List ℕ → Option (List ℕ) → Asked
+asks r service number = record { route = r; service = service; number = number }
+
+places-of : (r : Route) (service : List ℕ) (number : Option (List ℕ)) (path : List ℕ) → IsRead path (asks r service number) → Places path (asks r service number)
+places-of route.Acquire service None path read = places-plain (asks route.Acquire service None) path (codes "acquire") read.1 read.0 refl refl
+places-of route.Acquire service (Some number) path read = absurd read.2
+places-of route.Report service None path read = places-plain (asks route.Report service None) path (codes "report") read.1 read.0 refl refl
+places-of route.Report service (Some number) path read = absurd read.2
+places-of route.Release service None path read = places-plain (asks route.Release service None) path (codes "release") read.1 read.0 refl refl
+places-of route.Release service (Some number) path read = absurd read.2
+places-of route.Transition service None path read = places-plain (asks route.Transition service None) path (codes "transition") read.1 read.0 refl refl
+places-of route.Transition service (Some number) path read = absurd read.2
+places-of route.Reset service None path read = places-plain (asks route.Reset service None) path (codes "reset") read.1 read.0 refl refl
+places-of route.Reset service (Some number) path read = absurd read.2
+places-of route.Cut service None path read = places-plain (asks route.Cut service None) path (codes "cut") read.1 read.0 refl refl
+places-of route.Cut service (Some number) path read = absurd read.2
+places-of route.Program service None path read = places-plain (asks route.Program service None) path (codes "program") read.1 read.0 refl refl
+places-of route.Program service (Some number) path read = absurd read.2
+places-of route.State service None path read = places-plain (asks route.State service None) path (codes "state") read.1 read.0 refl refl
+places-of route.State service (Some number) path read = absurd read.2
+places-of route.Journal service None path read = absurd read.2
+places-of route.Journal service (Some number) path read =
+    let rest : slice_split is_slash (codes "journal/" ++ number) ≡ codes "journal" ∷ number ∷ [] =
+    ap (λ l. onto_first 106 (onto_first 111 (onto_first 117 (onto_first 114 (onto_first 110 (onto_first 97 (onto_first 108 ([] ∷ l)))))))) (split-last number read.2.whole) in
+    let parts = ap segments read.0 ∙ segments-under service (codes "journal/" ++ number) read.1 ∙ ap (λ l. [] ∷ codes "v1" ∷ codes "services" ∷ service ∷ l) rest in
+    (ap (λ l. slice_get l 3) parts, ap (λ l. slice_get l 5) parts)
+
+-- a path that is read so asks for that
+pub read-asked : (path : List ℕ) (asked : Asked) → IsRead path asked → asked_of path asked.route ≡ Some asked
+read-asked path asked read =
+    let places = places-of asked.route asked.service asked.number path read in
+    ap (λ found. option_map (λ service. asks asked.route service (slice_get (segments path) 5)) found) places.0
+    ∙ ap (λ number. Some (asks asked.route asked.service number)) places.1
+
+by-first : (path : List ℕ) (asked : Asked) (found : Option (RouteOf Route)) → IsBytes path → first routes path ≡ found → option_and_then (asked_of path) (option_map (λ (r : RouteOf Route). r.value) found) ≡ Some asked → IsRead path asked
+by-first path asked None bytes f e = let never : None ≡ Some asked = e in cc
+by-first path asked (Some r) bytes f e =
+    let read = route-asks path r bytes f in
+    let other : asked_of path r.value ≡ Some read.0 = ap (asked_of path) (sym read.1) ∙ read-asked path read.0 read.2 in
+    let both : Some asked ≡ Some read.0 = sym e ∙ other in
+    let same : asked ≡ read.0 = cc in
+    let P : Asked → Type 0 = λ a. IsRead path a in
+    subst P (sym same) read.2
+
+-- what is found in a path is what its segments name
+pub asked_at-read : (path : List ℕ) (asked : Asked) → IsBytes path → asked_at path ≡ Some asked → IsRead path asked
+asked_at-read path asked bytes e =
+    elim (is_utf8 path) as (λ c. option_and_then (asked_of path) (cond c (option_map (λ (r : RouteOf Route). r.value) (first routes path)) None) ≡ Some asked → IsRead path asked) [
+      | true ↦ λ g. by-first path asked (first routes path) bytes refl g
+      | false ↦ λ g. let never : None ≡ Some asked = g in cc
+    ] e
+
+-- ---- bytes
+
+pub bytes-each : (xs : List ℕ) → ((i : ℕ) → get_or xs i 0 < 256) → IsBytes xs
+bytes-each [] h = tt
+bytes-each (x ∷ xs) h = (h 0, bytes-each xs (λ i. h (suc i)))
+
+bytes-take : (n : ℕ) (xs : List ℕ) → IsBytes xs → IsBytes (take n xs)
+bytes-take zero xs h = tt
+bytes-take (suc n) [] h = tt
+bytes-take (suc n) (x ∷ xs) h = (h.0, bytes-take n xs h.1)
+
+-- what is found in parts
+asked_at-parts : (path : List ℕ) (r : Route) (service : List ℕ) (number : Option (List ℕ)) → Some r ≡ route_of path → Some service ≡ slice_get (segments path) 3 → number ≡ slice_get (segments path) 5 → asked_at path ≡ Some (asks r service number)
+asked_at-parts path r service number is_route is_service is_number =
+    ap (option_and_then (asked_of path)) (sym is_route)
+    ∙ ap (λ found. option_map (λ s. asks r s (slice_get (segments path) 5)) found) (sym is_service)
+    ∙ ap (λ n. Some (asks r service n)) (sym is_number)
+
+pub target-read : (target path : List ℕ) (r : Route) (service : List ℕ) (number : Option (List ℕ)) → path ≡ path_of target → IsBytes target → Some r ≡ route_of path → Some service ≡ slice_get (segments path) 3 → number ≡ slice_get (segments path) 5 → IsRead (path_of target) (asks r service number)
+target-read target path r service number same bytes is_route is_service is_number =
+    let P : List ℕ → Type 0 = λ p. IsRead p (asks r service number) in
+    let Q : List ℕ → Type 0 = λ p. IsBytes p in
+    let within = subst Q (sym same) (bytes-take (position_or_len (λ b. b == 63) target) target bytes) in
+    subst P same (asked_at-read path (asks r service number) within (asked_at-parts path r service number is_route is_service is_number))

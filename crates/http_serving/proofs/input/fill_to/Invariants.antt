@@ -1,0 +1,12 @@
+use Rattle.std.proofs.Common.{◌≡◌, ◌-◌, length}
+use Rattle.http_serving.specs.Reading.{ReadsMore}
+use Rattle.http_serving.proofs.input.fill_to.Given as goal
+
+abbrev pub invariant-reading : goal.invariant-reading
+invariant-reading g l = record {
+  read : ReadsMore (g.R.Read.remaining l.fn.reader.inner) (g.R.Read.remaining l.reader.inner) l.fn.unread.items l.unread.items;
+  quiet : l.reader.failures ≡ l.fn.reader.failures;
+}
+
+abbrev pub decreases-reading : goal.decreases-reading
+decreases-reading g l = l.size - length l.unread.items

@@ -1,0 +1,19 @@
+//! How serving ends.
+
+/// How serving an input ended.
+#[derive(Clone, Copy, Debug, PartialEq, Eq)]
+pub enum Ended {
+    /// The input ended between messages.
+    Closed,
+    /// Nothing is read behind the last message: it was refused, is one of HTTP/1.0, or asked for the end
+    /// of the connection.
+    Finished,
+    /// The input ended within a message: nothing is answered or done for it.
+    Truncated,
+    /// A read failed. One that was interrupted failed too.
+    ReadFailed,
+    /// A write failed, or took nothing. One that was interrupted failed too.
+    WriteFailed,
+    /// Memory ran out.
+    OutOfMemory,
+}

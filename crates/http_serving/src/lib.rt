@@ -1,0 +1,16 @@
+//! Serving messages of HTTP from any reader to any writer, by any responder and any clock.
+#![tactic(auto)]
+
+mod clock;
+mod ended;
+mod input;
+mod output;
+mod responder;
+mod serving;
+#[cfg(test)]
+mod tests;
+
+pub use clock::Clock;
+pub use ended::Ended;
+pub use responder::{Request, Responder};
+pub use serving::serve;
