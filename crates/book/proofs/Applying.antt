@@ -1,32 +1,30 @@
 -- A book with one line more.
-use Rattle.std.proofs.Common.{◌≡◌, ℕ, suc, ◌+◌, ◌^◌, ◌≤◌, ◌<◌, ◌==◌, ◌&&◌, max, Bool, true, false, if◌then◌else◌, List, [], ◌∷◌, ◌++◌, map, length, Option, Some, None, option_to_list, arith, refl, ap, sym, ◌∙◌, subst, length-append}
-use Rattle.std.proofs.lemmas.List.{length-map}
-use Rattle.std.specs.Arc.{arc_value}
+use Rattle.std.proofs.Common.{◌≡◌, ℕ, suc, ◌+◌, ◌^◌, ◌≤◌, ◌<◌, ◌==◌, ◌&&◌, max, Bool, true, false, if◌then◌else◌, List, [], ◌∷◌, ◌++◌, length, Option, Some, None, Result, Ok, Err, arith, refl, ap, sym, ◌∙◌, subst, length-append}
+use Rattle.std.specs.Result.{is_err, OnOk, OnErr}
 use Rattle.std.specs.List.{filter_map, cons_option, fold}
 use Rattle.std.proofs.Math.Nat.{le-max_right, max-le}
 use Rattle.std.proofs.lemmas.List.Sums.{fold-append}
-use Rattle.book.specs.declared.books.Start.{Start}
-use Rattle.book.specs.declared.breaker.Breaker.{Breaker}
 use Rattle.service_profile.specs.declared.standings.Standing.{Standing}
 use Rattle.service_profile.specs.declared.configuration.ConfigParts.{ConfigParts}
 use Rattle.book.specs.declared.events.Event.{Event}
 use Rattle.service_profile.specs.declared.decisions.Decision.{Decision}
-use Rattle.book.specs.declared.registry.Registry.{Registry}
+use Rattle.book.specs.declared.service.Service.{Service}
 use Rattle.service_profile.specs.Limits.{most_entries}
 use Rattle.service_profile.specs.Answers.{answer, line_of, with_line, IsApplied, as_documented}
 use Rattle.service_profile.specs.Events.{EventData, history_of, EntryData, Opening}
-use Rattle.book.specs.Books.{opening_of}
+use Rattle.book.specs.Books.{IsBook, opening_of}
 use Rattle.service_profile.specs.Machine.{is_refused_call, Situation, decision, is_entered}
-use Rattle.book.specs.Following.{situation, notes_after, tickets_after, one_where_some, refused_after, situation_after}
-use Rattle.service_profile.specs.Histories.{Stage, Past, note_by, note_at, taken_in, notes_of, end_by, issue_by, install_by, situation_of, machine, opened, passed, past_of, greatest, raised, next_line, refused_of, Follows, AreLegal, IsLegal}
-use Rattle.book.specs.Safe.{IsSafeEvent, IsSafeLine}
+use Rattle.book.specs.Following.{followed, refused_after, situation_after}
+use Rattle.service_profile.specs.Histories.{Stage, Past, note_at, taken_in, install_by, situation_of, machine, opened, passed, past_of, greatest, raised, next_line, refused_of, Follows, AreLegal, IsLegal}
+use Rattle.book.specs.Safe.{IsSafeEvent}
 use Rattle.service_profile.specs.Events.{line}
-use Rattle.book.specs.declared.machine.Plan.{Plan}
-use Rattle.book.specs.Effects.{effects_of, planned}
+use Rattle.book.specs.declared.books.Start.{Start}
+use Rattle.book.specs.declared.plans.Effects.{Effects}
+use Rattle.book.specs.declared.plans.Plan.{Plan}
+use Rattle.book.specs.Effects.{effects_of, is_some, planned}
 use Rattle.book.specs.Seen.{seen}
-use Rattle.book.specs.Situations.{IsRoomy}
+use Rattle.book.specs.Situations.{HasSituation, StandsFor}
 use Rattle.book.specs.Sound.{IsSound}
-use Rattle.book.proofs.Situated.{IsSituated}
 use Rattle.book.proofs.Deciding.{decision_near}
 use Rattle.book.proofs.Keeping.{situated_step, sound_step}
 use Rattle.book.proofs.Lists.{length_filter_le}
@@ -67,41 +65,42 @@ fewer_mapped : {A B : Type 0} (f : A → Option B) (xs : List A) → length (fil
 fewer_mapped f [] = omega arith
 fewer_mapped f (x ∷ xs) = fewer_head (f x) (filter_map f xs) (length xs) (fewer_mapped f xs)
 
--- ---- room
+-- ---- the situation that a book's parts stand for
 
-pub roomy : (config : ConfigParts) (start : Start) (breaker : Breaker) (registry : Registry) (held refused moment : ℕ) (lines : List EntryData)
-    → IsSituated (opening_of config start) (situation config breaker registry held) refused moment lines → IsRoomy breaker registry
-roomy config start breaker registry held refused moment lines book =
-    let past : Past = past_of (history_of (opening_of config start) lines) in
-    let opening : past.opening ≡ opening_of config start = same_opening (opening_of config start) lines in
+pub situated : (opening : Opening) (service : Service) (moment : ℕ) (lines : List EntryData) → IsBook opening service moment lines → HasSituation service
+situated opening service moment lines book =
+    let past : Past = past_of (history_of opening lines) in
     let few = book.sound.used in
-    let period : breaker.standing.period ≡ past.standing.period = ap (λ (s : Situation). s.standing.period) book.situated in
-    let notes : length breaker.notes.items ≡ length (notes_of past) = ap (λ (s : Situation). length s.notes) book.situated in
-    let ticket = ap (λ (s : Situation). s.next_ticket) book.situated in
-    let first = ap (λ (s : Situation). s.first_version) book.situated in
-    let programs = ap (λ (s : Situation). length s.programs) book.situated in
     let mapped = fewer_mapped (note_at past.opening.config) (taken_in past.standing.period past.stages) in
     let taken = length_filter_le (λ (s : Stage). s.before.period == past.standing.period) past.stages in
     record {
-      period = omega (arith, period, book.sound.period, book.sound.opening.period, few);
-      notes = omega (arith, notes, mapped, taken, few);
-      ticket = omega (arith, ticket, book.sound.opening.ticket, book.sound.few_issued, few);
-      versions = omega (arith, first, programs, ap (λ (o : Opening). o.version) opening, book.sound.opening.version, book.sound.versions, length-map registry.programs.items arc_value);
+      held = length lines;
+      situation = situation_of past;
+      stands = book.situated;
+      orderly = record {
+        period = omega (arith, book.sound.period, book.sound.opening.period, few);
+        notes = omega (arith, mapped, taken, few);
+        tickets = omega (arith, few);
+        next = omega (arith, book.sound.opening.ticket, book.sound.few_issued, few);
+        versions = omega (arith, book.sound.opening.version, book.sound.versions);
+        current = omega arith;
+      };
     }
 
--- ---- what a line changes in the parts
+-- the effects of a decision change a situation as its line does
+pub followed_is : (s : Situation) (number seat moment : ℕ) (event : EventData) (d : Decision)
+    → followed s d.next (effects_of s.config moment event d) (install_by event d.reply) ≡ situation_after s (line number seat event moment d.reply) d.next
+followed_is s number seat moment event d = refl
 
-pub situation_by : (config : ConfigParts) (breaker after : Breaker) (registry later : Registry) (held more number seat moment : ℕ) (e : Event) (d : Decision)
-    → after.standing ≡ d.next
-    → after.notes.items ≡ notes_after breaker.standing d.next breaker.notes.items (note_by config moment (seen e) d.reply)
-    → later.first_version ≡ registry.first_version
-    → map arc_value later.programs.items ≡ map arc_value registry.programs.items ++ option_to_list (install_by (seen e) d.reply)
-    → later.open_tickets.items ≡ tickets_after registry.open_tickets.items (end_by (seen e) d.reply) (issue_by d.reply d.next.period)
-    → later.next_ticket ≡ registry.next_ticket + one_where_some (issue_by d.reply d.next.period)
-    → more ≡ held + 1
-    → situation config after later more ≡ situation_after (situation config breaker registry held) (line number seat (seen e) moment d.reply) d.next
-situation_by config breaker after registry later held more number seat moment e d standing notes first programs tickets next count =
-    cc
+-- ---- whether there was memory
+
+pub where_ok : {A E P : Type 0} (r : Result A E) → is_err r ≡ false → OnOk r P → P
+where_ok (Ok a) e p = p
+where_ok (Err x) e p = let bad : ◌≡◌ {A = Bool} true false = e in cc
+
+pub where_err : {A E P : Type 0} (r : Result A E) → is_err r ≡ true → OnErr r P → P
+where_err (Ok a) e p = let bad : ◌≡◌ {A = Bool} false true = e in cc
+where_err (Err x) e p = p
 
 -- ---- what is planned
 
@@ -114,59 +113,94 @@ effects_so config moment event d plan e = ap (λ (p : Plan). p.effects) e ∙ ap
 -- ---- the book after a line
 
 -- the line that the code writes is the one that follows
-pub follows_there : (opening : Opening) (s : Situation) (refused moment : ℕ) (lines : List EntryData) (number seat raw now : ℕ) (e : Event) (d : Decision)
-    → IsSituated opening s refused moment lines → number ≡ opening.line + length lines → now ≡ max raw moment → d ≡ decision s now (seen e) → is_entered d.reply ≡ true
+pub follows_there : (opening : Opening) (service : Service) (moment : ℕ) (lines : List EntryData) (number seat raw now : ℕ) (e : Event) (d : Decision)
+    → IsBook opening service moment lines → number ≡ opening.line + length lines → now ≡ max raw moment → d ≡ decision (situation_of (past_of (history_of opening lines))) now (seen e) → is_entered d.reply ≡ true
     → Follows (past_of (history_of opening lines)) (line number seat (seen e) now d.reply)
-follows_there opening s refused moment lines number seat raw now e d book numbered raised_ decided entered =
-    let past : Past = past_of (history_of opening lines) in
+follows_there opening service moment lines number seat raw now e d book numbered raised_ decided entered =
     record {
       numbered = numbered ∙ omega (arith, stage_count opening lines, ap (λ (o : Opening). o.line) (same_opening opening lines));
       raises = omega (arith, raised_, book.greatest_moment, le-max_right raw moment);
-      replied = ap (λ (x : Decision). x.reply) (decided ∙ ap (λ (t : Situation). decision t now (seen e)) book.situated);
+      replied = ap (λ (x : Decision). x.reply) decided;
       entered = entered;
     }
 
-pub book_step : (opening : Opening) (s t : Situation) (refused moment later : ℕ) (lines : List EntryData) (number seat raw now : ℕ) (e : Event) (d : Decision)
-    → IsSituated opening s refused moment lines → number ≡ opening.line + length lines → now ≡ max raw moment → d ≡ decision s now (seen e) → is_entered d.reply ≡ true → now < 2 ^ 64 → seat < 2 ^ 32
-    → IsSafeEvent (seen e) → t ≡ situation_after s (line number seat (seen e) now d.reply) d.next → later ≡ refused_after s.standing d.next refused (is_refused_call d.reply)
-    → IsSituated opening t later now (lines ++ line number seat (seen e) now d.reply ∷ [])
-book_step opening s t refused moment later lines number seat raw now e d book numbered raised_ decided entered word bits safe_ situated_ refused_ =
+pub book_step : (opening : Opening) (service after : Service) (moment : ℕ) (lines : List EntryData) (number seat raw now : ℕ) (e : Event) (d : Decision)
+    → IsBook opening service moment lines → number ≡ opening.line + length lines → now ≡ max raw moment → d ≡ decision (situation_of (past_of (history_of opening lines))) now (seen e) → is_entered d.reply ≡ true → now < 2 ^ 64 → seat < 2 ^ 32
+    → IsSafeEvent (seen e) → StandsFor after (length lines + 1) (situation_after (situation_of (past_of (history_of opening lines))) (line number seat (seen e) now d.reply) d.next)
+    → after.refused ≡ refused_after (past_of (history_of opening lines)).standing d.next service.refused (is_refused_call d.reply)
+    → IsBook opening after now (lines ++ line number seat (seen e) now d.reply ∷ [])
+book_step opening service after moment lines number seat raw now e d book numbered raised_ decided entered word bits safe_ stands_ refused_ =
     let past : Past = past_of (history_of opening lines) in
     let l : EntryData = line number seat (seen e) now d.reply in
-    let follows = follows_there opening s refused moment lines number seat raw now e d book numbered raised_ decided entered in
-    let same : d ≡ machine past now (seen e) = decided ∙ ap (λ (u : Situation). decision u now (seen e)) book.situated in
-    let next : d.next ≡ (machine past now (seen e)).next = ap (λ (x : Decision). x.next) same in
+    let follows = follows_there opening service moment lines number seat raw now e d book numbered raised_ decided entered in
+    let next : d.next ≡ (machine past now (seen e)).next = ap (λ (x : Decision). x.next) decided in
     let with_ = past_with opening lines l in
     let near = decision_near (situation_of past) now (seen e) in
     let stage : Stage = record { line = l; before = past.standing; after = (machine past now (seen e)).next } in
+    let there : situation_after (situation_of past) l d.next ≡ situation_of (past_of (history_of opening (lines ++ l ∷ []))) =
+    ap (λ (n : Standing). situation_after (situation_of past) l n) next ∙ sym (situated_step past l book.sound follows) ∙ ap situation_of (sym with_) in
     record {
       legal = legal_step opening lines l book.legal follows;
       sound = subst (λ (p : Past). IsSound p) (sym with_) (sound_step past l book.sound follows (record { word = word; seat = bits; event = safe_ }));
-      situated = situated_ ∙ ap (λ (u : Situation). situation_after u l d.next) book.situated ∙ ap (λ (n : Standing). situation_after (situation_of past) l n) next ∙ sym (situated_step past l book.sound follows) ∙ ap situation_of (sym with_);
-      refused_calls = refused_ ∙ ap (λ (u : Situation). refused_after u.standing d.next refused (is_refused_call d.reply)) book.situated ∙ ap (λ (n : Standing). refused_after past.standing n refused (is_refused_call d.reply)) next ∙ ap (λ (n : ℕ). refused_after past.standing (machine past now (seen e)).next n (is_refused_call d.reply)) book.refused_calls ∙ sym (refused_step past.stages stage book.sound.periods near.least) ∙ ap refused_of (sym with_);
+      situated = subst (λ (n : ℕ). StandsFor after n (situation_of (past_of (history_of opening (lines ++ l ∷ []))))) (sym (length-append lines (l ∷ []))) (subst (λ (s : Situation). StandsFor after (length lines + 1) s) there stands_);
+      refused_calls = refused_ ∙ ap (λ (n : Standing). refused_after past.standing n service.refused (is_refused_call d.reply)) next ∙ ap (λ (n : ℕ). refused_after past.standing (machine past now (seen e)).next n (is_refused_call d.reply)) book.refused_calls ∙ sym (refused_step past.stages stage book.sound.periods near.least) ∙ ap refused_of (sym with_);
       greatest_moment = sym (greatest_step past.opening.moment past.stages stage follows.raises) ∙ ap greatest (sym with_);
     }
 
--- the history stays sound with the line that follows
-pub sound_there : (opening : Opening) (s : Situation) (refused moment : ℕ) (lines : List EntryData) (l : EntryData) → IsSituated opening s refused moment lines → Follows (past_of (history_of opening lines)) l → IsSafeLine l
-    → IsSound (past_of (history_of opening (lines ++ l ∷ [])))
-sound_there opening s refused moment lines l book follows safe_ =
-    subst (λ (p : Past). IsSound p) (sym (past_with opening lines l)) (sound_step (past_of (history_of opening lines)) l book.sound follows safe_)
+-- parts that stand for the same are those of the same book
+pub book_kept : (opening : Opening) (service after : Service) (moment : ℕ) (lines : List EntryData) → IsBook opening service moment lines
+    → ((held : ℕ) (s : Situation) → StandsFor service held s → StandsFor after held s) → after.refused ≡ service.refused → IsBook opening after moment lines
+book_kept opening service after moment lines book stands_ refused_ = record {
+  legal = book.legal;
+  sound = book.sound;
+  situated = stands_ (length lines) (situation_of (past_of (history_of opening lines))) book.situated;
+  refused_calls = refused_ ∙ book.refused_calls;
+  greatest_moment = book.greatest_moment;
+}
+
+-- the parts after a plan are those of the book with its line
+pub taken_there : (start : Start) (service after : Service) (moment : ℕ) (lines entries : List EntryData) (number seat raw now : ℕ) (e : Event) (plan : Plan)
+    → IsBook (opening_of service.config start) service moment lines → number ≡ start.line + length lines → now ≡ max raw moment
+    → plan ≡ planned service.config now (seen e) (decision (situation_of (past_of (history_of (opening_of service.config start) lines))) now (seen e)) → is_entered plan.decision.reply ≡ true → now < 2 ^ 64 → seat < 2 ^ 32 → IsSafeEvent (seen e)
+    → (plan.effects.installs ≡ is_some (install_by (seen e) plan.decision.reply) → (held : ℕ) (s : Situation) → StandsFor service held s → StandsFor after (held + 1) (followed s plan.decision.next plan.effects (install_by (seen e) plan.decision.reply)))
+    → ((held : ℕ) (s : Situation) → StandsFor service held s → after.refused ≡ refused_after s.standing plan.decision.next service.refused plan.effects.refuses_call)
+    → after.config ≡ service.config → entries ≡ lines ++ line number seat (seen e) now plan.decision.reply ∷ []
+    → IsBook (opening_of after.config start) after now entries
+taken_there start service after moment lines entries number seat raw now e plan book numbered raised_ planned_ entered word bits safe_ stands_ refused_ same all =
+    let opening : Opening = opening_of service.config start in
+    let s : Situation = situation_of (past_of (history_of opening lines)) in
+    let d : Decision = plan.decision in
+    let decided = decided_so service.config now (seen e) (decision s now (seen e)) plan planned_ in
+    let effects : plan.effects ≡ effects_of s.config now (seen e) d = effects_so service.config now (seen e) (decision s now (seen e)) plan planned_ ∙ ap (λ (parts : ConfigParts). effects_of parts now (seen e) d) (sym book.situated.configured) in
+    let installs_ : plan.effects.installs ≡ is_some (install_by (seen e) d.reply) = ap (λ (x : Effects). x.installs) effects in
+    let there : StandsFor after (length lines + 1) (followed s d.next plan.effects (install_by (seen e) d.reply)) = stands_ installs_ (length lines) s book.situated in
+    let refuses_ : plan.effects.refuses_call ≡ is_refused_call d.reply = ap (λ (x : Effects). x.refuses_call) effects in
+    let step = book_step opening service after moment lines number seat raw now e d book numbered raised_ decided entered word bits safe_
+    (subst (λ (x : Effects). StandsFor after (length lines + 1) (followed s d.next x (install_by (seen e) d.reply))) effects there)
+    (refused_ (length lines) s book.situated ∙ ap (refused_after s.standing d.next service.refused) refuses_) in
+    subst (λ (ls : List EntryData). IsBook (opening_of after.config start) after now ls) (sym all)
+    (subst (λ (parts : ConfigParts). IsBook (opening_of parts start) after now (lines ++ line number seat (seen e) now d.reply ∷ [])) (sym same) step)
+
+pub kept_there : (start : Start) (service after : Service) (moment : ℕ) (lines entries : List EntryData) → IsBook (opening_of service.config start) service moment lines
+    → ((held : ℕ) (s : Situation) → StandsFor service held s → StandsFor after held s) → after.refused ≡ service.refused → after.config ≡ service.config → entries ≡ lines → IsBook (opening_of after.config start) after moment entries
+kept_there start service after moment lines entries book stands_ refused_ same all =
+    subst (λ (ls : List EntryData). IsBook (opening_of after.config start) after moment ls) (sym all)
+    (subst (λ (parts : ConfigParts). IsBook (opening_of parts start) after moment lines) (sym same) (book_kept (opening_of service.config start) service after moment lines book stands_ refused_))
 
 chosen_true : {A : Type 0} (b : Bool) (x y : A) → b ≡ true → (if b then x else y) ≡ x
 chosen_true true x y e = refl
 chosen_true false x y e = let bad : ◌≡◌ {A = Bool} false true = e in cc
 
 -- the history after is the documented one
-pub applied_there : (opening : Opening) (s : Situation) (refused moment : ℕ) (lines : List EntryData) (number seat raw now : ℕ) (e : Event) (d : Decision)
-    → IsSituated opening s refused moment lines → number ≡ opening.line + length lines → now ≡ max raw moment → d ≡ decision s now (seen e) → is_entered d.reply ≡ true
+pub applied_there : (opening : Opening) (service : Service) (moment : ℕ) (lines : List EntryData) (number seat raw now : ℕ) (e : Event) (d : Decision)
+    → IsBook opening service moment lines → number ≡ opening.line + length lines → now ≡ max raw moment → d ≡ decision (situation_of (past_of (history_of opening lines))) now (seen e) → is_entered d.reply ≡ true
     → IsApplied (history_of opening lines) seat raw (seen e) d.reply (history_of opening (lines ++ line number seat (seen e) now d.reply ∷ []))
-applied_there opening s refused moment lines number seat raw now e d book numbered raised_ decided entered =
+applied_there opening service moment lines number seat raw now e d book numbered raised_ decided entered =
     let past : Past = past_of (history_of opening lines) in
     let when : now ≡ raised past raw = raised_ ∙ ap (λ (m : ℕ). max raw m) book.greatest_moment in
-    let same : d ≡ answer (history_of opening lines) raw (seen e) = decided ∙ ap (λ (u : Situation). decision u now (seen e)) book.situated ∙ ap (λ (m : ℕ). machine past m (seen e)) when in
+    let same : d ≡ answer (history_of opening lines) raw (seen e) = decided ∙ ap (λ (m : ℕ). machine past m (seen e)) when in
     let replied : d.reply ≡ (answer (history_of opening lines) raw (seen e)).reply = ap (λ (x : Decision). x.reply) same in
-    let counted : number ≡ next_line past = (follows_there opening s refused moment lines number seat raw now e d book numbered raised_ decided entered).numbered in
+    let counted : number ≡ next_line past = (follows_there opening service moment lines number seat raw now e d book numbered raised_ decided entered).numbered in
     let written : line number seat (seen e) now d.reply ≡ line_of (history_of opening lines) seat raw (seen e) = rw (counted, when, replied) refl in
     let enters : is_entered (answer (history_of opening lines) raw (seen e)).reply ≡ true = ap is_entered (sym replied) ∙ entered in
     as_documented replied
@@ -175,20 +209,20 @@ applied_there opening s refused moment lines number seat raw now e d book number
 
 -- ---- numbers that fit
 
-pub line_fits : (opening : Opening) (s : Situation) (refused moment : ℕ) (lines : List EntryData) → IsSituated opening s refused moment lines → opening.line + length lines < 2 ^ 64
-line_fits opening s refused moment lines book =
+pub line_fits : (opening : Opening) (service : Service) (moment : ℕ) (lines : List EntryData) → IsBook opening service moment lines → opening.line + length lines < 2 ^ 64
+line_fits opening service moment lines book =
     omega (arith, stage_count opening lines, book.sound.used, book.sound.opening.line, ap (λ (o : Opening). o.line) (same_opening opening lines))
 
-pub refused_fits : (opening : Opening) (s : Situation) (refused moment : ℕ) (lines : List EntryData) → IsSituated opening s refused moment lines → refused + 1 < 2 ^ 64
-refused_fits opening s refused moment lines book =
+pub refused_fits : (opening : Opening) (service : Service) (moment : ℕ) (lines : List EntryData) → IsBook opening service moment lines → service.refused + 1 < 2 ^ 64
+refused_fits opening service moment lines book =
     let past : Past = past_of (history_of opening lines) in
     let fewer = length_filter_le (λ (stage : Stage). (stage.after.period == past.standing.period) && is_refused_call stage.line.reply) past.stages in
     omega (arith, book.refused_calls, fewer, book.sound.used)
 
-pub held_fits : (opening : Opening) (s : Situation) (refused moment : ℕ) (lines : List EntryData) → IsSituated opening s refused moment lines → length lines ≤ most_entries
-held_fits opening s refused moment lines book = omega (arith, stage_count opening lines, book.sound.used)
+pub held_fits : (opening : Opening) (service : Service) (moment : ℕ) (lines : List EntryData) → IsBook opening service moment lines → length lines ≤ most_entries
+held_fits opening service moment lines book = omega (arith, stage_count opening lines, book.sound.used)
 
-pub word_there : (opening : Opening) (s : Situation) (refused moment : ℕ) (lines : List EntryData) (raw now : ℕ) → IsSituated opening s refused moment lines → raw < 2 ^ 64 → now ≡ max raw moment → now < 2 ^ 64
-word_there opening s refused moment lines raw now book word is =
+pub word_there : (opening : Opening) (service : Service) (moment : ℕ) (lines : List EntryData) (raw now : ℕ) → IsBook opening service moment lines → raw < 2 ^ 64 → now ≡ max raw moment → now < 2 ^ 64
+word_there opening service moment lines raw now book word is =
     let bound : max raw moment ≤ 18446744073709551615 = max-le (omega (arith, word)) (omega (arith, book.greatest_moment, book.sound.moment)) in
     omega (arith, is, bound)

@@ -1,15 +1,18 @@
 -- A book that is cut.
-use Rattle.std.proofs.Common.{◌≡◌, ℕ, suc, ◌+◌, ◌-◌, ◌==◌, ◌||◌, Bool, true, false, List, [], ◌∷◌, map, length, slice_index_or, Ok, Err, arith, refl, ap, ◌∙◌}
+use Rattle.std.proofs.Common.{◌≡◌, ℕ, zero, suc, ◌+◌, ◌-◌, ◌≤◌, ◌<◌, ◌||◌, Bool, true, false, List, [], ◌∷◌, map, length, slice_get, slice_index_or, Option, Some, Ok, Err, arith, refl, ap, sym, ◌∙◌}
 use Rattle.std.specs.List.{filter_map}
+use Rattle.std.proofs.lemmas.Bool.{le-leb}
 use Rattle.bpf_profile.specs.Programs.{VerifiedProgram}
 use Rattle.refusals.specs.declared.RefusalNumber.TheVariants as refusal
 use Rattle.service_profile.specs.declared.tickets.OpenTicket.{OpenTicket}
 use Rattle.service_profile.specs.Answers.{last_of, current_program, is_past_the_limit, is_worn_out, is_some_open, reopened, cut}
 use Rattle.service_profile.specs.Events.{history_of, EntryData, Opening}
-use Rattle.service_profile.specs.Histories.{Past, past_of, situation_of, programs_of, install_at, next_line, greatest}
-use Rattle.service_profile.specs.Machine.{Situation, current_version}
+use Rattle.service_profile.specs.Histories.{Past, past_of, situation_of, install_at, next_line}
+use Rattle.service_profile.specs.Machine.{Situation, current_version, program_from}
+use Rattle.service_profile.specs.declared.configuration.ConfigParts.{ConfigParts}
+use Rattle.book.specs.Books.{IsBook}
+use Rattle.book.specs.declared.service.Service.{Service}
 use Rattle.service_profile.specs.Openings.{IsOpening}
-use Rattle.book.proofs.Situated.{IsSituated}
 use Rattle.book.proofs.Openings.{next_line_is}
 use Rattle.book.proofs.Worlds.{reopened_opening}
 
@@ -18,27 +21,39 @@ use Rattle.book.proofs.Worlds.{reopened_opening}
 abbrev pub worn_by : ℕ → Situation → Bool
 worn_by line s = is_past_the_limit line || (is_past_the_limit s.next_ticket || (is_past_the_limit (suc s.standing.period) || is_past_the_limit (suc (current_version s))))
 
-pub worn_is : (opening : Opening) (s : Situation) (refused moment : ℕ) (lines : List EntryData) → IsSituated opening s refused moment lines → worn_by (opening.line + length lines) s ≡ is_worn_out (past_of (history_of opening lines))
-worn_is opening s refused moment lines book =
-    ap (λ (n : ℕ). worn_by n s) (next_line_is opening lines) ∙ ap (worn_by (next_line (past_of (history_of opening lines)))) book.situated
+pub worn_is : (opening : Opening) (lines : List EntryData) → worn_by (opening.line + length lines) (situation_of (past_of (history_of opening lines))) ≡ is_worn_out (past_of (history_of opening lines))
+worn_is opening lines = ap (λ (n : ℕ). worn_by n (situation_of (past_of (history_of opening lines)))) (next_line_is opening lines)
 
 -- ---- the program of new tickets
 
-last_in : {A B : Type 0} (f : A → B) (xs : List A) (d a : A) → f (slice_index_or (a ∷ xs) (length xs) d) ≡ last_of (f a) (map f xs)
-last_in f [] d a = refl
-last_in f (b ∷ xs) d a = last_in f xs d b
+last_place : {A : Type 0} (x : A) (xs : List A) → slice_get (x ∷ xs) (length xs) ≡ Some (last_of x xs)
+last_place x [] = refl
+last_place x (y ∷ ys) = last_place y ys
 
-index_last : {A B : Type 0} (f : A → B) (xs : List A) (d : A) (x : B) (ys : List B) → map f xs ≡ x ∷ ys → f (slice_index_or xs (length xs - 1) d) ≡ last_of x ys
-index_last f [] d x ys e = let bad : ◌≡◌ {A = List _} [] (x ∷ ys) = e in cc
-index_last f (a ∷ xs) d x ys e =
-    let both : ◌≡◌ {A = List _} (f a ∷ map f xs) (x ∷ ys) = e in
-    let head : f a ≡ x = cc in
-    let tail : map f xs ≡ ys = cc in
-    let place : length (a ∷ xs) - 1 ≡ length xs = omega arith in
-    ap (λ (n : ℕ). f (slice_index_or (a ∷ xs) n d)) place ∙ last_in f xs d a ∙ ap (λ (z : _). last_of z (map f xs)) head ∙ ap (last_of x) tail
+from_last : (first : ℕ) (program : VerifiedProgram) (programs : List VerifiedProgram) → program_from first (program ∷ programs) (first + (length (program ∷ programs) - 1)) ≡ Some (last_of program programs)
+from_last first program programs =
+    let version : ℕ = first + (length (program ∷ programs) - 1) in
+    let place : version - first ≡ length programs = omega arith in
+    rw (le-leb first version (omega arith), place) (last_place program programs)
 
-pub current_is : {A : Type 0} (f : A → VerifiedProgram) (items : List A) (d : A) (past : Past) → map f items ≡ programs_of past → f (slice_index_or items (length items - 1) d) ≡ current_program past
-current_is f items d past e = index_last f items d past.opening.program (filter_map install_at past.stages) e
+placed : {A : Type 0} (f : A → VerifiedProgram) (items : List A) (place : ℕ) (other : A) → place < length items → slice_get (map f items) place ≡ Some (f (slice_index_or items place other))
+placed f [] place other h = absurd (omega (arith, h))
+placed f (x ∷ items) zero other h = refl
+placed f (x ∷ items) (suc place) other h = placed f items place other (omega (arith, h))
+
+-- the last of these programs is that of the last version
+pub last_held : {A : Type 0} (f : A → VerifiedProgram) (items : List A) (x other : A) (first : ℕ) → 1 ≤ length items → x ≡ slice_index_or items (length items - 1) other
+    → Some (f x) ≡ program_from first (map f items) (first + (length items - 1))
+last_held f items x other first some is =
+    let version : ℕ = first + (length items - 1) in
+    let place : version - first ≡ length items - 1 = omega (arith, some) in
+    rw (is, le-leb first version (omega arith), place) (sym (placed f items (length items - 1) other (omega (arith, some))))
+
+-- the program of the version of new tickets is theirs
+pub current_is : (past : Past) (program : VerifiedProgram) → Some program ≡ program_from (situation_of past).first_version (situation_of past).programs (current_version (situation_of past)) → program ≡ current_program past
+current_is past program e =
+    let both : ◌≡◌ {A = Option VerifiedProgram} (Some program) (Some (current_program past)) = e ∙ from_last past.opening.version past.opening.program (filter_map install_at past.stages) in
+    cc
 
 -- ---- the opening after a cut
 
@@ -53,22 +68,21 @@ reopened_by s program line moment = record {
   moment = moment;
 }
 
-pub reopened_is : (opening : Opening) (s : Situation) (refused moment : ℕ) (lines : List EntryData) (program : VerifiedProgram) → IsSituated opening s refused moment lines → program ≡ current_program (past_of (history_of opening lines))
-    → reopened_by s program (opening.line + length lines) moment ≡ reopened (past_of (history_of opening lines))
-reopened_is opening s refused moment lines program book current =
+pub reopened_is : (opening : Opening) (service : Service) (moment : ℕ) (lines : List EntryData) (program : VerifiedProgram) → IsBook opening service moment lines → program ≡ current_program (past_of (history_of opening lines))
+    → reopened_by (situation_of (past_of (history_of opening lines))) program (opening.line + length lines) moment ≡ reopened (past_of (history_of opening lines))
+reopened_is opening service moment lines program book current =
     let past : Past = past_of (history_of opening lines) in
-    ap (λ (p : VerifiedProgram). reopened_by s p (opening.line + length lines) moment) current
-    ∙ ap (λ (n : ℕ). reopened_by s (current_program past) n moment) (next_line_is opening lines)
-    ∙ ap (λ (n : ℕ). reopened_by s (current_program past) (next_line past) n) book.greatest_moment
-    ∙ ap (λ (t : Situation). reopened_by t (current_program past) (next_line past) (greatest past)) book.situated
+    ap (λ (p : VerifiedProgram). reopened_by (situation_of past) p (opening.line + length lines) moment) current
+    ∙ ap (λ (n : ℕ). reopened_by (situation_of past) (current_program past) n moment) (next_line_is opening lines)
+    ∙ ap (λ (n : ℕ). reopened_by (situation_of past) (current_program past) (next_line past) n) book.greatest_moment
 
 -- the opening as the code makes it
-pub made_so : (s : Situation) (program : VerifiedProgram) (version period line here moment : ℕ) → version ≡ current_version s → period ≡ suc s.standing.period → line ≡ here
-    → ◌≡◌ {A = Opening} (record { config = s.config; program = program; version = version; period = period; ticket = s.next_ticket; line = line; moment = moment }) (reopened_by s program here moment)
-made_so s program version period line here moment a b c = rw (a, b, c) refl
+pub made_so : (s : Situation) (config : ConfigParts) (program : VerifiedProgram) (version period ticket line here moment : ℕ) → s.config ≡ config → version ≡ current_version s → period ≡ suc s.standing.period → ticket ≡ s.next_ticket → line ≡ here
+    → ◌≡◌ {A = Opening} (record { config = config; program = program; version = version; period = period; ticket = ticket; line = line; moment = moment }) (reopened_by s program here moment)
+made_so s config program version period ticket line here moment e a b c d = rw (← e, a, b, c, d) refl
 
-pub reopens_well : (opening : Opening) (s : Situation) (refused moment : ℕ) (lines : List EntryData) → IsSituated opening s refused moment lines → is_worn_out (past_of (history_of opening lines)) ≡ false → IsOpening (reopened (past_of (history_of opening lines)))
-reopens_well opening s refused moment lines book fresh = reopened_opening (past_of (history_of opening lines)) book.sound fresh
+pub reopens_well : (opening : Opening) (service : Service) (moment : ℕ) (lines : List EntryData) → IsBook opening service moment lines → is_worn_out (past_of (history_of opening lines)) ≡ false → IsOpening (reopened (past_of (history_of opening lines)))
+reopens_well opening service moment lines book fresh = reopened_opening (past_of (history_of opening lines)) book.sound fresh
 
 -- ---- a cut that is not refused
 
@@ -79,9 +93,9 @@ none_open (t ∷ tickets) e = absurd (omega (arith, e))
 pub cut_there : (past : Past) → is_worn_out past ≡ false → is_some_open (situation_of past).open_tickets ≡ false → cut past ≡ Ok (reopened past)
 cut_there past fresh closed = rw (fresh, closed) refl
 
-pub some_open : (tickets : List OpenTicket) → (length tickets == 0) ≡ false → is_some_open tickets ≡ true
-some_open [] e = let bad : ◌≡◌ {A = Bool} true false = e in cc
-some_open (t ∷ tickets) e = refl
+pub some_open : (tickets : List OpenTicket) → 0 < length tickets → is_some_open tickets ≡ true
+some_open [] less = absurd (omega (arith, less))
+some_open (t ∷ tickets) less = refl
 
 pub cut_refused : (past : Past) → is_worn_out past ≡ false → is_some_open (situation_of past).open_tickets ≡ true → cut past ≡ Err refusal.TicketsOpen
 cut_refused past fresh there = rw (fresh, there) refl

@@ -15,4 +15,3 @@ pub mod Worlds
 pub mod Cuts
 pub mod Lawful
 pub mod Seats
-pub mod Situated

@@ -1,26 +1,25 @@
 -- A book that has just been opened, and what any book shows.
-use Rattle.std.proofs.Common.{◌≡◌, ℕ, ◌+◌, ◌≤◌, ◌<◌, ◌⊎◌, inl, inr, List, [], ◌∷◌, map, length, true, Some, None, Result, Ok, Err, arith, refl, ap, sym, ◌∙◌}
-use Rattle.std.specs.Arc.{arc_value}
+use Rattle.std.proofs.Common.{◌≡◌, ℕ, suc, ◌+◌, ◌-◌, ◌≤◌, ◌⊎◌, inl, inr, List, [], length, Option, None, Result, Ok, Err, arith, refl, ap, sym, ◌∙◌}
 use Rattle.book.specs.Safe.{IsSafeProgram}
 use Rattle.refusals.specs.declared.RefusalNumber.{RefusalNumber}
 use Rattle.refusals.specs.declared.RefusalNumber.TheVariants as refusal
 use Rattle.bpf_profile.specs.Programs.{VerifiedProgram}
-use Rattle.book.specs.declared.breaker.Breaker.{Breaker}
 use Rattle.service_profile.specs.declared.configuration.ConfigParts.{ConfigParts}
-use Rattle.book.specs.declared.registry.Registry.{Registry}
-use Rattle.service_profile.specs.declared.states.State.TheVariants as state
-use Rattle.service_profile.specs.Answers.{IsLooked, looks, no_owner, looked, looked_under}
+use Rattle.book.specs.declared.service.Service.{Service}
+use Rattle.service_profile.specs.Answers.{IsLooked, looks, no_owner, looked, budget_of, reading, reading_by}
+use Rattle.service_profile.specs.declared.notes.Totals.{Totals}
+use Rattle.service_profile.specs.declared.readings.Reading.{Reading}
+use Rattle.service_profile.specs.declared.standings.Standing.{Standing}
+use Rattle.service_profile.specs.Machine.{current_version, program_from}
+use Rattle.service_profile.specs.Rates.{minimum, shown_rate}
+use Rattle.service_profile.specs.Windows.{totals_of, windowed}
 use Rattle.service_profile.specs.Openings.{first_opening, IsOpening}
-use Rattle.service_profile.specs.Events.{history_of, EntryData, Opening}
-use Rattle.book.specs.Books.{opening_of}
-use Rattle.book.specs.declared.books.Start.{Start}
+use Rattle.service_profile.specs.Events.{history_of, EntryData, History, Opening}
+use Rattle.book.specs.Books.{IsBook}
+use Rattle.book.specs.Situations.{StandsFor}
 use Rattle.service_profile.specs.Configuration.{bad_field}
-use Rattle.service_profile.specs.Histories.{opened, past_of, situation_of, next_line, IsLegal}
-use Rattle.service_profile.specs.declared.tickets.OpenTicket.{OpenTicket}
-use Rattle.service_profile.specs.Machine.{Situation, is_issued, open_ticket}
-use Rattle.book.specs.Following.{situation}
+use Rattle.service_profile.specs.Histories.{Past, opened, past_of, situation_of, raised, refused_of, next_line, IsLegal}
 use Rattle.book.specs.Sound.{IsSound}
-use Rattle.book.proofs.Situated.{IsSituated}
 use Rattle.book.proofs.Applying.{same_opening, stage_count}
 use Rattle.book.proofs.Configured.{in_range}
 
@@ -61,40 +60,38 @@ pub legal_opened : (opening : Opening) → IsLegal (history_of opening [])
 unfolding IsLegal
 legal_opened opening = tt
 
-pub first_book : (opening : Opening) (s : Situation) (refused : ℕ) → IsOpening opening → IsSafeProgram opening.program → s ≡ situation_of (opened opening) → refused ≡ 0 → IsSituated opening s refused opening.moment []
-first_book opening s refused good program situated_ none = record {
+pub first_book : (opening : Opening) (service : Service) → IsOpening opening → IsSafeProgram opening.program → StandsFor service 0 (situation_of (opened opening)) → service.refused ≡ 0 → IsBook opening service opening.moment []
+first_book opening service good program stands none = record {
   legal = legal_opened opening;
   sound = sound_opened opening good program;
-  situated = situated_;
+  situated = stands;
   refused_calls = none;
   greatest_moment = refl;
 }
 
-pub begun_situation : (config : ConfigParts) (start : Start) (breaker : Breaker) (registry : Registry)
-    → breaker.standing ≡ record { state = state.Closed; period = start.period; since = start.moment } → breaker.notes.items ≡ []
-    → registry.first_version ≡ start.version → map arc_value registry.programs.items ≡ arc_value start.program ∷ [] → registry.open_tickets.items ≡ [] → registry.next_ticket ≡ start.ticket
-    → situation config breaker registry 0 ≡ situation_of (opened (opening_of config start))
-begun_situation config start breaker registry standing notes first programs tickets next =
-    let ticket : registry.next_ticket ≡ start.ticket + 0 = omega (arith, next) in
-    rw (standing, notes, first, programs, tickets, ticket) refl
-
 -- ---- what a book shows
 
-pub line_least : (opening : Opening) (s : Situation) (refused moment : ℕ) (lines : List EntryData) → IsSituated opening s refused moment lines → 1 ≤ opening.line
-line_least opening s refused moment lines book = omega (arith, book.sound.opening.first_line, ap (λ (o : Opening). o.line) (same_opening opening lines))
+pub line_least : (opening : Opening) (service : Service) (moment : ℕ) (lines : List EntryData) → IsBook opening service moment lines → 1 ≤ opening.line
+line_least opening service moment lines book = omega (arith, book.sound.opening.first_line, ap (λ (o : Opening). o.line) (same_opening opening lines))
 
 pub next_line_is : (opening : Opening) (lines : List EntryData) → opening.line + length lines ≡ next_line (past_of (history_of opening lines))
 next_line_is opening lines = omega (arith, stage_count opening lines, ap (λ (o : Opening). o.line) (same_opening opening lines))
 
-pub looked_there : (opening : Opening) (s : Situation) (refused moment : ℕ) (lines : List EntryData) (ticket : ℕ) (program : VerifiedProgram) (r : Result VerifiedProgram RefusalNumber)
-    → IsSituated opening s refused moment lines → looked s ticket ≡ Ok program → (r ≡ Ok program) ⊎ (r ≡ Err refusal.ServiceOutOfMemory) → IsLooked (history_of opening lines) ticket r
-looked_there opening s refused moment lines ticket program r book found (inl e) = looks (e ∙ sym found ∙ ap (λ (t : Situation). looked t ticket) book.situated)
-looked_there opening s refused moment lines ticket program r book found (inr e) = no_owner program e (ap (λ (t : Situation). looked t ticket) (sym book.situated) ∙ found)
+pub reads_so : (past : Past) (moment last : ℕ) (standing : Standing) (version budget : ℕ) (totals : Totals) (failures slow : Option ℕ) (count free not_permitted : ℕ)
+    → standing ≡ past.standing → version ≡ current_version (situation_of past) → budget ≡ budget_of (program_from past.opening.version (situation_of past).programs (current_version (situation_of past)))
+    → totals ≡ totals_of (windowed past.opening.config past.standing.state (raised past moment) (situation_of past).notes)
+    → failures ≡ shown_rate (minimum past.opening.config past.standing.state) totals.total totals.failed → slow ≡ shown_rate (minimum past.opening.config past.standing.state) totals.total totals.slow
+    → count ≡ length (situation_of past).open_tickets → free ≡ past.opening.config.max_concurrent_calls - length (situation_of past).open_tickets → not_permitted ≡ refused_of past → suc last ≡ next_line past
+    → ◌≡◌ {A = Reading} (record { state = standing.state; period = standing.period; version = version; budget = budget; total = totals.total; failed = totals.failed; slow = totals.slow; failure_rate = failures; slow_rate = slow; open_tickets = count; free = free; not_permitted = not_permitted; entries = last })
+    (reading past moment)
+reads_so past moment last standing version budget totals failures slow count free not_permitted a b c d e f g h i j =
+    let before : last ≡ next_line past - 1 = omega (arith, j) in
+    rw (a, b, c, e, f, g, h, i, before) (ap (reading_with past) d)
+  where
+    reading_with : Past → Totals → Reading
+    reading_with past totals = reading_by (situation_of past) totals (refused_of past) (next_line past - 1)
 
-pub refused_there : (opening : Opening) (s : Situation) (refused moment : ℕ) (lines : List EntryData) (ticket : ℕ) (number : RefusalNumber)
-    → IsSituated opening s refused moment lines → looked s ticket ≡ Err number → IsLooked (history_of opening lines) ticket (Err number)
-refused_there opening s refused moment lines ticket number book lost = looks (sym lost ∙ ap (λ (t : Situation). looked t ticket) book.situated)
-
--- a look under an open ticket
-pub looked_open : (s : Situation) (ticket : ℕ) (t : OpenTicket) → is_issued s ticket ≡ true → open_ticket s.open_tickets ticket ≡ Some t → looked s ticket ≡ looked_under s (Some t)
-looked_open s ticket t issued found = rw (issued, found) refl
+pub looked_there : (history : History) (ticket : ℕ) (program : VerifiedProgram) (r : Result VerifiedProgram RefusalNumber)
+    → looked (situation_of (past_of history)) ticket ≡ Ok program → (r ≡ Ok program) ⊎ (r ≡ Err refusal.ServiceOutOfMemory) → IsLooked history ticket r
+looked_there history ticket program r found (inl e) = looks (e ∙ sym found)
+looked_there history ticket program r found (inr e) = no_owner program e found

@@ -1,10 +1,8 @@
 -- What a book keeps: a legal history, and beside it what the history says.
 use Rattle.std.specs.Prelude.{◌≡◌, ℕ, List, length}
 use Rattle.std.specs.Arc.{arc_value}
-use Rattle.bpf_profile.specs.Programs.{VerifiedProgram}
 use Rattle.book.specs.declared.books.Start.{Start}
-use Rattle.book.specs.declared.breaker.Breaker.{Breaker}
-use Rattle.book.specs.declared.registry.Registry.{Registry}
+use Rattle.book.specs.declared.service.Service.{Service}
 use Rattle.service_profile.specs.declared.configuration.ConfigParts.{ConfigParts}
 use Rattle.service_profile.specs.Events.{EntryData, Opening, history_of}
 use Rattle.service_profile.specs.Histories.{past_of, situation_of, refused_of, greatest, IsLegal}
@@ -22,9 +20,9 @@ opening_of config start = record {
   moment = start.moment;
 }
 
-pub record IsBook (opening : Opening) (config : ConfigParts) (breaker : Breaker) (registry : Registry) (refused moment : ℕ) (lines : List EntryData) : Type 0 where
+pub record IsBook (opening : Opening) (service : Service) (moment : ℕ) (lines : List EntryData) : Type 0 where
   pub legal : IsLegal (history_of opening lines)
   pub sound : IsSound (past_of (history_of opening lines))
-  pub situated : StandsFor config breaker registry (length lines) (situation_of (past_of (history_of opening lines)))
-  pub refused_calls : refused ≡ refused_of (past_of (history_of opening lines))
+  pub situated : StandsFor service (length lines) (situation_of (past_of (history_of opening lines)))
+  pub refused_calls : service.refused ≡ refused_of (past_of (history_of opening lines))
   pub greatest_moment : moment ≡ greatest (past_of (history_of opening lines))

@@ -1,33 +1,14 @@
--- The situation of a book's parts, and what one entry changes in them: helpers of the proofs, which follow the code.
-use Rattle.std.specs.Prelude.{ℕ, ◌+◌, ◌==◌, not, Bool, true, false, if◌then◌else◌, List, [], ◌++◌, map, Option, Some, None, option_to_list}
-use Rattle.std.specs.Arc.{arc_value}
+-- What one entry changes in a situation: helpers of the proofs, which follow the code.
+use Rattle.std.specs.Prelude.{ℕ, ◌+◌, ◌==◌, not, Bool, false, if◌then◌else◌, List, [], ◌++◌, Option, Some, None, option_to_list}
 use Rattle.std.specs.List.{filter}
-use Rattle.book.specs.declared.breaker.Breaker.{Breaker}
-use Rattle.book.specs.declared.registry.Registry.{Registry}
-use Rattle.book.specs.declared.service.Service.{Service}
-use Rattle.service_profile.specs.declared.configuration.ConfigParts.{ConfigParts}
+use Rattle.bpf_profile.specs.Programs.{VerifiedProgram}
+use Rattle.book.specs.declared.plans.Effects.{Effects}
 use Rattle.service_profile.specs.declared.standings.Standing.{Standing}
 use Rattle.service_profile.specs.declared.tickets.OpenTicket.{OpenTicket}
 use Rattle.service_profile.specs.declared.notes.Note.{Note}
 use Rattle.service_profile.specs.Events.{EntryData}
 use Rattle.service_profile.specs.Histories.{note_by, end_by, issue_by, install_by}
 use Rattle.service_profile.specs.Machine.{Situation}
-
--- the situation that these parts stand for, as long as they are lists
-abbrev pub situation : ConfigParts → Breaker → Registry → ℕ → Situation
-situation config breaker registry held = record {
-  config = config;
-  standing = breaker.standing;
-  notes = breaker.notes.items;
-  first_version = registry.first_version;
-  programs = map arc_value registry.programs.items;
-  open_tickets = registry.open_tickets.items;
-  next_ticket = registry.next_ticket;
-  held = held;
-}
-
-abbrev pub situation_in : Service → ℕ → Situation
-situation_in service held = situation service.config service.breaker service.registry held
 
 -- the notes after a line: none after a transition
 abbrev pub notes_after : Standing → Standing → List Note → Option Note → List Note
@@ -59,5 +40,18 @@ situation_after s line next = record {
   programs = s.programs ++ option_to_list (install_by line.event line.reply);
   open_tickets = tickets_after s.open_tickets (end_by line.event line.reply) (issue_by line.reply next.period);
   next_ticket = s.next_ticket + one_where_some (issue_by line.reply next.period);
+  held = s.held + 1;
+}
+
+-- the situation after the effects of a decision, with the program that gets a version
+abbrev pub followed : Situation → Standing → Effects → Option VerifiedProgram → Situation
+followed s next effects installed = record {
+  config = s.config;
+  standing = next;
+  notes = notes_after s.standing next s.notes effects.note;
+  first_version = s.first_version;
+  programs = s.programs ++ option_to_list installed;
+  open_tickets = tickets_after s.open_tickets effects.ended effects.issued;
+  next_ticket = s.next_ticket + one_where_some effects.issued;
   held = s.held + 1;
 }

@@ -11,14 +11,10 @@ ghost use Rattle.book.specs.Seen.{seen};
 ghost use Rattle.book.specs.Safe.{IsSafeProgram};
 ghost use Rattle.book.specs.Sound.{IsSound};
 
-use crate::breaker::{Breaker, minimum, shown_rate};
-use crate::bulkhead::free_places;
-use crate::changes::{know_config, know_event, know_program, make_room, owner_of};
+use crate::changes::{follow, know_config, know_event, know_program, owner_of};
 use crate::events::{Entry, Event};
 use crate::machine::{decide, is_entered};
-use crate::registry::Registry;
 use crate::service::Service;
-use crate::windows::totals_in;
 use refusals::RefusalNumber;
 use service_profile::{Config, Reading, Reply};
 use std::alloc::{AllocError, Global};
@@ -56,7 +52,7 @@ impl Model for Book {
 
     ghost view = { λ b. history_of (opening_of b.service.config b.start) b.entries.items };
 
-    ghost invariant = { λ b. IsBook (opening_of b.service.config b.start) b.service.config b.service.breaker b.service.registry b.service.breaker.refused b.moment b.entries.items };
+    ghost invariant = { λ b. IsBook (opening_of b.service.config b.start) b.service b.moment b.entries.items };
 }
 
 impl Book {
@@ -88,15 +84,8 @@ impl Book {
         ensures legal { IfOk result IsLegal }
         ensures sound { IfOk result (λ book. IsSound (past_of book)) }
     {
-        let mut programs = Vec::new(alloc);
-        programs.push(Arc::try_clone(&start.program)?)?;
-        let service = Service {
-            config,
-            breaker: Breaker::new(alloc, start.period, start.moment),
-            registry: Registry::new(alloc, programs, start.version, start.ticket),
-        };
         Ok(Book {
-            service,
+            service: Service::new(alloc, config, &start)?,
             moment: start.moment,
             entries: Vec::new(alloc),
             start,
@@ -121,20 +110,12 @@ impl Book {
             return reply;
         }
         know_event(&event);
-        let effects = plan.effects;
-        let Ok(installed) = make_room(&mut self.entries, &mut self.service, &event, effects) else {
+        if follow(&mut self.entries, &mut self.service, &event, plan).is_err() {
             return Reply::Refused(RefusalNumber::ServiceOutOfMemory);
-        };
+        }
         let number = self.start.line + self.entries.len() as u64;
-        let next = plan.decision.next;
-        self.service
-            .breaker
-            .follow(next, effects.note, effects.refuses_call);
-        self.service
-            .registry
-            .follow(effects.ended, effects.issued, installed);
-        self.moment = moment;
         let entry = Entry::new(number, seat, event, moment, reply);
+        self.moment = moment;
         self.entries.push_reserved(entry);
         reply
     }
@@ -147,7 +128,7 @@ impl Book {
         ensures legal { IsLegal self.now }
         ensures sound { IsSound (past_of self.now) }
     {
-        match self.service.registry.look(ticket) {
+        match self.service.look(ticket) {
             Ok(program) => owner_of(program),
             Err(number) => Err(number),
         }
@@ -159,30 +140,22 @@ impl Book {
         ensures legal { IsLegal self.now }
         ensures sound { IsSound (past_of self.now) }
     {
-        let parts = self.service.config.parts();
-        let standing = self.service.breaker.standing;
-        let raised = moment.max(self.moment);
-        let totals = totals_in(
-            &parts,
-            standing.state,
-            raised,
-            self.service.breaker.notes.as_slice(),
-        );
-        let least = minimum(&parts, standing.state);
-        let open_tickets = self.service.registry.open_tickets.len() as u64;
+        let service = &self.service;
+        let standing = service.standing();
+        let totals = service.totals(moment.max(self.moment));
         Reading {
             state: standing.state,
             period: standing.period,
-            version: self.service.registry.current_version(),
-            budget: self.service.registry.current_budget(),
+            version: service.current_version(),
+            budget: service.current_program().budget(),
             total: totals.total,
             failed: totals.failed,
             slow: totals.slow,
-            failure_rate: shown_rate(least, totals.total, totals.failed),
-            slow_rate: shown_rate(least, totals.total, totals.slow),
-            open_tickets,
-            free: free_places(&parts, open_tickets),
-            not_permitted: self.service.breaker.refused,
+            failure_rate: service.shown_rate(totals.total, totals.failed),
+            slow_rate: service.shown_rate(totals.total, totals.slow),
+            open_tickets: service.open_count() as u64,
+            free: service.free_places(),
+            not_permitted: service.refused,
             entries: self.last_number(),
         }
     }

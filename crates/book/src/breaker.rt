@@ -5,7 +5,7 @@ ghost use Rattle.service_profile.specs.Machine.{half_open_permission, open_permi
 ghost use Rattle.service_profile.specs.Rates.{minimum_in_window, minimum, reaches, either_reaches, after_totals, after_notes, shown_rate};
 ghost use Rattle.service_profile.specs.Standings.{moved};
 ghost use Rattle.service_profile.specs.Windows.{AreTotals};
-ghost use Rattle.book.specs.Following.{notes_after, refused_after};
+ghost use Rattle.book.specs.Following.{notes_after};
 ghost use Rattle.std.specs.Vec.{vec_len, vec_capacity};
 
 use crate::windows::totals_with;
@@ -17,8 +17,6 @@ use std::alloc::{AllocError, Global};
 pub(crate) struct Breaker {
     pub standing: Standing,
     pub notes: Vec<Note>,
-    /// How many calls were refused in this period.
-    pub refused: u64,
 }
 
 /// In HALF_OPEN the notes and the permissions that are held are at most the permitted number of calls.
@@ -177,7 +175,6 @@ impl Breaker {
     pub(crate) fn new(alloc: Global, period: u64, since: u64) -> Breaker
         ensures standing { result.standing ≡ record { state = State.Closed; period = period; since = since } }
         ensures notes { result.notes.items ≡ [] }
-        ensures refused { result.refused ≡ 0 }
     {
         Breaker {
             standing: Standing {
@@ -186,7 +183,6 @@ impl Breaker {
                 since,
             },
             notes: Vec::new(alloc),
-            refused: 0,
         }
     }
 
@@ -194,7 +190,6 @@ impl Breaker {
     pub(crate) fn make_room(&mut self, note: Option<Note>) -> Result<(), AllocError>
         ensures standing { self.new.standing ≡ self.old.standing }
         ensures notes { self.new.notes.items ≡ self.old.notes.items }
-        ensures refused { self.new.refused ≡ self.old.refused }
         ensures room { OnOk result (OnSome note (vec_len self.new.notes < vec_capacity self.new.notes)) }
     {
         match note {
@@ -203,23 +198,16 @@ impl Breaker {
         }
     }
 
-    /// Stands where a decision leads, with its note in the same period, or with none in a new one, and
-    /// counts the call where it was refused.
-    pub(crate) fn follow(&mut self, next: Standing, note: Option<Note>, refuses_call: bool)
+    /// Stands where a decision leads, with its note in the same period, or with none in a new one.
+    pub(crate) fn follow(&mut self, next: Standing, note: Option<Note>)
         requires room { OnSome note (vec_len self.old.notes < vec_capacity self.old.notes) }
-        requires refused { self.old.refused + 1 < 2 ^ 64 }
         ensures standing { self.new.standing ≡ next }
         ensures notes { self.new.notes.items ≡ notes_after self.old.standing next self.old.notes.items note }
-        ensures refused { self.new.refused ≡ refused_after self.old.standing next self.old.refused refuses_call }
     {
         if next.period != self.standing.period {
             self.notes.clear();
-            self.refused = 0;
         } else if let Some(note) = note {
             self.notes.push_reserved(note);
-        }
-        if refuses_call {
-            self.refused += 1;
         }
         self.standing = next;
     }

@@ -1,5 +1,5 @@
-//! What a decision changes: the room that it needs, and what is known of what comes in.
-ghost use Rattle.std.specs.Prelude.{◌≡◌, ◌<◌, ◌⊎◌, map, None, Ok, Err, OnOk, OnSome, IfOk};
+//! What a plan changes, and what is known of what comes in.
+ghost use Rattle.std.specs.Prelude.{◌≡◌, ◌<◌, ◌+◌, ◌^◌, ◌⊎◌, ℕ, None, Ok, Err, OnOk, OnErr, IfOk};
 ghost use Rattle.std.specs.Arc.{arc_value};
 ghost use Rattle.std.specs.Option.{option_map};
 ghost use Rattle.std.specs.Vec.{vec_len, vec_capacity};
@@ -7,12 +7,15 @@ ghost use Rattle.service_profile.specs.declared.replies.Reply.{Reply};
 ghost use Rattle.service_profile.specs.Answers.{map_ok};
 ghost use Rattle.service_profile.specs.Configuration.{bad_field};
 ghost use Rattle.service_profile.specs.Histories.{install_by};
+ghost use Rattle.service_profile.specs.Machine.{Situation};
 ghost use Rattle.book.specs.Effects.{is_some};
+ghost use Rattle.book.specs.Following.{followed, refused_after};
 ghost use Rattle.book.specs.Safe.{IsSafeProgram, IsJudged, IsSafeEvent};
 ghost use Rattle.book.specs.Seen.{seen};
+ghost use Rattle.book.specs.Situations.{HasSituation, StandsFor};
 
 use crate::events::{Entry, Event};
-use crate::machine::Effects;
+use crate::plans::Plan;
 use crate::service::Service;
 use bpf_run::Judged;
 use refusals::RefusalNumber;
@@ -65,33 +68,28 @@ pub(crate) fn know_event(event: &Event)
     }
 }
 
-/// Makes room for an entry and for the effects of its decision. Answers the program that gets a version,
-/// and is an error without memory.
-pub(crate) fn make_room(
+/// Goes on as a plan says, and makes room for its entry. An error, want of memory, leaves everything as it
+/// was.
+pub(crate) fn follow(
     entries: &mut Vec<Entry>,
     service: &mut Service,
     event: &Event,
-    effects: Effects,
-) -> Result<Option<Arc<Verified>>, AllocError>
+    plan: Plan,
+) -> Result<(), AllocError>
+    requires situation { HasSituation service.old }
+    requires refused { service.old.refused + 1 < 2 ^ 64 }
     ensures entries { entries.new.items ≡ entries.old.items }
+    ensures room { OnOk result (vec_len entries.new < vec_capacity entries.new) }
     ensures config { service.new.config ≡ service.old.config }
-    ensures standing { service.new.breaker.standing ≡ service.old.breaker.standing }
-    ensures notes { service.new.breaker.notes.items ≡ service.old.breaker.notes.items }
-    ensures refused { service.new.breaker.refused ≡ service.old.breaker.refused }
-    ensures tickets { service.new.registry.open_tickets.items ≡ service.old.registry.open_tickets.items }
-    ensures programs { map arc_value service.new.registry.programs.items ≡ map arc_value service.old.registry.programs.items }
-    ensures numbers { (service.new.registry.first_version ≡ service.old.registry.first_version) × (service.new.registry.next_ticket ≡ service.old.registry.next_ticket) }
-    ensures entry_room { OnOk result (vec_len entries.new < vec_capacity entries.new) }
-    ensures note_room { OnOk result (OnSome effects.note (vec_len service.new.breaker.notes < vec_capacity service.new.breaker.notes)) }
-    ensures ticket_room { OnOk result (OnSome effects.issued (vec_len service.new.registry.open_tickets < vec_capacity service.new.registry.open_tickets)) }
-    ensures installed { (reply : Reply) → effects.installs ≡ is_some (install_by (seen event.now) reply) → IfOk result (λ installed. option_map arc_value installed ≡ install_by (seen event.now) reply) }
-    ensures program_room { IfOk result (λ installed. OnSome installed (vec_len service.new.registry.programs < vec_capacity service.new.registry.programs)) }
+    ensures stands { plan.effects.installs ≡ is_some (install_by (seen event.now) plan.decision.reply) → OnOk result ((held : ℕ) (s : Situation) → StandsFor service.old held s → StandsFor service.new (held + 1) (followed s plan.decision.next plan.effects (install_by (seen event.now) plan.decision.reply))) }
+    ensures refused { OnOk result ((held : ℕ) (s : Situation) → StandsFor service.old held s → service.new.refused ≡ refused_after s.standing plan.decision.next service.old.refused plan.effects.refuses_call) }
+    ensures unchanged { OnErr result ((held : ℕ) (s : Situation) → StandsFor service.old held s → StandsFor service.new held s) }
+    ensures refused_unchanged { OnErr result (service.new.refused ≡ service.old.refused) }
 {
-    let installed = installed_program(event, effects.installs)?;
     entries.reserve(1)?;
-    service.breaker.make_room(effects.note)?;
-    service.registry.make_room(effects.issued, &installed)?;
-    Ok(installed)
+    let installed = installed_program(event, plan.effects.installs)?;
+    service.follow(plan.decision.next, plan.effects, installed)?;
+    Ok(())
 }
 
 /// One more owner of a program.

@@ -36,9 +36,9 @@ impl Book {
     {
         are_worn_out(
             self.start.line + self.entries.len() as u64,
-            self.service.registry.next_ticket,
-            self.service.breaker.standing.period + 1,
-            self.service.registry.current_version() + 1,
+            self.service.next_ticket(),
+            self.service.standing().period + 1,
+            self.service.current_version() + 1,
         )
     }
 
@@ -49,12 +49,11 @@ impl Book {
         ensures legal { IfOk result IsLegal }
         ensures sound { IfOk result (λ book. IsSound (past_of book)) }
     {
-        let last = self.service.registry.programs.len() - 1;
         let start = Start {
-            program: Arc::try_clone(&self.service.registry.programs[last])?,
-            version: self.service.registry.current_version(),
-            period: self.service.breaker.standing.period + 1,
-            ticket: self.service.registry.next_ticket,
+            program: Arc::try_clone(self.service.current_program())?,
+            version: self.service.current_version(),
+            period: self.service.standing().period + 1,
+            ticket: self.service.next_ticket(),
             line: self.start.line + self.entries.len() as u64,
             moment: self.moment,
         };
@@ -75,7 +74,7 @@ impl Book {
         if self.is_worn_out() {
             return Err(RefusalNumber::JournalFull);
         }
-        if !self.service.registry.open_tickets.is_empty() {
+        if self.service.open_count() > 0 {
             return Err(RefusalNumber::TicketsOpen);
         }
         match self.reopened() {

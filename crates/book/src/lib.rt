@@ -13,6 +13,7 @@ mod events;
 pub mod laws;
 mod machine;
 mod paging;
+mod plans;
 mod registry;
 mod service;
 #[cfg(test)]

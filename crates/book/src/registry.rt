@@ -4,11 +4,9 @@ ghost use Rattle.std.specs.Arc.{arc_value};
 ghost use Rattle.std.specs.Option.{option_map};
 ghost use Rattle.std.specs.List.{filter};
 ghost use Rattle.std.specs.Vec.{vec_len, vec_capacity};
-ghost use Rattle.service_profile.specs.Answers.{budget_of, looked, looked_under, map_ok};
-ghost use Rattle.book.specs.Following.{situation, is_number, tickets_after, one_where_some};
-ghost use Rattle.book.specs.Situations.{StandsFor};
-ghost use Rattle.book.specs.declared.breaker.Breaker.{Breaker};
-ghost use Rattle.service_profile.specs.declared.configuration.ConfigParts.{ConfigParts};
+ghost use Rattle.service_profile.specs.Answers.{looked, map_ok};
+ghost use Rattle.book.specs.Following.{is_number, tickets_after, one_where_some};
+ghost use Rattle.book.specs.Situations.{IsRegistered};
 ghost use Rattle.service_profile.specs.Machine.{Situation, open_ticket, is_open, permissions_held, program_from};
 
 use refusals::RefusalNumber;
@@ -130,15 +128,12 @@ impl Registry {
         }
     }
 
-    /// The budget of the program of new tickets.
-    pub(crate) fn current_budget(&self) -> u32
-        requires { self.now.first_version + length self.now.programs.items < 2 ^ 64 }
-        ensures { result ≡ budget_of (program_from self.now.first_version (map arc_value self.now.programs.items) (self.now.first_version + (length self.now.programs.items - 1))) }
+    /// The program of new tickets.
+    pub(crate) fn current_program(&self) -> &Arc<Verified>
+        requires { 1 ≤ length self.now.programs.items }
+        ensures { Some (arc_value result.now) ≡ program_from self.now.first_version (map arc_value self.now.programs.items) (self.now.first_version + (length self.now.programs.items - 1)) }
     {
-        match self.program(self.current_version()) {
-            Some(program) => program.budget(),
-            None => 0,
-        }
+        &self.programs[self.programs.len() - 1]
     }
 
     /// Whether the ticket of a number is open.
@@ -187,19 +182,10 @@ impl Registry {
         1 <= number && number < self.next_ticket
     }
 
-    /// The program that judges under an open ticket.
-    fn looked_under(&self, ticket: OpenTicket) -> Result<&Arc<Verified>, RefusalNumber>
-        ensures { (config : ConfigParts) (breaker : Breaker) (held : ℕ) → map_ok (λ p. arc_value p.now) result ≡ looked_under (situation config breaker self.now held) (Some ticket) }
-    {
-        match self.program(ticket.version) {
-            Some(program) => Ok(program),
-            None => Err(RefusalNumber::TicketSpent),
-        }
-    }
-
-    /// The program that judges under a ticket.
+    /// The program that judges under a ticket. The refusal is `NoTicket` where the number was given to none,
+    /// `TicketSpent` where the ticket has ended.
     pub(crate) fn look(&self, ticket: u64) -> Result<&Arc<Verified>, RefusalNumber>
-        ensures { (config : ConfigParts) (breaker : Breaker) (held : ℕ) (s : Situation) → StandsFor config breaker self.now held s → map_ok (λ p. arc_value p.now) result ≡ looked s ticket }
+        ensures { (s : Situation) → IsRegistered self.now s → map_ok (λ p. arc_value p.now) result ≡ looked s ticket }
     {
         if !self.is_issued(ticket) {
             return Err(RefusalNumber::NoTicket);
@@ -207,7 +193,10 @@ impl Registry {
         let Some(open) = self.open_ticket(ticket) else {
             return Err(RefusalNumber::TicketSpent);
         };
-        self.looked_under(open)
+        match self.program(open.version) {
+            Some(program) => Ok(program),
+            None => Err(RefusalNumber::TicketSpent),
+        }
     }
 
     /// Makes room for a ticket where one is issued, and for a program where one is installed.

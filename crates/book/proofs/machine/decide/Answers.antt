@@ -1,22 +1,18 @@
-use Rattle.std.proofs.Common.{◌≡◌, sym, subst}
-use Rattle.service_profile.specs.Machine.{Situation, decision}
-use Rattle.book.specs.Effects.{planned}
-use Rattle.book.specs.Following.{situation_in}
+use Rattle.std.proofs.Common.{◌≡◌, sym, ap, ◌∙◌, None}
+use Rattle.refusals.specs.declared.RefusalNumber.TheVariants as refusal
+use Rattle.service_profile.specs.declared.standings.Standing.{Standing}
+use Rattle.book.specs.Effects.{refused_plan}
+use Rattle.service_profile.specs.Configuration.{bad_field}
 use Rattle.book.specs.Seen.{seen}
 use Rattle.book.proofs.Configured.{no_stay}
 use Rattle.book.proofs.Planned.{full_plan, decided_plan}
-use Rattle.book.proofs.Situated.{situation_is}
 use Rattle.book.proofs.machine.decide.Goals as goal
 
 pub returns-then-is_full : goal.returns-then-is_full
 returns-then-is_full c = λ s stands.
-    subst (λ (t : Situation). c.refused.result ≡ planned c.args.service.now.config c.args.moment (seen c.args.event.now) (decision t c.args.moment (seen c.args.event.now)))
-    (sym (situation_is _ _ _ c.args.held s stands))
-    (full_plan (situation_in c.args.service.now c.args.held) c.args.moment (seen c.args.event.now) c.refused.result (sym c.if-is_full.ensures) c.refused.ensures)
+    full_plan s c.args.moment (seen c.args.event.now) c.refused.result (sym (c.if-is_full.ensures s stands)) (c.refused.ensures ∙ ap (λ (n : Standing). refused_plan n refusal.JournalFull) (c.standing.ensures c.args.held s stands))
 
 pub returns : goal.returns
 returns c = λ s stands.
-    subst (λ (t : Situation). c.decided.result ≡ planned c.args.service.now.config c.args.moment (seen c.args.event.now) (decision t c.args.moment (seen c.args.event.now)))
-    (sym (situation_is _ _ _ c.args.held s stands))
-    (decided_plan (situation_in c.args.service.now c.args.held) c.args.moment (seen c.args.event.now) c.decided.result (sym c.if-is_full.ensures)
-    (no_stay (situation_in c.args.service.now c.args.held) c.args.moment c.know_config.ensures) (c.decided.ensures c.args.held))
+    let good : bad_field s.config ≡ None = ap bad_field stands.configured ∙ c.know_config.ensures in
+    decided_plan s c.args.moment (seen c.args.event.now) c.decided.result (sym (c.if-is_full.ensures s stands)) (no_stay s c.args.moment good) (c.decided.ensures c.args.held s stands)

@@ -1,20 +1,35 @@
-use Rattle.std.proofs.Common.{◌≡◌, ℕ, ◌+◌, ◌-◌, suc, length, map, arith, ap, ◌∙◌}
-use Rattle.std.specs.Arc.{arc_value}
-use Rattle.std.proofs.lemmas.List.{length-map}
+use Rattle.std.proofs.Common.{◌≡◌, ℕ, ◌+◌, suc, length, arith, ap, ◌∙◌}
+use Rattle.service_profile.specs.declared.standings.Standing.{Standing}
 use Rattle.service_profile.specs.Answers.{is_worn_out}
-use Rattle.service_profile.specs.Events.{History}
-use Rattle.service_profile.specs.Histories.{past_of}
-use Rattle.book.proofs.Applying.{line_fits}
+use Rattle.service_profile.specs.Events.{History, history_of}
+use Rattle.service_profile.specs.Histories.{past_of, situation_of}
+use Rattle.service_profile.specs.Machine.{Situation, current_version}
+use Rattle.book.specs.Books.{opening_of}
+use Rattle.book.proofs.Applying.{line_fits, situated}
 use Rattle.book.proofs.Cuts.{worn_is}
-use Rattle.book.proofs.Situated.{situated_in}
 use Rattle.book.proofs.books.Book.is_worn_out.Goals as goal
 
 pub overflow_add-self-inside : goal.overflow_add-self-inside
-overflow_add-self-inside c = omega (arith, line_fits _ _ _ _ _ (situated_in _ _ _ _ _ _ _ c.self.invariant), c.len.ensures, c.self.inside.entries.ok.0)
+overflow_add-self-inside c = omega (arith, line_fits _ _ _ _ c.self.invariant, c.len.ensures, c.self.inside.entries.ok.0)
+
+pub overflow_add-standing : goal.overflow_add-standing
+overflow_add-standing c =
+    let there = situated _ _ _ _ c.self.invariant in
+    omega (arith, ap (λ (n : Standing). n.period) (c.standing.ensures there.held there.situation there.stands), there.orderly.period)
+
+pub current_version-requires : goal.current_version-requires
+current_version-requires c = situated _ _ _ _ c.self.invariant
+
+pub overflow_add-current_version : goal.overflow_add-current_version
+overflow_add-current_version c =
+    let there = situated _ _ _ _ c.self.invariant in
+    omega (arith, c.current_version.ensures there.held there.situation there.stands, there.orderly.versions, there.orderly.current)
 
 pub returns : goal.returns
 returns c =
+    let s : Situation = situation_of (past_of (history_of (opening_of c.self.inside.service.config c.self.inside.start) c.self.inside.entries.items)) in
+    let stands = c.self.invariant.situated in
     let line : c.self.inside.start.line + c.len.result ≡ c.self.inside.start.line + length c.self.inside.entries.items = ap (λ (n : ℕ). c.self.inside.start.line + n) (c.len.ensures ∙ c.self.inside.entries.ok.0) in
-    let period : c.self.inside.service.breaker.standing.period + 1 ≡ suc c.self.inside.service.breaker.standing.period = omega arith in
-    let version : c.current_version.result + 1 ≡ suc (c.self.inside.service.registry.first_version + (length (map arc_value c.self.inside.service.registry.programs.items) - 1)) = omega (arith, c.current_version.ensures, length-map c.self.inside.service.registry.programs.items arc_value) in
-    rw (c.are_worn_out.ensures, line, period, version) (worn_is _ _ _ _ _ (situated_in _ _ _ _ _ _ _ c.self.invariant)) ∙ ap (λ (h : History). is_worn_out (past_of h)) c.self.view_is
+    let period : c.standing.result.period + 1 ≡ suc s.standing.period = omega (arith, ap (λ (n : Standing). n.period) (c.standing.ensures _ _ stands)) in
+    let version : c.current_version.result + 1 ≡ suc (current_version s) = omega (arith, c.current_version.ensures _ _ stands) in
+    rw (c.are_worn_out.ensures, line, c.next_ticket.ensures _ _ stands, period, version) (worn_is (opening_of c.self.inside.service.config c.self.inside.start) c.self.inside.entries.items) ∙ ap (λ (h : History). is_worn_out (past_of h)) c.self.view_is
