@@ -1,2 +1,7 @@
+pub mod Adding
 pub mod Lists
-pub mod Seconds
+pub mod LastOutcomes
+pub mod Fallen
+pub mod Order
+pub mod Noted
+pub mod Keeping

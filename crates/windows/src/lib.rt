@@ -2,14 +2,18 @@
 //! documentation: count-based and time-based sliding window).
 #![tactic(auto)]
 
+mod buckets;
 mod count;
-mod notes;
+mod outcomes;
+mod sums;
 #[cfg(test)]
 mod tests;
 mod time;
 mod window;
 
+pub use buckets::Bucket;
 pub use count::CountWindow;
+pub use outcomes::Outcome;
 pub use service_profile::{Note, Totals};
 pub use time::TimeWindow;
 pub use window::Window;

@@ -1,0 +1,10 @@
+//! What a window keeps of a note's outcome.
+
+/// How a call ended.
+#[derive(Clone, Copy, Debug, PartialEq, Eq)]
+pub struct Outcome {
+    /// Whether the verdict is a failure.
+    pub failed: bool,
+    /// Whether the call took longer than the threshold.
+    pub slow: bool,
+}
