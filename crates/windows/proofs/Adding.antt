@@ -70,9 +70,19 @@ pub sum_map : {X Y : Type 0} (f : Y → Totals) (g : X → Y) (xs : List X) → 
 sum_map f g [] = refl
 sum_map f g (x ∷ xs) = sum_cons f (g x) (map g xs) ∙ ap (λ (t : Totals). plus (f (g x)) t) (sum_map f g xs) ∙ sym (sum_cons (λ y. f (g y)) x xs)
 
-length_is_sum : {X : Type 0} (xs : List X) → length xs ≡ sum_by (λ x. 1) xs
+pub length_is_sum : {X : Type 0} (xs : List X) → length xs ≡ sum_by (λ x. 1) xs
 length_is_sum [] = refl
 length_is_sum (x ∷ xs) = omega (arith, length_is_sum xs, sum_by-cons (λ y. 1) x xs)
 
 pub totals_are_sums : (notes : List Note) → totals_of notes ≡ sum_of (λ note. one_note note.failed note.slow) notes
 totals_are_sums notes = same_totals (totals_of notes) (sum_of (λ note. one_note note.failed note.slow) notes) (length_is_sum notes) (length-filter (λ note. note.failed) notes) (length-filter (λ note. note.slow) notes)
+
+-- no count is greater than the total, in a sum too
+pub plus_counted : (a b : Totals) → AreTotals a.total a → AreTotals b.total b → AreTotals (plus a b).total (plus a b)
+plus_counted a b p q = record { total = omega arith; failed = omega (arith, p.failed, q.failed); slow = omega (arith, p.slow, q.slow) }
+
+pub one_counted : (failed slow : Bool) → AreTotals 1 (one_note failed slow)
+one_counted true true = record { total = omega arith; failed = omega arith; slow = omega arith }
+one_counted true false = record { total = omega arith; failed = omega arith; slow = omega arith }
+one_counted false true = record { total = omega arith; failed = omega arith; slow = omega arith }
+one_counted false false = record { total = omega arith; failed = omega arith; slow = omega arith }

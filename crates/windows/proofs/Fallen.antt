@@ -1,5 +1,6 @@
 -- Buckets that have fallen out of a window.
 use Rattle.std.proofs.Common.{◌≡◌, ℕ, zero, suc, ◌<◌, Bool, true, false, cond, Option, Some, None, List, [], ◌∷◌, length, drop, slice_get, arith, refl, ap, sym, ◌∙◌}
+use Rattle.std.specs.List.{AllByRecursion}
 use Rattle.std.proofs.lemmas.Bool.{cond-true}
 use Rattle.service_profile.specs.declared.notes.Totals.{Totals}
 use Rattle.windows.specs.declared.buckets.Bucket.{Bucket}
@@ -62,3 +63,11 @@ module _ (size second : ℕ) where
   pub left_part : (xs : List Bucket) → IsPart (sum_of totals_of_bucket (left size second xs)) (sum_of totals_of_bucket xs)
   left_part [] = part_same (sum_of totals_of_bucket [])
   left_part (x ∷ xs) = left_part_head (has_fallen size second x) x xs (left_part xs)
+
+  left_all_head : (P : Bucket → Type 0) (b : Bool) (xs ys : List Bucket) → AllByRecursion P xs → AllByRecursion P ys → AllByRecursion P (cond b xs ys)
+  left_all_head P true xs ys p q = p
+  left_all_head P false xs ys p q = q
+
+  pub left_all : (P : Bucket → Type 0) (xs : List Bucket) → AllByRecursion P xs → AllByRecursion P (left size second xs)
+  left_all P [] all = all
+  left_all P (x ∷ xs) all = left_all_head P (has_fallen size second x) (left size second xs) (x ∷ xs) (left_all P xs all.1) all

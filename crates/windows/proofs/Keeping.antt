@@ -10,9 +10,9 @@ use Rattle.windows.specs.declared.buckets.Bucket.{Bucket}
 use Rattle.windows.specs.Held.{HeldBuckets}
 use Rattle.windows.specs.Kept.{is_in_window, KeepsBuckets}
 use Rattle.windows.specs.Notes.{recent, AreNotAfter}
-use Rattle.windows.specs.Rings.{left, newest, older, with_totals, totals_of_bucket, AreInOrder}
+use Rattle.windows.specs.Rings.{left, newest, older, with_totals, totals_of_bucket, AreInOrder, IsCounted}
 use Rattle.windows.specs.Sums.{plus, no_totals, one_note, sum_of}
-use Rattle.windows.proofs.Adding.{plus_nothing, plus_assoc, sum_push, part_fits, one_more_fits, totals_are_sums}
+use Rattle.windows.proofs.Adding.{sum_cons, plus_counted, one_counted, plus_nothing, plus_assoc, sum_push, part_fits, one_more_fits, totals_are_sums}
 use Rattle.windows.proofs.Fallen.{left_part}
 use Rattle.windows.proofs.Lists.{all_push, all_front, all_last, all_filter, filter_narrower}
 use Rattle.windows.proofs.Noted.{noted, noted_sum}
@@ -140,3 +140,19 @@ pub totals_with_newest : (size moment : ℕ) (notes : List Note) (note : Note) �
 totals_with_newest size moment notes note some same =
     let counts : is_recent size moment note ≡ true = lt-ltb (moment / 1000) (note.moment / 1000 + size) (omega (arith, some, same)) in
     totals_with_note size moment notes note ∙ ap (λ (b : Bool). plus (totals_of (recent size moment notes)) (cond b (one_note note.failed note.slow) no_totals)) counts
+
+-- ---- no count is greater than the total
+
+pub sum_counted : (xs : List Bucket) → AllByRecursion IsCounted xs → AreTotals (sum_of totals_of_bucket xs).total (sum_of totals_of_bucket xs)
+sum_counted [] all = record { total = omega arith; failed = omega arith; slow = omega arith }
+sum_counted (x ∷ xs) all = subst (λ (t : Totals). AreTotals t.total t) (sym (sum_cons totals_of_bucket x xs)) (plus_counted x.totals (sum_of totals_of_bucket xs) all.0 (sum_counted xs all.1))
+
+newest_counted : (second : ℕ) (xs : List Bucket) (bucket : Bucket) (front : List Bucket) → AllByRecursion IsCounted xs → Opens second xs bucket front → IsCounted bucket
+newest_counted second xs _ _ all (at_last bucket front whole late) = all_last IsCounted front bucket (subst (AllByRecursion IsCounted) whole all)
+newest_counted second xs _ _ all (anew later) = record { total = omega arith; failed = omega arith; slow = omega arith }
+
+pub noted_counted : (second : ℕ) (failed slow : Bool) (xs : List Bucket) → AllByRecursion IsCounted xs → AllByRecursion IsCounted (noted second (one_note failed slow) xs)
+noted_counted second failed slow xs all =
+    all_push IsCounted (older second xs) (with_totals (newest second xs) (one_note failed slow))
+    (older_by IsCounted second xs (newest second xs) (older second xs) all (opens second xs))
+    (plus_counted (newest second xs).totals (one_note failed slow) (newest_counted second xs (newest second xs) (older second xs) all (opens second xs)) (one_counted failed slow))

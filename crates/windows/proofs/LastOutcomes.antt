@@ -12,7 +12,7 @@ use Rattle.windows.specs.Kept.{outcome_of, KeepsOutcomes}
 use Rattle.windows.specs.Rings.{leaving, totals_of_outcome}
 use Rattle.windows.specs.Sums.{plus, minus, one_note, sum_of, IsPart}
 use Rattle.windows.proofs.Lists.{all_last_kept, last_again}
-use Rattle.windows.proofs.Adding.{sum_cons, sum_push, sum_map, sum_without_first, first_part, totals_are_sums}
+use Rattle.windows.proofs.Adding.{length_is_sum, sum_cons, sum_push, sum_map, sum_without_first, first_part, totals_are_sums}
 
 first_there : {X : Type 0} (xs : List X) (x : X) → slice_get xs 0 ≡ Some x → xs ≡ x ∷ drop 1 xs
 first_there [] x e = let bad : ◌≡◌ {A = Option _} None (Some x) = e in cc
@@ -96,3 +96,10 @@ ring_counted capacity xs few =
     let counted : AreTotals (length (keep_last capacity xs)) (sum_of totals_of_outcome (keep_last capacity xs)) = outcomes_counted (keep_last capacity xs) in
     let fits : length (keep_last capacity xs) ≤ capacity = kept_fits capacity xs in
     record { total = omega (arith, counted.total, fits, few); failed = omega (arith, counted.failed, fits, few); slow = omega (arith, counted.slow, fits, few) }
+
+-- no count of a ring is greater than the total
+pub outcomes_within : (xs : List Outcome) → AreTotals (sum_of totals_of_outcome xs).total (sum_of totals_of_outcome xs)
+outcomes_within xs =
+    let counted : AreTotals (length xs) (sum_of totals_of_outcome xs) = outcomes_counted xs in
+    let total : length xs ≡ (sum_of totals_of_outcome xs).total = length_is_sum xs in
+    record { total = omega arith; failed = omega (arith, counted.failed, total); slow = omega (arith, counted.slow, total) }

@@ -3,6 +3,7 @@ use Rattle.std.specs.Prelude.{◌≡◌, ℕ, ◌+◌, ◌-◌, ◌^◌, ◌<◌
 use Rattle.std.specs.List.{AllByRecursion}
 use Rattle.circular_buffer.specs.Buffer.{Buffer, last_item}
 use Rattle.service_profile.specs.declared.notes.Totals.{Totals}
+use Rattle.service_profile.specs.Windows.{AreTotals}
 use Rattle.windows.specs.declared.buckets.Bucket.{Bucket}
 use Rattle.windows.specs.declared.outcomes.Outcome.{Outcome}
 use Rattle.windows.specs.Sums.{plus, no_totals, one_note, sum_of}
@@ -71,10 +72,15 @@ abbrev pub AreInOrder : ℕ → List Bucket → Type 0
 AreInOrder size [] = Unit {0}
 AreInOrder size (bucket ∷ buckets) = AllByRecursion (λ later. IsSoonAfter size bucket later.second) buckets × AreInOrder size buckets
 
+-- no count of a bucket is greater than its total
+abbrev pub IsCounted : Bucket → Type 0
+IsCounted bucket = AreTotals bucket.totals.total bucket.totals
+
 -- a ring of buckets, with their totals
 pub record IsBucketRing (size : ℕ) (ring : Buffer Bucket) (totals : Totals) : Type 0 where
   pub some : 1 ≤ size
   pub few : size < 2 ^ 32
   pub capacity : ring.capacity ≡ size
   pub ordered : AreInOrder size ring.items
+  pub counted : AllByRecursion IsCounted ring.items
   pub summed : totals ≡ sum_of totals_of_bucket ring.items

@@ -1,7 +1,7 @@
 //! What a breaker asks of a sliding window.
 ghost use Rattle.std.specs.Prelude.{◌≡◌, ◌<◌, ◌-◌, ◌^◌, ◌++◌, ◌∷◌, [], ℕ, List, length, IsTrue, ◌↔◌};
 ghost use Rattle.service_profile.specs.declared.notes.Note.{Note as ANote};
-ghost use Rattle.service_profile.specs.Windows.{totals_of};
+ghost use Rattle.service_profile.specs.Windows.{totals_of, AreTotals};
 ghost use Rattle.windows.specs.Notes.{AreNotAfter};
 
 use service_profile::Totals;
@@ -30,7 +30,8 @@ pub trait Window {
 
     /// The totals over the notes that count at a moment, in milliseconds, that is not before a note's.
     fn totals(&self, moment: u64) -> Totals
-        ensures { (notes : List ANote) → keeps self.now notes → AreNotAfter moment notes → result ≡ totals_of (counted self.now moment notes) };
+        ensures exact { (notes : List ANote) → keeps self.now notes → AreNotAfter moment notes → result ≡ totals_of (counted self.now moment notes) }
+        ensures fits { AreTotals result.total result };
 
     /// The totals that there would be with one note more, at a moment, in milliseconds, that is not before
     /// a note's. The window stays as it is.

@@ -4,9 +4,10 @@ use Rattle.service_profile.specs.declared.notes.Totals.{Totals}
 use Rattle.service_profile.specs.Windows.{second_of, AreTotals}
 use Rattle.windows.specs.declared.buckets.Bucket.{Bucket}
 use Rattle.windows.specs.Kept.{HasRoomForOne}
-use Rattle.windows.specs.Rings.{left, totals_of_bucket}
+use Rattle.windows.specs.Rings.{IsCounted, left, totals_of_bucket}
 use Rattle.windows.specs.Sums.{plus, one_note, sum_of}
-use Rattle.windows.proofs.Keeping.{keeps_noted, room_fits}
+use Rattle.windows.proofs.Fallen.{left_all}
+use Rattle.windows.proofs.Keeping.{noted_counted, keeps_noted, room_fits}
 use Rattle.windows.proofs.Noted.{noted, noted_sum, noted_in_order, noted_whole}
 use Rattle.windows.proofs.time.TimeWindowWindow.record.Goals as goal
 use Rattle.windows.proofs.time.TimeWindowWindow.record.Goals.{After-drop_fallen-staying, After-add}
@@ -45,6 +46,7 @@ invariant_of-self c =
       few = c.self.invariant.few;
       capacity = ap (λ (ring : Buffer Bucket). ring.capacity) is;
       ordered = rw is (noted_in_order c.self.inside.size c.args.moment (one_note c.args.failed c.args.slow) c.self.inside.ring.items c.self.invariant.some c.self.invariant.ordered);
+      counted = rw is (noted_counted (second_of c.args.moment) c.args.failed c.args.slow (left c.self.inside.size (second_of c.args.moment) c.self.inside.ring.items) (left_all c.self.inside.size (second_of c.args.moment) IsCounted c.self.inside.ring.items c.self.invariant.counted));
       summed = rw (c.plus-self-inside.ensures, staying_is all.After-drop_fallen-staying, c.one_note-one.ensures, is) (sym (noted_sum (second_of c.args.moment) (one_note c.args.failed c.args.slow) (left c.self.inside.size (second_of c.args.moment) c.self.inside.ring.items)));
     }
 
