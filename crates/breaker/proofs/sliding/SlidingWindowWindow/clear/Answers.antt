@@ -1,0 +1,7 @@
+use Rattle.breaker.proofs.sliding.SlidingWindowWindow.clear.Goals as goal
+
+pub returns-in-Count-clause-same : goal.returns-in-Count-clause-same
+returns-in-Count-clause-same c = rw c.in-Count.is c.clear.ensures.same
+
+pub returns-in-Time-clause-same : goal.returns-in-Time-clause-same
+returns-in-Time-clause-same c = rw c.in-Time.is c.clear-in-Time.ensures.same

@@ -1,0 +1,4 @@
+pub mod Sliding
+pub mod SlidingLaws
+pub mod Stands
+pub mod Calls

@@ -1,0 +1,114 @@
+//! The calls of a breaker that decide and commit at once.
+ghost use Rattle.std.specs.Prelude.{◌≡◌};
+ghost use Rattle.breaker.specs.Calls.{fate_in};
+
+use crate::machine::Breaker;
+use crate::metrics::Metrics;
+use crate::rates::{minimum, shown_rate};
+use service_profile::{Fate, Note, Standing, State};
+
+/// What becomes of a verdict that is not ignored, under a permission of a period.
+fn fate_in(standing: Standing, period: u64) -> Fate
+    ensures { result ≡ fate_in standing period }
+{
+    if period != standing.period {
+        return Fate::Stale;
+    }
+    match standing.state {
+        State::Disabled => Fate::Off,
+        _ => Fate::Recorded,
+    }
+}
+
+impl Breaker {
+    ghost use Rattle.std.specs.Prelude.{◌≡◌, ◌<◌, ◌+◌, ◌-◌, ◌^◌};
+    ghost use Rattle.breaker.specs.Stands.{Stand, StandsFor, HasRoom};
+    ghost use Rattle.breaker.specs.Calls.{permission_of, permitted_period, permitted, fate_in, recorded, given_back, moved_to, metrics_of};
+    ghost use Rattle.windows.specs.Notes.{AreNotAfter};
+
+    /// The period of the permission that is given to a call at a moment, in milliseconds; none where the
+    /// breaker refuses it. Once the wait in OPEN is over it begins a period in HALF_OPEN.
+    pub fn permit(&mut self, moment: u64) -> Option<u64>
+        requires period { self.old.standing.period + 1 < 2 ^ 64 }
+        requires held { self.old.held < 2 ^ 64 - 8 }
+        ensures period { (s : Stand) → StandsFor self.old s → result ≡ permitted_period (permission_of moment s) }
+        ensures stands { (s : Stand) → StandsFor self.old s → StandsFor self.new (permitted moment s) }
+    {
+        let permission = self.permission(moment);
+        self.follow(permission.standing, None);
+        if !permission.given {
+            return None;
+        }
+        self.take_permission();
+        Some(permission.standing.period)
+    }
+
+    /// Records the verdict of a call that was permitted in a period, and ends its permission. The moment,
+    /// in milliseconds, is not before that of a note of the period.
+    pub fn record(&mut self, moment: u64, period: u64, failed: bool, slow: bool) -> Fate
+        requires held { period ≡ self.old.standing.period → 0 < self.old.held }
+        requires room { HasRoom self.old }
+        requires period { self.old.standing.period + 1 < 2 ^ 64 }
+        ensures fate { result ≡ fate_in self.old.standing period }
+        ensures stands { (s : Stand) → StandsFor self.old s → AreNotAfter moment s.notes → StandsFor self.new (recorded period (record { moment = moment; failed = failed; slow = slow }) s) }
+    {
+        let note = Note {
+            moment,
+            failed,
+            slow,
+        };
+        let fate = fate_in(self.standing, period);
+        match fate {
+            Fate::Stale => {}
+            Fate::Recorded => {
+                let next = self.after_note(note);
+                self.return_permission();
+                self.follow(next, Some(note));
+            }
+            _ => self.return_permission(),
+        }
+        fate
+    }
+
+    /// Gives back a permission of a period. Where the period is over, nothing changes.
+    pub fn give_back(&mut self, period: u64)
+        requires { period ≡ self.old.standing.period → 0 < self.old.held }
+        ensures { (s : Stand) → StandsFor self.old s → StandsFor self.new (given_back period s) }
+    {
+        if period == self.standing.period {
+            self.return_permission();
+        }
+    }
+
+    /// Moves the breaker to a state at a moment, in milliseconds. A period begins, also in the same state.
+    pub fn move_to(&mut self, moment: u64, state: State)
+        requires { self.old.standing.period + 1 < 2 ^ 64 }
+        ensures { (s : Stand) → StandsFor self.old s → StandsFor self.new (moved_to state moment s) }
+    {
+        self.begin_period(self.standing.moved(state, moment));
+    }
+
+    /// How the breaker stands, and what counts at a moment, in milliseconds, that is not before that of a
+    /// note of the period.
+    pub fn metrics(&self, moment: u64) -> Metrics
+        ensures { (s : Stand) → StandsFor self.now s → AreNotAfter moment s.notes → result ≡ metrics_of moment s }
+    {
+        let totals = self.totals(moment);
+        let Standing {
+            state,
+            period,
+            since,
+        } = self.standing;
+        let least = minimum(&self.config.parts(), state);
+        Metrics {
+            state,
+            period,
+            since,
+            total: totals.total,
+            failed: totals.failed,
+            slow: totals.slow,
+            failure_rate: shown_rate(least, totals.total, totals.failed),
+            slow_rate: shown_rate(least, totals.total, totals.slow),
+        }
+    }
+}

@@ -1,0 +1,27 @@
+//! Totals with one note more.
+ghost use Rattle.std.specs.Prelude.{◌≡◌, ◌-◌, ◌^◌};
+ghost use Rattle.service_profile.specs.Windows.{with_note, AreTotals};
+
+use service_profile::{Note, Totals};
+
+/// The totals of no note.
+pub(crate) const NO_TOTALS: Totals = Totals {
+    total: 0,
+    failed: 0,
+    slow: 0,
+};
+
+/// How many notes there may be before one more.
+pub(crate) const MOST_NOTES: u64 = u64::MAX - 8;
+
+/// The totals with one note more.
+pub(crate) fn with_note(totals: Totals, note: Note) -> Totals
+    requires { AreTotals (2 ^ 64 - 9) totals }
+    ensures { result ≡ with_note totals note }
+{
+    Totals {
+        total: totals.total + 1,
+        failed: totals.failed + u64::from(note.failed),
+        slow: totals.slow + u64::from(note.slow),
+    }
+}

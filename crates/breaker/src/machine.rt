@@ -1,0 +1,213 @@
+//! The breaker: decisions that change nothing, and what commits them.
+ghost use Rattle.std.specs.Prelude.{◌≡◌, ◌<◌, ◌≤◌, ◌+◌, ◌-◌, ◌^◌, ◌++◌, ◌∷◌, [], IsTrue, ◌↔◌, IfOk, IfSome, OnSome};
+ghost use Rattle.service_profile.specs.Standings.{is_half_open};
+
+use crate::counters::{MOST_NOTES, NO_TOTALS, with_note};
+use crate::permissions::permission_in;
+use crate::rates::after_totals;
+use crate::sliding::SlidingWindow;
+use service_profile::{Config, Note, Permission, Standing, State, Totals};
+use std::alloc::{AllocError, Global};
+use std::marker::Model;
+use windows::Window;
+
+/// Where a breaker stands, what counts of the notes of its period, and how many permissions of the period
+/// are held. Only `new` takes memory.
+#[derive(Drop)]
+pub struct Breaker {
+    pub(crate) config: Config,
+    pub(crate) standing: Standing,
+    window: SlidingWindow,
+    /// The totals of the notes of a period in HALF_OPEN.
+    trial: Totals,
+    held: u64,
+}
+
+impl Model for Breaker {
+    ghost use Rattle.breaker.specs.Stands.{HeldBreaker, AreParts};
+
+    ghost Value = { HeldBreaker };
+
+    ghost view = { λ b. record { config = b.config; standing = b.standing; window = b.window; trial = b.trial; held = b.held } };
+
+    ghost invariant = { λ b. AreParts b.config b.window b.trial };
+}
+
+/// Whether the notes of a period are all counted.
+pub(crate) fn is_half_open(state: State) -> bool
+    ensures { result ≡ is_half_open state }
+{
+    match state {
+        State::HalfOpen => true,
+        _ => false,
+    }
+}
+
+impl Breaker {
+    ghost use Rattle.std.specs.Prelude.{◌≡◌, ◌<◌, ◌≤◌, ◌+◌, ◌-◌, ◌^◌, ◌++◌, ◌∷◌, [], IsTrue, ◌↔◌, IfOk, IfSome, OnSome};
+    ghost use Rattle.breaker.specs.Stands.{Stand, StandsFor, HasRoom, first_stand};
+    ghost use Rattle.breaker.specs.Calls.{permission_of, after_note_in, begun, with_note_in, followed, with_permission, without_permission};
+    ghost use Rattle.service_profile.specs.Windows.{totals_of, windowed, AreTotals};
+    ghost use Rattle.windows.specs.Notes.{AreNotAfter};
+
+    /// A breaker in CLOSED, in this period, since a moment in milliseconds. It takes all its memory here.
+    pub fn new(
+        alloc: Global,
+        config: Config,
+        period: u64,
+        since: u64,
+    ) -> Result<Breaker, AllocError>
+        ensures { IfOk result (λ breaker. StandsFor breaker (first_stand config period since)) }
+    {
+        let window = SlidingWindow::new(alloc, &config)?;
+        Ok(Breaker {
+            config,
+            standing: Standing {
+                state: State::Closed,
+                period,
+                since,
+            },
+            window,
+            trial: NO_TOTALS,
+            held: 0,
+        })
+    }
+
+    /// Where the breaker stands.
+    pub fn standing(&self) -> Standing
+        ensures { result ≡ self.now.standing }
+    {
+        self.standing
+    }
+
+    /// How many permissions of the period are held.
+    pub fn permissions_held(&self) -> u64
+        ensures { result ≡ self.now.held }
+    {
+        self.held
+    }
+
+    /// Whether one note more can be counted. A breaker with fewer than 2^64 - 8 notes in its period has
+    /// room.
+    pub fn has_room_for_note(&self) -> bool
+        ensures { IsTrue result ↔ HasRoom self.now }
+    {
+        let Totals {
+            total,
+            failed,
+            slow,
+        } = self.trial;
+        if is_half_open(self.standing.state) {
+            total <= MOST_NOTES && failed <= MOST_NOTES && slow <= MOST_NOTES
+        } else {
+            self.window.has_room_for_note()
+        }
+    }
+
+    /// What the breaker says to a call at a moment, in milliseconds. It changes nothing.
+    pub fn permission(&self, moment: u64) -> Permission
+        requires { self.now.standing.period + 1 < 2 ^ 64 }
+        ensures exact { (s : Stand) → StandsFor self.now s → result ≡ permission_of moment s }
+        ensures stays { result.standing.period ≡ self.now.standing.period → result.standing ≡ self.now.standing }
+    {
+        permission_in(
+            &self.config.parts(),
+            self.standing,
+            self.trial.total,
+            self.held,
+            moment,
+        )
+    }
+
+    /// The totals over the notes that count at a moment.
+    pub(crate) fn totals(&self, moment: u64) -> Totals
+        ensures exact { (s : Stand) → StandsFor self.now s → AreNotAfter moment s.notes → result ≡ totals_of (windowed s.config s.standing.state moment s.notes) }
+        ensures fits { AreTotals result.total result }
+    {
+        if is_half_open(self.standing.state) {
+            self.trial
+        } else {
+            self.window.totals(moment)
+        }
+    }
+
+    /// The totals over the notes that count once there is one more, at its moment.
+    fn totals_after(&self, note: Note) -> Totals
+        requires { HasRoom self.now }
+        ensures { (s : Stand) → StandsFor self.now s → AreNotAfter note.moment s.notes → result ≡ totals_of (windowed s.config s.standing.state note.moment (s.notes ++ note ∷ [])) }
+    {
+        if is_half_open(self.standing.state) {
+            with_note(self.trial, note)
+        } else {
+            self.window.totals_with(note.moment, note.failed, note.slow)
+        }
+    }
+
+    /// Where the breaker stands after one note more, whose moment is not before that of a note of the
+    /// period. It changes nothing.
+    pub fn after_note(&self, note: Note) -> Standing
+        requires room { HasRoom self.now }
+        requires period { self.now.standing.period + 1 < 2 ^ 64 }
+        ensures exact { (s : Stand) → StandsFor self.now s → AreNotAfter note.moment s.notes → result ≡ after_note_in note s }
+        ensures stays { result.period ≡ self.now.standing.period → result ≡ self.now.standing }
+    {
+        let totals = self.totals_after(note);
+        after_totals(&self.config, note.moment, self.standing, totals)
+    }
+
+    /// Begins a period, with no notes and no permission held. It takes time that goes with the notes that
+    /// count.
+    pub fn begin_period(&mut self, standing: Standing)
+        ensures begins { (self.new.standing ≡ standing) × (self.new.held ≡ 0) }
+        ensures stands { (s : Stand) → StandsFor self.old s → StandsFor self.new (begun standing s) }
+    {
+        self.standing = standing;
+        self.window.clear();
+        self.trial = NO_TOTALS;
+        self.held = 0;
+    }
+
+    /// Adds a note to the period, whose moment is not before that of another.
+    pub fn add_note(&mut self, note: Note)
+        requires { HasRoom self.old }
+        ensures same { (self.new.standing ≡ self.old.standing) × (self.new.held ≡ self.old.held) }
+        ensures stands { (s : Stand) → StandsFor self.old s → AreNotAfter note.moment s.notes → StandsFor self.new (with_note_in note s) }
+    {
+        if is_half_open(self.standing.state) {
+            self.trial = with_note(self.trial, note);
+        } else {
+            self.window.record(note.moment, note.failed, note.slow);
+        }
+    }
+
+    /// Takes a permission of the period.
+    pub fn take_permission(&mut self)
+        requires { self.old.held < 2 ^ 64 - 8 }
+        ensures { self.new ≡ record self.old { held = self.old.held + 1 } }
+    {
+        self.held += 1;
+    }
+
+    /// Gives back a permission of the period.
+    pub fn return_permission(&mut self)
+        requires { 0 < self.old.held }
+        ensures { self.new ≡ record self.old { held = self.old.held - 1 } }
+    {
+        self.held -= 1;
+    }
+
+    /// Stands where a decision leads: in the same period with its note, where there is one, or in a new
+    /// period with no notes and no permission held.
+    pub fn follow(&mut self, next: Standing, note: Option<Note>)
+        requires room { OnSome note (HasRoom self.old) }
+        requires stays { next.period ≡ self.old.standing.period → next ≡ self.old.standing }
+        ensures held { self.new.held ≤ self.old.held }
+        ensures stands { (s : Stand) → StandsFor self.old s → IfSome note (λ n. AreNotAfter n.moment s.notes) → StandsFor self.new (followed next note s) }
+    {
+        if next.period != self.standing.period {
+            self.begin_period(next);
+        } else if let Some(note) = note {
+            self.add_note(note);
+        }
+    }
+}
