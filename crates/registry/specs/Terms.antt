@@ -1,0 +1,12 @@
+-- How a map from numbers to terms stands for open tickets.
+use Rattle.std.specs.Prelude.{ℕ, List, map}
+use Rattle.service_profile.specs.declared.tickets.OpenTicket.{OpenTicket}
+use Rattle.registry.specs.declared.tickets.Terms.{Terms}
+
+-- the ticket of a number and its terms
+abbrev pub ticket_of : ℕ → Terms → OpenTicket
+ticket_of number terms = record { number = number; version = terms.version; period = terms.period }
+
+-- the tickets that a map's entries stand for, in the order of their numbers
+abbrev pub tickets_of : List (ℕ × Terms) → List OpenTicket
+tickets_of entries = map (λ entry. ticket_of entry.0 entry.1) entries

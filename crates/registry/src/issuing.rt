@@ -1,0 +1,85 @@
+//! Tickets: how they are issued and end, and which program judges under them.
+ghost use Rattle.std.specs.Prelude.{◌≡◌, ◌<◌, ◌≤◌, ◌+◌, ◌^◌, Some, IsOk, IsTrue, OnOk, OnErr, IfOk};
+ghost use Rattle.std.specs.Arc.{arc_value};
+ghost use Rattle.service_profile.specs.Answers.{map_ok};
+ghost use Rattle.service_profile.specs.Machine.{is_open};
+ghost use Rattle.registry.specs.Registries.{next_open, with_ticket, without_ticket, ticket_in, looked_in, looked_with, IsShared};
+
+use crate::holdings::Registry;
+use refusals::RefusalNumber;
+use service_profile::OpenTicket;
+use std::alloc::AllocError;
+use std::sync::Arc;
+use verifier::Verified;
+
+impl Registry {
+    /// Issues a ticket of a period, with the next number and the current version. Without memory nothing changes.
+    pub fn issue(&mut self, period: u64) -> Result<OpenTicket, AllocError>
+        requires { self.old.next_ticket + 1 < 2 ^ 64 }
+        ensures ticket { IfOk result (λ ticket. ticket ≡ next_open self.old period) }
+        ensures ok { OnOk result (self.new ≡ with_ticket self.old period) }
+        ensures err { OnErr result (self.new ≡ self.old) }
+    {
+        let ticket = OpenTicket {
+            number: self.next_ticket,
+            version: self.current_version(),
+            period,
+        };
+        self.open_tickets.insert(ticket)?;
+        self.next_ticket += 1;
+        Ok(ticket)
+    }
+
+    /// Ends a ticket, and answers it with its version and its period. The refusal is `NoTicket` where it was never
+    /// issued, `TicketSpent` where it has ended; it changes nothing. It takes no memory.
+    pub fn end(&mut self, ticket: u64) -> Result<OpenTicket, RefusalNumber>
+        ensures ticket { result ≡ ticket_in self.old ticket }
+        ensures ok { OnOk result (self.new ≡ without_ticket self.old ticket) }
+        ensures err { OnErr result (self.new ≡ self.old) }
+    {
+        if !self.is_issued(ticket) {
+            return Err(RefusalNumber::NoTicket);
+        }
+        match self.open_tickets.remove(ticket) {
+            Some(open) => Ok(open),
+            None => Err(RefusalNumber::TicketSpent),
+        }
+    }
+
+    /// The program that judges under an open ticket.
+    fn looked_with(&self, ticket: OpenTicket) -> Result<&Arc<Verified>, RefusalNumber>
+        ensures { map_ok (λ p. arc_value p.now) result ≡ looked_with self.now (Some ticket) }
+    {
+        match self.program(ticket.version) {
+            Some(program) => Ok(program),
+            None => Err(RefusalNumber::TicketSpent),
+        }
+    }
+
+    /// The program that judges under an open ticket: that of the ticket's version. The refusal is `NoTicket` where
+    /// the ticket was never issued, `TicketSpent` where it has ended.
+    pub fn look(&self, ticket: u64) -> Result<&Arc<Verified>, RefusalNumber>
+        ensures program { map_ok (λ p. arc_value p.now) result ≡ looked_in self.now ticket }
+        ensures held { IsTrue (is_open self.now.open_tickets ticket) → IsOk result }
+    {
+        if !self.is_issued(ticket) {
+            return Err(RefusalNumber::NoTicket);
+        }
+        match self.open_ticket(ticket) {
+            Some(open) => self.looked_with(open),
+            None => Err(RefusalNumber::TicketSpent),
+        }
+    }
+
+    /// One more owner of the program that judges under an open ticket. The refusal is that of `look`, or
+    /// `ServiceOutOfMemory` where the program can have no more owners.
+    pub fn program_of(&self, ticket: u64) -> Result<Arc<Verified>, RefusalNumber>
+        ensures { IsShared (looked_in self.now ticket) (map_ok arc_value result) }
+    {
+        let program = self.look(ticket)?;
+        match Arc::try_clone(program) {
+            Ok(owner) => Ok(owner),
+            Err(_) => Err(RefusalNumber::ServiceOutOfMemory),
+        }
+    }
+}
