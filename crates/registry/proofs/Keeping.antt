@@ -1,12 +1,11 @@
 -- What a registry keeps of its open tickets.
-use Rattle.std.proofs.Common.{◌≡◌, ℕ, zero, suc, ◌+◌, ◌-◌, ◌<◌, ◌≤◌, ◌==◌, nat_le, nat_lt, ◌&&◌, ◌||◌, not, Bool, true, false, cond, Option, Some, None, Result, Ok, Err, IfSome, IsOk, List, [], ◌∷◌, ◌++◌, length, map, slice_get, if◌then◌else◌, arith, refl, sym, ap, subst, ◌∙◌}
+use Rattle.std.proofs.Common.{◌≡◌, ℕ, ◌+◌, ◌-◌, ◌<◌, ◌≤◌, ◌==◌, nat_le, nat_lt, ◌&&◌, ◌||◌, Bool, true, false, cond, Option, Some, None, IfSome, List, [], ◌∷◌, ◌++◌, length, map, slice_get, if◌then◌else◌, arith, refl, ap, ◌∙◌}
 use Rattle.std.proofs.lemmas.Bool.Decides.{nat_tests}
 use Rattle.std.proofs.lemmas.List.{length-map}
 use Rattle.std.proofs.lemmas.Option.{slice_get-map}
 use Rattle.std.specs.List.{AllByRecursion, filter}
 use Rattle.std.specs.Option.{is_some, option_map}
 use Rattle.bpf_profile.specs.Programs.{VerifiedProgram}
-use Rattle.service_profile.specs.Answers.{map_ok}
 use Rattle.service_profile.specs.Machine.{open_ticket, is_open, program_from}
 use Rattle.service_profile.specs.declared.tickets.OpenTicket.{OpenTicket}
 use Rattle.registry.specs.Registries.{IsTicketOf}
@@ -27,11 +26,6 @@ kept_head P x false xs p all = all
 pub fewer : {X : Type 0} (P : X → Type 0) (test : X → Bool) (xs : List X) → AllByRecursion P xs → AllByRecursion P (filter test xs)
 fewer P test [] all = tt
 fewer P test (x ∷ xs) all = kept_head P x (test x) (filter test xs) all.0 (fewer P test xs all.1)
-
--- numbers that were given are below the next one
-pub all_before : (first versions next : ℕ) (tickets : List OpenTicket) → AllByRecursion (IsTicketOf first versions next) tickets → AllByRecursion (λ ticket. ticket.number < next) tickets
-all_before first versions next [] all = tt
-all_before first versions next (t ∷ ts) all = (all.0.before, all_before first versions next ts all.1)
 
 -- ---- what is open
 
@@ -66,23 +60,7 @@ open_is_issued first versions next [] n all h = let bad : ◌≡◌ {A = Bool} f
 open_is_issued first versions next (t ∷ ts) n all h =
     issued_head (t.number == n) (is_open ts n) (nat_le 1 n && nat_lt n next) (given_number next n t.number all.0.given all.0.before) (open_is_issued first versions next ts n all.1) h
 
--- ---- the program of an open ticket
-
-has_place : {X : Type 0} (xs : List X) (i : ℕ) → i < length xs → (x : X) × (slice_get xs i ≡ Some x)
-has_place [] i h = absurd (omega (arith, h))
-has_place (x ∷ xs) zero h = (x, refl)
-has_place (x ∷ xs) (suc i) h = has_place xs i (omega (arith, h))
-
--- a version that is held has a program
-pub version_is_held : (first : ℕ) (programs : List VerifiedProgram) (version : ℕ) → first ≤ version → version < first + length programs → (program : VerifiedProgram) × (program_from first programs version ≡ Some program)
-version_is_held first programs version old new =
-    let place = has_place programs (version - first) (omega (arith, old, new)) in
-    let held : nat_le first version ≡ true = grind (arith, nat_tests) in
-    (place.0, ap (λ (b : Bool). if b then slice_get programs (version - first) else None) held ∙ place.1)
-
-pub ok_where_mapped : {A B E : Type 0} (f : A → B) (r : Result A E) (b : B) → map_ok f r ≡ Ok b → IsOk r
-ok_where_mapped f (Ok a) b h = refl
-ok_where_mapped f (Err e) b h = let bad : ◌≡◌ {A = Result _ _} (Err e) (Ok b) = h in cc
+-- ---- the current program
 
 -- the last program is that of the current version
 pub last_is_current : {X : Type 0} (f : X → VerifiedProgram) (first : ℕ) (xs : List X) (x : X) → slice_get xs (length xs - 1) ≡ Some x → program_from first (map f xs) (first + (length (map f xs) - 1)) ≡ Some (f x)

@@ -82,14 +82,14 @@ impl Registry {
     pub fn current_version(&self) -> u64
         ensures { result ≡ current_version self.now }
     {
-        self.first_version + (self.programs.len() as u64 - 1)
+        self.first_version + (self.version_count() as u64 - 1)
     }
 
     /// The version of the next program that is installed.
     pub fn next_version(&self) -> u64
         ensures { result ≡ next_version self.now }
     {
-        self.first_version + self.programs.len() as u64
+        self.first_version + self.version_count() as u64
     }
 
     /// The program of a version, where it is held.

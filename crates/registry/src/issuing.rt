@@ -1,9 +1,9 @@
 //! Tickets: how they are issued and end, and which program judges under them.
-ghost use Rattle.std.specs.Prelude.{◌≡◌, ◌<◌, ◌≤◌, ◌+◌, ◌^◌, Some, IsOk, IsTrue, OnOk, OnErr, IfOk};
+ghost use Rattle.std.specs.Prelude.{◌≡◌, ◌<◌, ◌≤◌, ◌+◌, ◌^◌, length, Some, IsOk, IsTrue, OnOk, OnErr, IfOk};
 ghost use Rattle.std.specs.Arc.{arc_value};
 ghost use Rattle.service_profile.specs.Answers.{map_ok};
 ghost use Rattle.service_profile.specs.Machine.{is_open};
-ghost use Rattle.registry.specs.Registries.{next_open, with_ticket, without_ticket, ticket_in, looked_in, looked_with, IsShared};
+ghost use Rattle.registry.specs.Registries.{next_open, with_ticket, without_ticket, ticket_in, looked_in, looked_with, IsShared, IsTicketOf};
 
 use crate::holdings::Registry;
 use refusals::RefusalNumber;
@@ -37,10 +37,21 @@ impl Registry {
         ensures ok { OnOk result (self.new ≡ without_ticket self.old ticket) }
         ensures err { OnErr result (self.new ≡ self.old) }
     {
-        if !self.is_issued(ticket) {
+        let open = self.ticket(ticket)?;
+        self.open_tickets.remove(ticket);
+        Ok(open)
+    }
+
+    /// The ticket of a number, or why it is not open.
+    fn ticket(&self, number: u64) -> Result<OpenTicket, RefusalNumber>
+        ensures ticket { result ≡ ticket_in self.now number }
+        ensures open { IsTrue (is_open self.now.open_tickets number) → IsOk result }
+        ensures held { IfOk result (IsTicketOf self.now.first_version (length self.now.programs) self.now.next_ticket) }
+    {
+        if !self.is_issued(number) {
             return Err(RefusalNumber::NoTicket);
         }
-        match self.open_tickets.remove(ticket) {
+        match self.open_ticket(number) {
             Some(open) => Ok(open),
             None => Err(RefusalNumber::TicketSpent),
         }
@@ -48,7 +59,8 @@ impl Registry {
 
     /// The program that judges under an open ticket.
     fn looked_with(&self, ticket: OpenTicket) -> Result<&Arc<Verified>, RefusalNumber>
-        ensures { map_ok (λ p. arc_value p.now) result ≡ looked_with self.now (Some ticket) }
+        ensures program { map_ok (λ p. arc_value p.now) result ≡ looked_with self.now (Some ticket) }
+        ensures held { IsTicketOf self.now.first_version (length self.now.programs) self.now.next_ticket ticket → IsOk result }
     {
         match self.program(ticket.version) {
             Some(program) => Ok(program),
@@ -62,13 +74,7 @@ impl Registry {
         ensures program { map_ok (λ p. arc_value p.now) result ≡ looked_in self.now ticket }
         ensures held { IsTrue (is_open self.now.open_tickets ticket) → IsOk result }
     {
-        if !self.is_issued(ticket) {
-            return Err(RefusalNumber::NoTicket);
-        }
-        match self.open_ticket(ticket) {
-            Some(open) => self.looked_with(open),
-            None => Err(RefusalNumber::TicketSpent),
-        }
+        self.looked_with(self.ticket(ticket)?)
     }
 
     /// One more owner of the program that judges under an open ticket. The refusal is that of `look`, or

@@ -1,5 +1,5 @@
 //! Open tickets, by their numbers.
-ghost use Rattle.std.specs.Prelude.{◌≡◌, ◌==◌, ◌<◌, not, length, [], ◌∷◌, ◌++◌, OnOk, OnErr, IfNone};
+ghost use Rattle.std.specs.Prelude.{◌≡◌, ◌==◌, ◌<◌, not, length, [], ◌∷◌, ◌++◌, OnOk, OnErr};
 ghost use Rattle.std.specs.List.{AllByRecursion, filter};
 ghost use Rattle.std.specs.Option.{option_map};
 ghost use Rattle.service_profile.specs.Machine.{open_ticket, is_open};
@@ -103,7 +103,6 @@ impl OpenTickets {
     /// Ends the ticket of a number, and answers it where it was open. It takes no memory.
     pub(crate) fn remove(&mut self, number: u64) -> Option<OpenTicket>
         ensures ticket { result ≡ open_ticket self.old number }
-        ensures none { IfNone result (self.new ≡ self.old) }
         ensures others { self.new ≡ filter (λ ticket. not (ticket.number == number)) self.old }
     {
         ticket_of(number, self.terms.remove(&number))

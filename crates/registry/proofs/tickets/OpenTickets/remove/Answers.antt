@@ -1,12 +1,8 @@
-use Rattle.std.proofs.Common.{◌≡◌, ◌==◌, not, Some, None, Option, List, sym, ap, ◌∙◌}
+use Rattle.std.proofs.Common.{◌==◌, not, sym, ap, ◌∙◌}
 use Rattle.std.specs.List.{filter}
-use Rattle.std.specs.Map.{lookup}
-use Rattle.std.specs.BTreeMap.{is_at}
-use Rattle.std.specs.Ordering.{nat_cmp}
 use Rattle.std.specs.Option.{option_map}
 use Rattle.service_profile.specs.declared.tickets.OpenTicket.{OpenTicket}
 use Rattle.registry.specs.Terms.{ticket_of, tickets_of}
-use Rattle.registry.specs.declared.tickets.Terms.{Terms}
 use Rattle.registry.proofs.Entries.{found, removed}
 use Rattle.registry.proofs.tickets.OpenTickets.remove.Goals as goal
 
