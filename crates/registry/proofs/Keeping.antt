@@ -1,5 +1,5 @@
 -- What a registry keeps of its open tickets.
-use Rattle.std.proofs.Common.{◌≡◌, ℕ, ◌+◌, ◌-◌, ◌<◌, ◌≤◌, ◌==◌, nat_le, nat_lt, ◌&&◌, ◌||◌, Bool, true, false, cond, Option, Some, None, IfSome, List, [], ◌∷◌, ◌++◌, length, map, slice_get, if◌then◌else◌, arith, refl, ap, ◌∙◌}
+use Rattle.std.proofs.Common.{◌≡◌, ℕ, ◌+◌, ◌-◌, ◌<◌, ◌≤◌, ◌==◌, nat_le, nat_lt, ◌&&◌, ◌||◌, not, Bool, true, false, cond, Option, Some, None, IfSome, List, [], ◌∷◌, ◌++◌, length, map, slice_get, if◌then◌else◌, arith, refl, sym, ap, ◌∙◌}
 use Rattle.std.proofs.lemmas.Bool.Decides.{nat_tests}
 use Rattle.std.proofs.lemmas.List.{length-map}
 use Rattle.std.proofs.lemmas.Option.{slice_get-map}
@@ -59,6 +59,21 @@ pub open_is_issued : (first versions next : ℕ) (tickets : List OpenTicket) (n 
 open_is_issued first versions next [] n all h = let bad : ◌≡◌ {A = Bool} false true = h in cc
 open_is_issued first versions next (t ∷ ts) n all h =
     issued_head (t.number == n) (is_open ts n) (nat_le 1 n && nat_lt n next) (given_number next n t.number all.0.given all.0.before) (open_is_issued first versions next ts n all.1) h
+
+-- ---- what is not open
+
+stay_head : (t : OpenTicket) (b c : Bool) (kept ts : List OpenTicket) → (c ≡ false → kept ≡ ts) → (b || c) ≡ false → cond (not b) (t ∷ kept) kept ≡ t ∷ ts
+stay_head t true c kept ts h none = let bad : ◌≡◌ {A = Bool} true false = none in cc
+stay_head t false c kept ts h none = ap (λ (us : List OpenTicket). t ∷ us) (h none)
+
+-- where a ticket is not open, nothing is dropped
+pub none_dropped : (tickets : List OpenTicket) (n : ℕ) → is_open tickets n ≡ false → filter (λ ticket. not (ticket.number == n)) tickets ≡ tickets
+none_dropped [] n none = refl
+none_dropped (t ∷ ts) n none = stay_head t (t.number == n) (is_open ts n) (filter (λ ticket. not (ticket.number == n)) ts) ts (none_dropped ts n) none
+
+pub false_unless : (b : Bool) → (b ≡ true → ◌≡◌ {A = Bool} false true) → b ≡ false
+false_unless true h = sym (h refl)
+false_unless false h = refl
 
 -- ---- the current program
 

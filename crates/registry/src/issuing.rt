@@ -34,7 +34,7 @@ impl Registry {
     /// issued, `TicketSpent` where it has ended; it changes nothing. It takes no memory.
     pub fn end(&mut self, ticket: u64) -> Result<OpenTicket, RefusalNumber>
         ensures ticket { result ≡ ticket_in self.old ticket }
-        ensures ok { OnOk result (self.new ≡ without_ticket self.old ticket) }
+        ensures others { self.new ≡ without_ticket self.old ticket }
         ensures err { OnErr result (self.new ≡ self.old) }
     {
         let open = self.ticket(ticket)?;
