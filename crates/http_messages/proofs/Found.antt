@@ -85,7 +85,7 @@ front_of_input n input headers spans h fields low within is same =
 
 -- ---- no head in what was searched
 
-take_all : (n : ℕ) (xs : List ℕ) → length xs < n → take n xs ≡ xs
+pub take_all : (n : ℕ) (xs : List ℕ) → length xs < n → take n xs ≡ xs
 take_all n xs h = grind (arith, common_steps)
 
 pub part_of_head : (input seen : List ℕ) → seen ≡ searched input → length input < head_limit → HasNoRequest seen → MayBecomeRequest seen → IsPartOfHead input

@@ -3,3 +3,4 @@ pub mod Fields
 pub mod Heads
 pub mod Messages
 pub mod Fronts
+pub mod Readings

@@ -4,6 +4,7 @@
 
 mod fields;
 mod front;
+pub mod laws;
 mod lengths;
 #[cfg(test)]
 mod tests;

@@ -1,0 +1,30 @@
+//! What follows from the definitions alone.
+ghost use Rattle.std.specs.Prelude.{◌≡◌, ◌⊎◌, ℕ, List};
+ghost use Rattle.refusals.specs.declared.RefusalNumber.{RefusalNumber};
+ghost use Rattle.http_messages.specs.declared.front.Front.{Front};
+ghost use Rattle.http_messages.specs.Fronts.{IsFront};
+ghost use Rattle.http_messages.specs.Messages.{Message, AreMessages, IsInput, Ending, IsEnding, refused, no_head};
+ghost use Rattle.http_messages.specs.Readings.{said, AreBothSaid, IsUndecided, IsOtherEnding, AreBothAllowed};
+
+/// The first bytes of an input say one thing. Only where those that are searched end within a request
+/// target, and no continuation of them is a head, may this be said, or that more bytes are wanted.
+pub fn fronts_say_one_thing()
+    ensures { (bytes : List ℕ) (one other : Front) → IsFront bytes one → IsFront bytes other
+        → (said bytes one ≡ said bytes other) ⊎ AreBothSaid bytes (said bytes one) (said bytes other) }
+{}
+
+/// An input has one reading: its bytes determine its messages, and how it ends. Only where what is left
+/// behind the messages ends within a request target, and no continuation of it is a head, are two endings
+/// allowed.
+pub fn inputs_have_one_reading()
+    ensures { (input : List ℕ) (messages others : List Message) (one other : Ending)
+        → IsInput input messages one → IsInput input others other
+        → (messages ≡ others) × ((one ≡ other) ⊎ ((rest : List ℕ) × AreMessages input messages rest × AreBothAllowed rest one other)) }
+{}
+
+/// Where the rest of an input ends within a request target, and no continuation of it is a head, both
+/// endings are allowed.
+pub fn undecided_inputs_have_two_endings()
+    ensures bad_head { (rest : List ℕ) → IsUndecided rest → IsEnding rest (refused (no_head RefusalNumber.BadHead)) }
+    ensures other { (rest : List ℕ) (ending : Ending) → IsUndecided rest → IsOtherEnding rest ending → IsEnding rest ending }
+{}
