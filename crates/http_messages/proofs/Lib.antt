@@ -1,3 +1,5 @@
 pub mod Room
 pub mod Found
 pub mod OneReading
+pub mod Decimals
+pub mod LengthTexts

@@ -1,8 +1,9 @@
 //! What follows from the definitions alone.
-ghost use Rattle.std.specs.Prelude.{◌≡◌, ◌⊎◌, ℕ, List};
+ghost use Rattle.std.specs.Prelude.{◌≡◌, ◌⊎◌, ℕ, List, Option, None};
 ghost use Rattle.refusals.specs.declared.RefusalNumber.{RefusalNumber};
 ghost use Rattle.http_messages.specs.declared.front.Front.{Front};
 ghost use Rattle.http_messages.specs.Fronts.{IsFront};
+ghost use Rattle.http_messages.specs.Lengths.{length_from, length_texts, IsLengthOf};
 ghost use Rattle.http_messages.specs.Messages.{Message, AreMessages, IsInput, Ending, IsEnding, refused, no_head};
 ghost use Rattle.http_messages.specs.Readings.{said, AreBothSaid, IsUndecided, IsOtherEnding, AreBothAllowed};
 
@@ -27,4 +28,12 @@ pub fn inputs_have_one_reading()
 pub fn undecided_inputs_have_two_endings()
     ensures bad_head { (rest : List ℕ) → IsUndecided rest → IsEnding rest (refused (no_head RefusalNumber.BadHead)) }
     ensures other { (rest : List ℕ) (ending : Ending) → IsUndecided rest → IsOtherEnding rest ending → IsEnding rest ending }
+{}
+
+/// The length of a body, as fields give it, is the number that each field Content-Length writes in decimal
+/// digits, or none where there is no such field. Where one writes no number below 2^64, or two write
+/// different ones, and only there, the fields are refused.
+pub fn lengths_are_spelled()
+    ensures read { (fields : List (List ℕ × List ℕ)) → IsLengthOf (length_texts fields) (length_from None fields) }
+    ensures only { (fields : List (List ℕ × List ℕ)) (length : Option (Option ℕ)) → IsLengthOf (length_texts fields) length → length_from None fields ≡ length }
 {}

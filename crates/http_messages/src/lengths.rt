@@ -1,34 +1,27 @@
 //! The length of a body.
 ghost use Rattle.std.specs.Prelude.{◌≡◌, length, map, All, None};
 ghost use Rattle.httparse.specs.Spans.{IsHeaderWithin, header_bytes};
-ghost use Rattle.http_messages.specs.Lengths.{with_digit, decimal_from, decimal_of, agrees, with_field, length_from};
+ghost use Rattle.http_messages.specs.Lengths.{decimal_of, agrees, with_field, length_from};
 
 use crate::fields::has_name;
 use httparse::spans::HeaderSpan;
-
-fn next_digit(number: u64, digit: u8) -> Option<u64>
-    ensures { result ≡ with_digit number digit }
-{
-    if !digit.is_ascii_digit() {
-        return None;
-    }
-    number.checked_mul(10)?.checked_add(u64::from(digit - b'0'))
-}
+use std::str;
 
 /// The number that a text writes in decimal digits (RFC 9110, section 8.6): one digit or more, and
 /// nothing else, no sign either. None where it writes none, or one of 2^64 or more.
-#[tactic(auto, unfolding(crate::specs::Lengths::decimal_from))]
 pub fn decimal(text: &[u8]) -> Option<u64>
     ensures { result ≡ decimal_of text.now }
 {
-    if text.is_empty() {
+    let Ok(text) = str::from_utf8(text) else {
+        return None;
+    };
+    if text.starts_with('+') {
         return None;
     }
-    let mut number = 0u64;
-    for digit in text {
-        number = next_digit(number, *digit)?;
+    match text.parse::<u64>() {
+        Ok(number) => Some(number),
+        Err(_) => None,
     }
-    Some(number)
 }
 
 fn agrees(seen: Option<u64>, number: u64) -> bool

@@ -1,6 +1,5 @@
 pub mod Cuts
 pub mod Found
-pub mod Decimals
 pub mod Searches
 pub mod Readings
 pub mod Completeness

@@ -1,15 +1,10 @@
 -- The number of an entry, as a segment of a path.
-use Rattle.std.specs.Prelude.{ℕ, ◌^◌, List, [], ◌∷◌, Bool, false, ◌&&◌, nat_lt, Result, Ok, Err, if◌then◌else◌}
-use Rattle.std.specs.Str.{all_ascii_digits}
-use Rattle.std.specs.Str.Parse.{digits_value}
+use Rattle.std.specs.Prelude.{ℕ, List, Result}
+use Rattle.std.specs.Option.{ok_or}
 use Rattle.refusals.specs.declared.RefusalNumber.{RefusalNumber}
 use Rattle.refusals.specs.declared.RefusalNumber.TheVariants as refusal
+use Rattle.http_messages.specs.Lengths.{decimal_of}
 
--- one decimal digit or more, and nothing else
-abbrev pub is_decimal : List ℕ → Bool
-is_decimal [] = false
-is_decimal (c ∷ cs) = all_ascii_digits (c ∷ cs)
-
--- the number that decimal digits write, where it is below 2^64
+-- the number below 2^64 that the text writes in decimal digits and nothing else
 abbrev pub entry_number : List ℕ → Result ℕ RefusalNumber
-entry_number text = if is_decimal text && nat_lt (digits_value 10 text) (2 ^ 64) then Ok (digits_value 10 text) else Err refusal.BadValue
+entry_number text = ok_or (decimal_of text) refusal.BadValue

@@ -2,6 +2,7 @@
 ghost use Rattle.std.specs.Prelude.{◌≡◌};
 ghost use Rattle.http_routes.specs.EntryNumbers.{entry_number};
 
+use http_messages::decimal;
 use refusals::RefusalNumber;
 
 /// The number that a segment of a path writes in decimal digits, and nothing else: no sign, no blank.
@@ -9,11 +10,5 @@ use refusals::RefusalNumber;
 pub fn entry_number(text: &str) -> Result<u64, RefusalNumber>
     ensures { result ≡ entry_number text.now }
 {
-    if text.starts_with('+') {
-        return Err(RefusalNumber::BadValue);
-    }
-    match text.parse::<u64>() {
-        Ok(number) => Ok(number),
-        Err(_) => Err(RefusalNumber::BadValue),
-    }
+    decimal(text.as_bytes()).ok_or(RefusalNumber::BadValue)
 }
