@@ -5,7 +5,13 @@ mod answerer;
 mod answering;
 mod asking;
 mod books;
+#[cfg(test)]
+mod failing_tests;
+#[cfg(test)]
+mod fixtures;
 mod front;
+#[cfg(test)]
+mod hostile_tests;
 mod serving;
 #[cfg(test)]
 mod tests;

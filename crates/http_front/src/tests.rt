@@ -1,55 +1,9 @@
-//! Connections that are served over memory, by a book under the name `pay`.
-use crate::{Books, Clock, Ended, NamedBook, serve};
-use book::{Book, Config, ConfigParts};
-use counted_io::Counted;
-use std::alloc::{AllocError, Global};
-use std::process::Abort;
-use std::sync::Wait;
+//! Messages with their answers, over a service under the name `pay`.
+use crate::Ended;
+use crate::fixtures::{
+    ACQUIRE, ACQUIRED, INSTALL, INSTALLED, JOURNAL, ONE_ENTRY, pay, served, version,
+};
 use std::test::Fail;
-use verifier::default_classifier;
-
-/// A clock that stands at 7.
-#[derive(Drop)]
-struct Still;
-
-impl Clock for Still {
-    ghost use Rattle.std.specs.Prelude.{◌≡◌};
-
-    ghost ticks = { λ old moment new. moment ≡ 7 };
-
-    fn now_ms(&mut self) -> u64 {
-        7
-    }
-}
-
-/// A service of the defaults with the default classifier.
-fn pay(rt: &impl Abort, alloc: Global) -> Result<Books, AllocError> {
-    let config = Config::new(ConfigParts::DEFAULT).expect(rt, "the defaults");
-    let classifier = default_classifier(alloc).expect(rt, "the default classifier");
-    let book = Book::open(alloc, config, classifier)?;
-    let name = String::from_str(alloc, "pay")?;
-    let mut services = Vec::new(alloc);
-    services.push(NamedBook { name, book })?;
-    Ok(Books::new(alloc, services))
-}
-
-/// What is written for an input, and how it ended.
-fn served(
-    rt: &(impl Wait + Abort),
-    alloc: Global,
-    books: &mut Books,
-    input: &[u8],
-) -> (Ended, Vec<u8>) {
-    let mut reader = Counted::new(input);
-    let mut writer = Counted::new(Vec::new(alloc));
-    let ended = serve(rt, alloc, &mut reader, &mut writer, books, &mut Still);
-    (ended, writer.inner)
-}
-
-const ACQUIRE: &str = "POST /v1/services/pay/acquire HTTP/1.1\r\nHost: a\r\n\r\n";
-
-const ACQUIRED: &str =
-    "HTTP/1.1 200 OK\r\nContent-Type: application/json\r\nContent-Length: 41\r\n\r\n{\"state\":\"CLOSED\",\"ticket\":1,\"version\":1}";
 
 #[test]
 fn messages_are_answered(rt: HostRuntime) -> Result<(), Fail> {
@@ -104,19 +58,13 @@ fn messages_are_answered(rt: HostRuntime) -> Result<(), Fail> {
 fn journals_are_paged(rt: HostRuntime) -> Result<(), Fail> {
     let alloc = rt.alloc();
     let mut books = pay(&rt, alloc)?;
-    let input = format!(in alloc; "{ACQUIRE}GET /v1/services/pay/journal/1 HTTP/1.1\r\n\r\n")?;
-    let text = format!(in alloc;
-        "{ACQUIRED}HTTP/1.1 200 OK\r\nContent-Type: application/json\r\nContent-Length: 123\r\n\r\n{{\"entries\":[{{\"event\":\"acquire\",\"moment\":7,\"number\":1,\"reply\":{{\"state\":\"CLOSED\",\"ticket\":1,\"version\":1}},\"seat\":1}}],\"next\":2}}"
-    )?;
+    let input = format!(in alloc; "{ACQUIRE}{JOURNAL}")?;
+    let text = format!(in alloc; "{ACQUIRED}{ONE_ENTRY}")?;
     let (ended, written) = served(&rt, alloc, &mut books, input.as_bytes());
     assert_eq!(rt; written.as_slice(), text.as_bytes());
     assert_eq!(rt; ended, Ended::Closed);
     Ok(())
 }
-
-/// `mov r0, 2` and `exit`: every outcome is ignored.
-const INSTALL: &[u8] =
-    b"PUT /v1/services/pay/program HTTP/1.1\r\nContent-Length: 16\r\n\r\n\xb7\x00\x00\x00\x02\x00\x00\x00\x95\x00\x00\x00\x00\x00\x00\x00";
 
 #[test]
 fn programs_are_installed_whole(rt: HostRuntime) -> Result<(), Fail> {
@@ -131,7 +79,8 @@ fn programs_are_installed_whole(rt: HostRuntime) -> Result<(), Fail> {
     assert!(rt; written.ends_with(b"\"total\":0,\"version\":1}"));
     let (ended, written) = served(&rt, alloc, &mut books, INSTALL);
     assert_eq!(rt; ended, Ended::Closed);
-    assert!(rt; written.ends_with(b"Content-Length: 24\r\n\r\n{\"budget\":2,\"version\":2}"));
+    assert_eq!(rt; written.as_slice(), INSTALLED.as_bytes());
+    assert_eq!(rt; version(&books), 2);
     Ok(())
 }
 
