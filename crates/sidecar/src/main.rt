@@ -1,31 +1,50 @@
-//! The program `sidecar`: passes its arguments, its input and its output on to the commands.
+//! The program `sidecar`: passes its arguments, its input and its output on to the commands, and serves.
 #![tactic(auto)]
 
 use counted_io::Counted;
 use sidecar_commands::command;
+use sidecar_server::{SystemClock, serve_path};
+use std::alloc::AllocError;
 use std::io::BufReader;
 use std::process::ExitCode;
 use std::{env, io};
 
-/// The status with which the command of the program's arguments ends.
-fn run(rt: &HostRuntime) -> io::Result<u8> {
+/// The program's arguments, without its name.
+fn arguments(rt: &HostRuntime) -> io::Result<Vec<String>> {
     let mut arguments = Vec::new(rt.alloc());
     for argument in env::args(rt)?.skip(1) {
         arguments.push(argument)?;
     }
-    let words: Vec<&str> = arguments
-        .iter()
-        .map(|word| word.as_str())
-        .collect(rt.alloc())?;
+    Ok(arguments)
+}
+
+/// The status with which the command of these words ends.
+fn run_command(rt: &HostRuntime, words: &[&str]) -> io::Result<u8> {
     let mut reader = Counted::new(BufReader::new(rt.alloc(), rt.stdin())?);
     let mut out = Counted::new(rt.stdout());
     let mut err = Counted::new(rt.stderr());
-    Ok(command(rt.alloc(), &words, &mut reader, &mut out, &mut err).code())
+    Ok(command(rt.alloc(), words, &mut reader, &mut out, &mut err).code())
 }
 
 fn main(rt: HostRuntime) -> ExitCode {
-    match run(&rt) {
-        Ok(status) => ExitCode::from(status),
+    let Ok(arguments) = arguments(&rt) else {
+        return ExitCode::FAILURE;
+    };
+    let collected = arguments
+        .iter()
+        .map(|word| word.as_str())
+        .collect(rt.alloc());
+    let Ok(words): Result<Vec<&str>, AllocError> = collected else {
+        return ExitCode::FAILURE;
+    };
+    if let ["serve", path] = *words.as_slice() {
+        let mut out = Counted::new(rt.stdout());
+        let mut clock = SystemClock::new(&rt);
+        let status = serve_path(&rt, rt.alloc(), path, &mut out, &mut clock);
+        return ExitCode::from(status.code());
+    }
+    match run_command(&rt, &words) {
+        Ok(code) => ExitCode::from(code),
         Err(_) => ExitCode::FAILURE,
     }
 }

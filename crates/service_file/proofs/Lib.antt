@@ -1,0 +1,3 @@
+pub mod KnownKeys
+pub mod Named
+pub mod Settling

@@ -1,0 +1,137 @@
+-- What the file of `sidecar serve` says, as JSON.
+use Rattle.std.specs.Prelude.{ℕ, suc, List, [], ◌∷◌, ◌++◌, length, Bool, true, false, ◌&&◌, ◌||◌, nat_le, nat_eq, Option, Some, None, option_and_then, option_map, if◌then◌else◌, codes}
+use Rattle.std.specs.List.{list_all, list_any}
+use Rattle.std.specs.Str.{bytes_eq}
+use Rattle.serde_json.specs.Data.{Data, Items, no_items, item, Members, no_members, member}
+use Rattle.serde_json.specs.Find.{get, as_array, as_object}
+use Rattle.helpers.specs.Json.{◌>>=◌, if_there}
+use Rattle.service_profile.specs.declared.configuration.ConfigParts.{ConfigParts}
+use Rattle.service_profile.specs.Configuration.{default_parts}
+use Rattle.requests.specs.Configurations.{config_of}
+use Rattle.requests.specs.Programs.{program_of}
+use Rattle.requests.specs.Text.{json_of}
+use Rattle.requests.specs.Values.{number_at, text_at}
+
+-- a service: its name, its configuration, and its program's bytes, where the file has a program
+pub record ServiceData : Type 0 where
+  pub name : List ℕ
+  pub config : ConfigParts
+  pub program : Option (List ℕ)
+
+-- the whole file: the text of the address, how many workers, after how many connections serving ends, and the services
+pub record FileData : Type 0 where
+  pub listen : List ℕ
+  pub workers : ℕ
+  pub connections : ℕ
+  pub services : List ServiceData
+
+-- ---- keys
+
+-- each key of the members is one of these
+abbrev pub are_known : (List ℕ → Bool) → Members → Bool
+are_known is_known no_members = true
+are_known is_known (member key d ms) = is_known key && are_known is_known ms
+
+abbrev pub has_known_members : (List ℕ → Bool) → Option Members → Bool
+has_known_members is_known None = false
+has_known_members is_known (Some ms) = are_known is_known ms
+
+-- the value is an object, and each of its keys is one of these
+abbrev pub has_known_keys : (List ℕ → Bool) → Data → Bool
+has_known_keys is_known d = has_known_members is_known (as_object d)
+
+unfoldable pub is_file_key : List ℕ → Bool
+is_file_key key =
+    bytes_eq key (codes "listen") || (bytes_eq key (codes "workers") || (bytes_eq key (codes "connections") || bytes_eq key (codes "services")))
+
+unfoldable pub is_service_key : List ℕ → Bool
+is_service_key key = bytes_eq key (codes "name") || (bytes_eq key (codes "config") || bytes_eq key (codes "program"))
+
+-- ---- names
+
+-- from 1 to 64
+abbrev pub is_count : ℕ → Bool
+is_count n = nat_le 1 n && nat_le n 64
+
+-- a small letter, a digit, a hyphen or an underscore
+abbrev pub is_name_byte : ℕ → Bool
+is_name_byte c = (nat_le 97 c && nat_le c 122) || ((nat_le 48 c && nat_le c 57) || (nat_eq c 45 || nat_eq c 95))
+
+-- 1 to 64 of these
+abbrev pub is_name : List ℕ → Bool
+is_name name = is_count (length name) && list_all is_name_byte name
+
+-- ---- a service
+
+-- the text where the test holds
+abbrev pub kept_if : {A : Type 0} → (A → Bool) → A → Option A
+kept_if test a = if test a then Some a else None
+
+abbrev pub name_at : Data → Option (List ℕ)
+name_at d = option_and_then (kept_if is_name) (text_at (codes "name") d)
+
+-- the defaults where the key is missing
+abbrev pub config_at : Data → Option ConfigParts
+config_at d = if_there default_parts config_of (get (codes "config") d)
+
+-- no program where the key is missing
+abbrev pub program_at : Data → Option (Option (List ℕ))
+program_at d = if_there None (λ v. option_map Some (program_of d)) (get (codes "program") d)
+
+-- None where the value is no object, has a key of another name, or a value that can't be used
+unfoldable pub service_of : Data → Option ServiceData
+service_of d =
+    if has_known_keys is_service_key d then (do
+      name ← name_at d
+      config ← config_at d
+      program ← program_at d
+      Some (record { name = name; config = config; program = program }))
+    else None
+
+-- ---- services
+
+abbrev pub is_named : List ℕ → ServiceData → Bool
+is_named name service = bytes_eq service.name name
+
+-- one more service, whose name is new
+abbrev pub added : List ServiceData → ServiceData → Option (List ServiceData)
+added services service = if list_any (is_named service.name) services then None else Some (services ++ service ∷ [])
+
+unfoldable pub with_service : List ServiceData → Data → Option (List ServiceData)
+with_service services d = option_and_then (added services) (service_of d)
+
+-- the services after these ones
+abbrev pub services_after : List ServiceData → Items → Option (List ServiceData)
+services_after services no_items = Some services
+services_after services (item d ds) = option_and_then (λ more. services_after more ds) (with_service services d)
+
+abbrev pub items_length : Items → ℕ
+items_length no_items = 0
+items_length (item d ds) = suc (items_length ds)
+
+-- 1 to 64 services, no two of one name
+abbrev pub services_of : Items → Option (List ServiceData)
+services_of items = option_and_then (services_after []) (kept_if (λ ds. is_count (items_length ds)) items)
+
+abbrev pub services_at : Data → Option (List ServiceData)
+services_at d = option_and_then services_of (option_and_then as_array (get (codes "services") d))
+
+-- ---- the whole
+
+abbrev pub workers_at : Data → Option ℕ
+workers_at d = option_and_then (kept_if is_count) (number_at (codes "workers") d)
+
+-- None where the value is no object, lacks a key, has one of another name, or a value that can't be used
+unfoldable pub file_of : Data → Option FileData
+file_of d =
+    if has_known_keys is_file_key d then (do
+      listen ← text_at (codes "listen") d
+      workers ← workers_at d
+      connections ← number_at (codes "connections") d
+      services ← services_at d
+      Some (record { listen = listen; workers = workers; connections = connections; services = services }))
+    else None
+
+-- the same of JSON text
+abbrev pub file_in : List ℕ → Option FileData
+file_in text = option_and_then file_of (json_of text)

@@ -1,0 +1,16 @@
+-- The parts of the file that the code holds, as the definitions see them.
+use Rattle.std.specs.Prelude.{map, option_map, string_bytes}
+use Rattle.service_file.specs.declared.services.ServicePart.{ServicePart}
+use Rattle.service_file.specs.declared.file.FilePart.{FilePart}
+use Rattle.service_file.specs.Files.{ServiceData, FileData}
+
+abbrev pub service_data : ServicePart → ServiceData
+service_data part = record { name = string_bytes part.name; config = part.config; program = option_map (λ b. b.items) part.program }
+
+abbrev pub file_data : FilePart → FileData
+file_data part = record {
+  listen = string_bytes part.listen;
+  workers = part.workers;
+  connections = part.connections;
+  services = map service_data part.services.items;
+}

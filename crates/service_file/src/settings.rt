@@ -1,0 +1,134 @@
+//! The settings that the file gives: the address, and services whose programs are verified.
+ghost use Rattle.std.specs.Prelude.{◌≡◌, map, ◌∷◌, [], None, option_map, ◌⊎◌, IfOk, IfErr, IfSome};
+ghost use Rattle.bpf_profile.specs.Spelling.{Fault};
+ghost use Rattle.verifier.specs.Verifying.{IsVerification, IsRefused, fault_of, out_of_memory};
+ghost use Rattle.service_file.specs.Parts.{service_data, file_data};
+ghost use Rattle.service_file.specs.Settled.{bytes_of, IsService, AreServices, HasRefusal, AreSettings, CannotSettle, IsRead};
+
+use crate::file::{FilePart, file_in};
+use crate::services::ServicePart;
+use book::Config;
+use refusals::RefusalNumber;
+use std::alloc::{AllocError, Global};
+use std::net::SocketAddr;
+use verifier::{Refusal, Verified, default_classifier, verify};
+
+/// A service that is ready to open.
+#[derive(Drop)]
+pub struct ServiceSettings {
+    /// 1 to 64 small letters, digits, hyphens and underscores.
+    pub name: String,
+    pub config: Config,
+    /// Its first program.
+    pub program: Verified,
+}
+
+/// What a server needs to know.
+#[derive(Drop)]
+pub struct Settings {
+    /// The address to listen on.
+    pub listen: SocketAddr,
+    /// How many connections are served at once, 1 to 64.
+    pub workers: u64,
+    /// After how many connections serving ends; 0 for never.
+    pub connections: u64,
+    /// 1 to 64 services, no two of one name.
+    pub services: Vec<ServiceSettings>,
+}
+
+/// The program of these bytes, or the default classifier.
+fn verified(alloc: Global, bytes: &Option<Vec<u8>>) -> Result<Verified, Refusal>
+    ensures verified { IfOk result (IsVerification (bytes_of (option_map (λ b. b.items) bytes.now))) }
+    ensures refused { IfErr result (λ e. (e ≡ out_of_memory) ⊎ IsRefused (bytes_of (option_map (λ b. b.items) bytes.now)) (fault_of e)) }
+{
+    match bytes {
+        Some(bytes) => verify(alloc, bytes),
+        None => default_classifier(alloc),
+    }
+}
+
+/// The same; None where the bytes are refused, and the error is want of memory.
+fn program(alloc: Global, bytes: &Option<Vec<u8>>) -> Result<Option<Verified>, AllocError>
+    ensures verified { IfOk result (λ found. IfSome found (IsVerification (bytes_of (option_map (λ b. b.items) bytes.now)))) }
+    ensures refused { IfOk result (λ found. found ≡ None → (fault : Fault) × IsRefused (bytes_of (option_map (λ b. b.items) bytes.now)) fault) }
+{
+    match verified(alloc, bytes) {
+        Ok(program) => Ok(Some(program)),
+        Err(refusal) => match refusal.number {
+            RefusalNumber::ProgramOutOfMemory => Err(AllocError),
+            _ => Ok(None),
+        },
+    }
+}
+
+/// The settings of a service; None where its program is refused.
+fn service(alloc: Global, part: ServicePart) -> Result<Option<ServiceSettings>, AllocError>
+    ensures settled { IfOk result (λ found. IfSome found (λ service. IsService service (service_data part))) }
+    ensures refused { IfOk result (λ found. found ≡ None → HasRefusal (service_data part ∷ [])) }
+{
+    let Some(program) = program(alloc, &part.program)? else {
+        return Ok(None);
+    };
+    Ok(Some(ServiceSettings {
+        name: part.name,
+        config: part.config,
+        program,
+    }))
+}
+
+/// The settings of services; None where a program is refused.
+fn services(
+    alloc: Global,
+    parts: Vec<ServicePart>,
+) -> Result<Option<Vec<ServiceSettings>>, AllocError>
+    ensures settled { IfOk result (λ found. IfSome found (λ services. AreServices services.items (map service_data parts.items))) }
+    ensures refused { IfOk result (λ found. found ≡ None → HasRefusal (map service_data parts.items)) }
+{
+    let mut services = Vec::new(alloc);
+    for part in parts {
+        let Some(service) = service(alloc, part)? else {
+            return Ok(None);
+        };
+        services.push(service)?;
+    }
+    Ok(Some(services))
+}
+
+/// The settings of what the file has; None where the address is none, or a program is refused.
+fn settled(alloc: Global, part: FilePart) -> Result<Option<Settings>, AllocError>
+    ensures settled { IfOk result (λ found. IfSome found (λ settings. AreSettings settings (file_data part))) }
+    ensures refused { IfOk result (λ found. found ≡ None → CannotSettle (file_data part)) }
+{
+    let Ok(listen) = SocketAddr::parse_ascii(part.listen.as_bytes()) else {
+        return Ok(None);
+    };
+    let Some(services) = services(alloc, part.services)? else {
+        return Ok(None);
+    };
+    Ok(Some(Settings {
+        listen,
+        workers: part.workers,
+        connections: part.connections,
+        services,
+    }))
+}
+
+/// The settings that a file's text gives.
+///
+/// The text is a JSON object: `listen` is an IP address with its port, as text; `workers`, 1 to 64;
+/// `connections`, below 2^64, after how many connections serving ends, or 0 for never; and `services`, an
+/// array of 1 to 64 objects with `name` (1 to 64 small letters, digits, hyphens and underscores, each name
+/// once), `config` (as `requests::config` reads it; the defaults where it is missing) and `program`
+/// (hexadecimal, in which blanks don't count; the default classifier where it is missing). None where
+/// the text is no such object, has another key, or has a program that is refused: the refusal
+/// `BadConfig`. The error is want of memory.
+pub fn read_settings(alloc: Global, text: &[u8]) -> Result<Option<Settings>, AllocError>
+    // What is answered are the settings of the file that the text is; None only where the text is no
+    // such file, its address is none, or a program in it is refused.
+    ensures read { IfOk result (IsRead text.now) }
+{
+    match file_in(alloc, text)? {
+        Some(part) => settled(alloc, part),
+        None => Ok(None),
+    }
+}

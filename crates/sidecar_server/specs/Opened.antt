@@ -1,0 +1,17 @@
+-- Services as they open.
+use Rattle.std.specs.Prelude.{◌≡◌, List, [], ◌∷◌, ⊤}
+use Rattle.service_profile.specs.Openings.{first_opening}
+use Rattle.service_profile.specs.Events.{history_of}
+use Rattle.service_file.specs.declared.settings.ServiceSettings.{ServiceSettings}
+use Rattle.http_front.specs.declared.books.NamedBook.{NamedBook}
+
+-- a service under its name, with its configuration and its program, and no entry
+pub record IsOpened (service : ServiceSettings) (opened : NamedBook) : Type 0 where
+  pub named : opened.name ≡ service.name
+  pub fresh : opened.book ≡ history_of (first_opening service.config service.program) []
+
+-- service by service
+abbrev pub AreOpened : List ServiceSettings → List NamedBook → Type 0
+AreOpened [] [] = ⊤
+AreOpened (service ∷ services) (opened ∷ later) = IsOpened service opened × AreOpened services later
+AreOpened services other = ⊥

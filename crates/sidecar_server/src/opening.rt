@@ -1,0 +1,30 @@
+//! Opening the services.
+ghost use Rattle.std.specs.Prelude.{◌≡◌, IfOk};
+ghost use Rattle.sidecar_server.specs.Opened.{IsOpened, AreOpened};
+
+use book::Book;
+use http_front::{Books, NamedBook};
+use service_file::ServiceSettings;
+use std::alloc::{AllocError, Global};
+
+/// Opens a service.
+fn opened(alloc: Global, service: ServiceSettings) -> Result<NamedBook, AllocError>
+    ensures { IfOk result (IsOpened service) }
+{
+    let book = Book::open(alloc, service.config, service.program)?;
+    Ok(NamedBook {
+        name: service.name,
+        book,
+    })
+}
+
+/// Opens services, each in CLOSED and with no entry. The error is want of memory.
+pub(crate) fn open(alloc: Global, services: Vec<ServiceSettings>) -> Result<Books, AllocError>
+    ensures { IfOk result (λ books. AreOpened services.items books.services.items) }
+{
+    let mut named = Vec::new(alloc);
+    for service in services {
+        named.push(opened(alloc, service)?)?;
+    }
+    Ok(Books::new(alloc, named))
+}
