@@ -1,4 +1,4 @@
 pub mod Sliding
 pub mod SlidingLaws
-pub mod Stands
+pub mod Situations
 pub mod Calls

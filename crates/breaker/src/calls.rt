@@ -22,7 +22,7 @@ fn fate_in(standing: Standing, period: u64) -> Fate
 
 impl Breaker {
     ghost use Rattle.std.specs.Prelude.{◌≡◌, ◌<◌, ◌+◌, ◌-◌, ◌^◌};
-    ghost use Rattle.breaker.specs.Stands.{Stand, StandsFor, HasRoom};
+    ghost use Rattle.breaker.specs.Situations.{BreakerSituation, StandsFor, HasRoom};
     ghost use Rattle.breaker.specs.Calls.{permission_of, permitted_period, permitted, fate_in, recorded, given_back, moved_to, metrics_of};
     ghost use Rattle.windows.specs.Notes.{AreNotAfter};
 
@@ -31,8 +31,8 @@ impl Breaker {
     pub fn permit(&mut self, moment: u64) -> Option<u64>
         requires period { self.old.standing.period + 1 < 2 ^ 64 }
         requires held { self.old.held < 2 ^ 64 - 8 }
-        ensures period { (s : Stand) → StandsFor self.old s → result ≡ permitted_period (permission_of moment s) }
-        ensures stands { (s : Stand) → StandsFor self.old s → StandsFor self.new (permitted moment s) }
+        ensures period { (s : BreakerSituation) → StandsFor self.old s → result ≡ permitted_period (permission_of moment s) }
+        ensures stands { (s : BreakerSituation) → StandsFor self.old s → StandsFor self.new (permitted moment s) }
     {
         let permission = self.permission(moment);
         self.follow(permission.standing, None);
@@ -50,7 +50,7 @@ impl Breaker {
         requires room { HasRoom self.old }
         requires period { self.old.standing.period + 1 < 2 ^ 64 }
         ensures fate { result ≡ fate_in self.old.standing period }
-        ensures stands { (s : Stand) → StandsFor self.old s → AreNotAfter moment s.notes → StandsFor self.new (recorded period (record { moment = moment; failed = failed; slow = slow }) s) }
+        ensures stands { (s : BreakerSituation) → StandsFor self.old s → AreNotAfter moment s.notes → StandsFor self.new (recorded period (record { moment = moment; failed = failed; slow = slow }) s) }
     {
         let note = Note {
             moment,
@@ -73,7 +73,7 @@ impl Breaker {
     /// Gives back a permission of a period. Where the period is over, nothing changes.
     pub fn give_back(&mut self, period: u64)
         requires { period ≡ self.old.standing.period → 0 < self.old.held }
-        ensures { (s : Stand) → StandsFor self.old s → StandsFor self.new (given_back period s) }
+        ensures { (s : BreakerSituation) → StandsFor self.old s → StandsFor self.new (given_back period s) }
     {
         if period == self.standing.period {
             self.return_permission();
@@ -83,7 +83,7 @@ impl Breaker {
     /// Moves the breaker to a state at a moment, in milliseconds. A period begins, also in the same state.
     pub fn move_to(&mut self, moment: u64, state: State)
         requires { self.old.standing.period + 1 < 2 ^ 64 }
-        ensures { (s : Stand) → StandsFor self.old s → StandsFor self.new (moved_to state moment s) }
+        ensures { (s : BreakerSituation) → StandsFor self.old s → StandsFor self.new (moved_to state moment s) }
     {
         self.begin_period(self.standing.moved(state, moment));
     }
@@ -91,7 +91,7 @@ impl Breaker {
     /// How the breaker stands, and what counts at a moment, in milliseconds, that is not before that of a
     /// note of the period.
     pub fn metrics(&self, moment: u64) -> Metrics
-        ensures { (s : Stand) → StandsFor self.now s → AreNotAfter moment s.notes → result ≡ metrics_of moment s }
+        ensures { (s : BreakerSituation) → StandsFor self.now s → AreNotAfter moment s.notes → result ≡ metrics_of moment s }
     {
         let totals = self.totals(moment);
         let Standing {

@@ -1,6 +1,6 @@
 //! Laws of breakers.
 ghost use Rattle.std.specs.Prelude.{◌<◌, ◌-◌, ◌^◌, List, length};
-ghost use Rattle.breaker.specs.Stands.{HeldBreaker, Keeps, HasRoom};
+ghost use Rattle.breaker.specs.Situations.{HeldBreaker, Keeps, HasRoom};
 ghost use Rattle.service_profile.specs.declared.notes.Note.{Note as ANote};
 
 /// A breaker with few notes in its period has room for one more.

@@ -19,18 +19,18 @@ pub struct Breaker {
     pub(crate) standing: Standing,
     window: SlidingWindow,
     /// The totals of the notes of a period in HALF_OPEN.
-    trial: Totals,
+    half_open: Totals,
     held: u64,
 }
 
 impl Model for Breaker {
-    ghost use Rattle.breaker.specs.Stands.{HeldBreaker, AreParts};
+    ghost use Rattle.breaker.specs.Situations.{HeldBreaker, AreParts};
 
     ghost Value = { HeldBreaker };
 
-    ghost view = { λ b. record { config = b.config; standing = b.standing; window = b.window; trial = b.trial; held = b.held } };
+    ghost view = { λ b. record { config = b.config; standing = b.standing; window = b.window; half_open = b.half_open; held = b.held } };
 
-    ghost invariant = { λ b. AreParts b.config b.window b.trial };
+    ghost invariant = { λ b. AreParts b.config b.window b.half_open };
 }
 
 /// Whether the notes of a period are all counted.
@@ -45,7 +45,7 @@ pub(crate) fn is_half_open(state: State) -> bool
 
 impl Breaker {
     ghost use Rattle.std.specs.Prelude.{◌≡◌, ◌<◌, ◌≤◌, ◌+◌, ◌-◌, ◌^◌, ◌++◌, ◌∷◌, [], IsTrue, ◌↔◌, IfOk, IfSome, OnSome};
-    ghost use Rattle.breaker.specs.Stands.{Stand, StandsFor, HasRoom, first_stand};
+    ghost use Rattle.breaker.specs.Situations.{BreakerSituation, StandsFor, HasRoom, first_situation};
     ghost use Rattle.breaker.specs.Calls.{permission_of, after_note_in, begun, with_note_in, followed, with_permission, without_permission};
     ghost use Rattle.service_profile.specs.Windows.{totals_of, windowed, AreTotals};
     ghost use Rattle.windows.specs.Notes.{AreNotAfter};
@@ -57,7 +57,7 @@ impl Breaker {
         period: u64,
         since: u64,
     ) -> Result<Breaker, AllocError>
-        ensures { IfOk result (λ breaker. StandsFor breaker (first_stand config period since)) }
+        ensures { IfOk result (λ breaker. StandsFor breaker (first_situation config period since)) }
     {
         let window = SlidingWindow::new(alloc, &config)?;
         Ok(Breaker {
@@ -68,9 +68,16 @@ impl Breaker {
                 since,
             },
             window,
-            trial: NO_TOTALS,
+            half_open: NO_TOTALS,
             held: 0,
         })
+    }
+
+    /// The configuration.
+    pub fn config(&self) -> Config
+        ensures { result ≡ self.now.config }
+    {
+        self.config
     }
 
     /// Where the breaker stands.
@@ -96,7 +103,7 @@ impl Breaker {
             total,
             failed,
             slow,
-        } = self.trial;
+        } = self.half_open;
         if is_half_open(self.standing.state) {
             total <= MOST_NOTES && failed <= MOST_NOTES && slow <= MOST_NOTES
         } else {
@@ -107,13 +114,13 @@ impl Breaker {
     /// What the breaker says to a call at a moment, in milliseconds. It changes nothing.
     pub fn permission(&self, moment: u64) -> Permission
         requires { self.now.standing.period + 1 < 2 ^ 64 }
-        ensures exact { (s : Stand) → StandsFor self.now s → result ≡ permission_of moment s }
+        ensures exact { (s : BreakerSituation) → StandsFor self.now s → result ≡ permission_of moment s }
         ensures stays { result.standing.period ≡ self.now.standing.period → result.standing ≡ self.now.standing }
     {
         permission_in(
             &self.config.parts(),
             self.standing,
-            self.trial.total,
+            self.half_open.total,
             self.held,
             moment,
         )
@@ -121,11 +128,11 @@ impl Breaker {
 
     /// The totals over the notes that count at a moment.
     pub(crate) fn totals(&self, moment: u64) -> Totals
-        ensures exact { (s : Stand) → StandsFor self.now s → AreNotAfter moment s.notes → result ≡ totals_of (windowed s.config s.standing.state moment s.notes) }
+        ensures exact { (s : BreakerSituation) → StandsFor self.now s → AreNotAfter moment s.notes → result ≡ totals_of (windowed s.config s.standing.state moment s.notes) }
         ensures fits { AreTotals result.total result }
     {
         if is_half_open(self.standing.state) {
-            self.trial
+            self.half_open
         } else {
             self.window.totals(moment)
         }
@@ -134,10 +141,10 @@ impl Breaker {
     /// The totals over the notes that count once there is one more, at its moment.
     fn totals_after(&self, note: Note) -> Totals
         requires { HasRoom self.now }
-        ensures { (s : Stand) → StandsFor self.now s → AreNotAfter note.moment s.notes → result ≡ totals_of (windowed s.config s.standing.state note.moment (s.notes ++ note ∷ [])) }
+        ensures { (s : BreakerSituation) → StandsFor self.now s → AreNotAfter note.moment s.notes → result ≡ totals_of (windowed s.config s.standing.state note.moment (s.notes ++ note ∷ [])) }
     {
         if is_half_open(self.standing.state) {
-            with_note(self.trial, note)
+            with_note(self.half_open, note)
         } else {
             self.window.totals_with(note.moment, note.failed, note.slow)
         }
@@ -148,7 +155,7 @@ impl Breaker {
     pub fn after_note(&self, note: Note) -> Standing
         requires room { HasRoom self.now }
         requires period { self.now.standing.period + 1 < 2 ^ 64 }
-        ensures exact { (s : Stand) → StandsFor self.now s → AreNotAfter note.moment s.notes → result ≡ after_note_in note s }
+        ensures exact { (s : BreakerSituation) → StandsFor self.now s → AreNotAfter note.moment s.notes → result ≡ after_note_in note s }
         ensures stays { result.period ≡ self.now.standing.period → result ≡ self.now.standing }
     {
         let totals = self.totals_after(note);
@@ -159,11 +166,11 @@ impl Breaker {
     /// count.
     pub fn begin_period(&mut self, standing: Standing)
         ensures begins { (self.new.standing ≡ standing) × (self.new.held ≡ 0) }
-        ensures stands { (s : Stand) → StandsFor self.old s → StandsFor self.new (begun standing s) }
+        ensures stands { (s : BreakerSituation) → StandsFor self.old s → StandsFor self.new (begun standing s) }
     {
         self.standing = standing;
         self.window.clear();
-        self.trial = NO_TOTALS;
+        self.half_open = NO_TOTALS;
         self.held = 0;
     }
 
@@ -171,10 +178,10 @@ impl Breaker {
     pub fn add_note(&mut self, note: Note)
         requires { HasRoom self.old }
         ensures same { (self.new.standing ≡ self.old.standing) × (self.new.held ≡ self.old.held) }
-        ensures stands { (s : Stand) → StandsFor self.old s → AreNotAfter note.moment s.notes → StandsFor self.new (with_note_in note s) }
+        ensures stands { (s : BreakerSituation) → StandsFor self.old s → AreNotAfter note.moment s.notes → StandsFor self.new (with_note_in note s) }
     {
         if is_half_open(self.standing.state) {
-            self.trial = with_note(self.trial, note);
+            self.half_open = with_note(self.half_open, note);
         } else {
             self.window.record(note.moment, note.failed, note.slow);
         }
@@ -202,7 +209,7 @@ impl Breaker {
         requires room { OnSome note (HasRoom self.old) }
         requires stays { next.period ≡ self.old.standing.period → next ≡ self.old.standing }
         ensures held { self.new.held ≤ self.old.held }
-        ensures stands { (s : Stand) → StandsFor self.old s → IfSome note (λ n. AreNotAfter n.moment s.notes) → StandsFor self.new (followed next note s) }
+        ensures stands { (s : BreakerSituation) → StandsFor self.old s → IfSome note (λ n. AreNotAfter n.moment s.notes) → StandsFor self.new (followed next note s) }
     {
         if next.period != self.standing.period {
             self.begin_period(next);

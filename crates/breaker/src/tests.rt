@@ -67,6 +67,7 @@ fn stands(rt: &impl Abort, breaker: &Breaker, state: State, period: u64, since: 
 fn a_breaker_opens_and_closes_again(rt: HostRuntime) -> Result<(), Fail> {
     let mut b = breaker(&rt, rt.alloc(), PARTS)?;
     stands(&rt, &b, State::Closed, 1, 0, 0);
+    assert_eq!(rt; b.config().parts(), PARTS);
     assert_eq!(rt; permit(&rt, &mut b, 5), Some(1));
     assert_eq!(rt; permit(&rt, &mut b, 6), Some(1));
     assert_eq!(rt; record(&rt, &mut b, 10, 1, true), Fate::Recorded);

@@ -1,6 +1,6 @@
 use Rattle.std.proofs.Common.{◌≡◌, ℕ, ◌-◌, Some, ap, sym, subst, ◌∙◌}
 use Rattle.breaker.specs.Calls.{after_note_in, followed, without_permission, fate_in, recorded_by}
-use Rattle.breaker.specs.Stands.{HeldBreaker, StandsFor}
+use Rattle.breaker.specs.Situations.{HeldBreaker, StandsFor}
 use Rattle.service_profile.specs.declared.notes.Note.{Note}
 use Rattle.service_profile.specs.declared.replies.Fate.{Fate}
 use Rattle.service_profile.specs.declared.replies.Fate.TheVariants as fate
