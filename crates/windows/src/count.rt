@@ -58,7 +58,8 @@ fn totals_after(ring: &HeapCircularBuffer<Outcome>, totals: Totals, outcome: Out
 }
 
 impl CountWindow {
-    /// A window over the last `size` notes. It takes all its memory here.
+    /// A window over the last `size` notes, at least 1 and below 2^32. It takes all its memory here: room
+    /// for an outcome of each note.
     pub fn new(alloc: Global, size: u64) -> Result<CountWindow, AllocError>
         requires { (1 ≤ size) × (size < 2 ^ 32) }
         ensures kept { IfOk result (λ window. ⟦<CountWindow as Window>⟧.keeps window []) }

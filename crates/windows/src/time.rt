@@ -35,7 +35,8 @@ impl Model for TimeWindow {
 }
 
 impl TimeWindow {
-    /// A window over the last `size` seconds. It takes all its memory here, 32 bytes a second.
+    /// A window over the last `size` seconds, at least 1 and below 2^32. It takes all its memory here: room
+    /// for a bucket of each second.
     pub fn new(alloc: Global, size: u64) -> Result<TimeWindow, AllocError>
         requires { (1 ≤ size) × (size < 2 ^ 32) }
         ensures kept { IfOk result (λ window. ⟦<TimeWindow as Window>⟧.keeps window []) }
