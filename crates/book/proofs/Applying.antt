@@ -9,9 +9,11 @@ use Rattle.service_profile.specs.declared.configuration.ConfigParts.{ConfigParts
 use Rattle.book.specs.declared.events.Event.{Event}
 use Rattle.service_profile.specs.declared.decisions.Decision.{Decision}
 use Rattle.book.specs.declared.service.Service.{Service}
+use Rattle.refusals.specs.declared.RefusalNumber.TheVariants as refusal
+use Rattle.service_profile.specs.declared.replies.Reply.TheVariants as reply
 use Rattle.service_profile.specs.Limits.{most_entries}
-use Rattle.service_profile.specs.Answers.{answer, line_of, with_line, IsApplied, as_documented}
-use Rattle.service_profile.specs.Events.{EventData, history_of, EntryData, Opening}
+use Rattle.service_profile.specs.Answers.{answer, line_of, with_line, IsApplied, as_documented, out_of_memory}
+use Rattle.service_profile.specs.Events.{EventData, history_of, EntryData, History, Opening}
 use Rattle.book.specs.Books.{IsBook, opening_of}
 use Rattle.service_profile.specs.Machine.{is_refused_call, Situation, decision, is_entered}
 use Rattle.book.specs.Following.{followed, refused_after, situation_after}
@@ -23,9 +25,11 @@ use Rattle.book.specs.declared.plans.Effects.{Effects}
 use Rattle.book.specs.declared.plans.Plan.{Plan}
 use Rattle.book.specs.Effects.{effects_of, is_some, planned}
 use Rattle.book.specs.Seen.{seen}
-use Rattle.book.specs.Situations.{HasSituation, StandsFor}
+use Rattle.book.specs.Situations.{AreEffects, CanFollow, HasSituation, IsOrderly, StandsFor}
 use Rattle.book.specs.Sound.{IsSound}
 use Rattle.book.proofs.Deciding.{decision_near}
+use Rattle.book.proofs.Effected.{before_then, effects_there, few_there, notes_before}
+use Rattle.windows.specs.Notes.{AreNotAfter}
 use Rattle.book.proofs.Keeping.{situated_step, sound_step}
 use Rattle.book.proofs.Lists.{length_filter_le}
 use Rattle.book.proofs.Passing.{refused_step, greatest_step}
@@ -67,25 +71,35 @@ fewer_mapped f (x ∷ xs) = fewer_head (f x) (filter_map f xs) (length xs) (fewe
 
 -- ---- the situation that a book's parts stand for
 
-pub situated : (opening : Opening) (service : Service) (moment : ℕ) (lines : List EntryData) → IsBook opening service moment lines → HasSituation service
-situated opening service moment lines book =
+orderly_there : (opening : Opening) (service : Service) (moment : ℕ) (lines : List EntryData) → IsBook opening service moment lines → IsOrderly (situation_of (past_of (history_of opening lines)))
+orderly_there opening service moment lines book =
     let past : Past = past_of (history_of opening lines) in
     let few = book.sound.used in
     let mapped = fewer_mapped (note_at past.opening.config) (taken_in past.standing.period past.stages) in
     let taken = length_filter_le (λ (s : Stage). s.before.period == past.standing.period) past.stages in
     record {
-      held = length lines;
-      situation = situation_of past;
-      stands = book.situated;
-      orderly = record {
-        period = omega (arith, book.sound.period, book.sound.opening.period, few);
-        notes = omega (arith, mapped, taken, few);
-        tickets = omega (arith, few);
-        next = omega (arith, book.sound.opening.ticket, book.sound.few_issued, few);
-        versions = omega (arith, book.sound.opening.version, book.sound.versions);
-        current = omega arith;
-      };
+      period = omega (arith, book.sound.period, book.sound.opening.period, few);
+      periods = book.sound.ticket_periods;
+      notes = omega (arith, mapped, taken, few);
+      tickets = omega (arith, few);
+      next = omega (arith, book.sound.opening.ticket, book.sound.few_issued, few);
+      versions = omega (arith, book.sound.opening.version, book.sound.versions);
     }
+
+pub situated : (opening : Opening) (service : Service) (moment : ℕ) (lines : List EntryData) → IsBook opening service moment lines → HasSituation service
+situated opening service moment lines book =
+    record {
+      held = length lines;
+      situation = situation_of (past_of (history_of opening lines));
+      stands = book.situated;
+      orderly = orderly_there opening service moment lines book;
+    }
+
+-- a raised moment is not before a note
+pub notes_there : (opening : Opening) (service : Service) (moment raw now : ℕ) (lines : List EntryData) → IsBook opening service moment lines → now ≡ max raw moment → AreNotAfter now (situation_of (past_of (history_of opening lines))).notes
+notes_there opening service moment raw now lines book raised_ =
+    let past : Past = past_of (history_of opening lines) in
+    before_then (greatest past) now (situation_of past).notes (omega (arith, raised_, book.greatest_moment, le-max_right raw moment)) (notes_before past)
 
 -- the effects of a decision change a situation as its line does
 pub followed_is : (s : Situation) (number seat moment : ℕ) (event : EventData) (d : Decision)
@@ -158,11 +172,47 @@ book_kept opening service after moment lines book stands_ refused_ = record {
   greatest_moment = book.greatest_moment;
 }
 
+-- what a plan changes
+pub plan_effects : (opening : Opening) (service : Service) (moment : ℕ) (lines : List EntryData) (now : ℕ) (e : EventData) (plan : Plan) → IsBook opening service moment lines
+    → plan ≡ planned service.config now e (decision (situation_of (past_of (history_of opening lines))) now e) → plan.effects ≡ effects_of (situation_of (past_of (history_of opening lines))).config now e plan.decision
+plan_effects opening service moment lines now e plan book planned_ =
+    let s : Situation = situation_of (past_of (history_of opening lines)) in
+    effects_so service.config now e (decision s now e) plan planned_ ∙ ap (λ (parts : ConfigParts). effects_of parts now e plan.decision) (sym book.situated.configured)
+
+pub plan_installs : (opening : Opening) (service : Service) (moment : ℕ) (lines : List EntryData) (now : ℕ) (e : EventData) (plan : Plan) → IsBook opening service moment lines
+    → plan ≡ planned service.config now e (decision (situation_of (past_of (history_of opening lines))) now e) → plan.effects.installs ≡ is_some (install_by e plan.decision.reply)
+plan_installs opening service moment lines now e plan book planned_ = ap (λ (x : Effects). x.installs) (plan_effects opening service moment lines now e plan book planned_)
+
+plan_changes : (opening : Opening) (service : Service) (moment : ℕ) (lines : List EntryData) (raw now : ℕ) (e : EventData) (plan : Plan) → IsBook opening service moment lines → now ≡ max raw moment
+    → plan ≡ planned service.config now e (decision (situation_of (past_of (history_of opening lines))) now e) → AreEffects (situation_of (past_of (history_of opening lines))) plan.decision.next plan.effects
+plan_changes opening service moment lines raw now e plan book raised_ planned_ =
+    let past : Past = past_of (history_of opening lines) in
+    let s : Situation = situation_of past in
+    let decided = decided_so service.config now e (decision s now e) plan planned_ in
+    let there = effects_there past now e book.sound (omega (arith, raised_, book.greatest_moment, le-max_right raw moment)) in
+    subst (λ (x : Effects). AreEffects s plan.decision.next x) (sym (plan_effects opening service moment lines now e plan book planned_))
+    (subst (λ (d : Decision). AreEffects s d.next (effects_of s.config now e d)) (sym decided) there)
+
+-- a book can go on as planned
+pub can_follow : (opening : Opening) (service : Service) (moment : ℕ) (lines : List EntryData) (raw now : ℕ) (e : EventData) (plan : Plan) → IsBook opening service moment lines → now ≡ max raw moment
+    → plan ≡ planned service.config now e (decision (situation_of (past_of (history_of opening lines))) now e) → CanFollow service plan.decision.next plan.effects (install_by e plan.decision.reply)
+can_follow opening service moment lines raw now e plan book raised_ planned_ =
+    let past : Past = past_of (history_of opening lines) in
+    let decided = decided_so service.config now e (decision (situation_of past) now e) plan planned_ in
+    record {
+      held = length lines;
+      situation = situation_of past;
+      stands = book.situated;
+      orderly = orderly_there opening service moment lines book;
+      changes = plan_changes opening service moment lines raw now e plan book raised_ planned_;
+      few = λ program h. few_there past now e program book.sound (ap (λ (d : Decision). install_by e d.reply) (sym decided) ∙ h);
+    }
+
 -- the parts after a plan are those of the book with its line
 pub taken_there : (start : Start) (service after : Service) (moment : ℕ) (lines entries : List EntryData) (number seat raw now : ℕ) (e : Event) (plan : Plan)
     → IsBook (opening_of service.config start) service moment lines → number ≡ start.line + length lines → now ≡ max raw moment
     → plan ≡ planned service.config now (seen e) (decision (situation_of (past_of (history_of (opening_of service.config start) lines))) now (seen e)) → is_entered plan.decision.reply ≡ true → now < 2 ^ 64 → seat < 2 ^ 32 → IsSafeEvent (seen e)
-    → (plan.effects.installs ≡ is_some (install_by (seen e) plan.decision.reply) → (held : ℕ) (s : Situation) → StandsFor service held s → StandsFor after (held + 1) (followed s plan.decision.next plan.effects (install_by (seen e) plan.decision.reply)))
+    → ((held : ℕ) (s : Situation) → StandsFor service held s → IsOrderly s → AreEffects s plan.decision.next plan.effects → StandsFor after (held + 1) (followed s plan.decision.next plan.effects (install_by (seen e) plan.decision.reply)))
     → ((held : ℕ) (s : Situation) → StandsFor service held s → after.refused ≡ refused_after s.standing plan.decision.next service.refused plan.effects.refuses_call)
     → after.config ≡ service.config → entries ≡ lines ++ line number seat (seen e) now plan.decision.reply ∷ []
     → IsBook (opening_of after.config start) after now entries
@@ -171,9 +221,9 @@ taken_there start service after moment lines entries number seat raw now e plan 
     let s : Situation = situation_of (past_of (history_of opening lines)) in
     let d : Decision = plan.decision in
     let decided = decided_so service.config now (seen e) (decision s now (seen e)) plan planned_ in
-    let effects : plan.effects ≡ effects_of s.config now (seen e) d = effects_so service.config now (seen e) (decision s now (seen e)) plan planned_ ∙ ap (λ (parts : ConfigParts). effects_of parts now (seen e) d) (sym book.situated.configured) in
-    let installs_ : plan.effects.installs ≡ is_some (install_by (seen e) d.reply) = ap (λ (x : Effects). x.installs) effects in
-    let there : StandsFor after (length lines + 1) (followed s d.next plan.effects (install_by (seen e) d.reply)) = stands_ installs_ (length lines) s book.situated in
+    let effects = plan_effects opening service moment lines now (seen e) plan book planned_ in
+    let there : StandsFor after (length lines + 1) (followed s d.next plan.effects (install_by (seen e) d.reply)) =
+    stands_ (length lines) s book.situated (orderly_there opening service moment lines book) (plan_changes opening service moment lines raw now (seen e) plan book raised_ planned_) in
     let refuses_ : plan.effects.refuses_call ≡ is_refused_call d.reply = ap (λ (x : Effects). x.refuses_call) effects in
     let step = book_step opening service after moment lines number seat raw now e d book numbered raised_ decided entered word bits safe_
     (subst (λ (x : Effects). StandsFor after (length lines + 1) (followed s d.next x (install_by (seen e) d.reply))) effects there)
@@ -206,6 +256,31 @@ applied_there opening service moment lines number seat raw now e d book numbered
     as_documented replied
     (ap (λ (l : EntryData). history_of opening (lines ++ l ∷ [])) written
     ∙ sym (chosen_true (is_entered (answer (history_of opening lines) raw (seen e)).reply) (with_line (history_of opening lines) (line_of (history_of opening lines) seat raw (seen e))) (history_of opening lines) enters))
+
+chosen_false : {A : Type 0} (b : Bool) (x y : A) → b ≡ false → (if b then x else y) ≡ y
+chosen_false false x y e = refl
+chosen_false true x y e = let bad : ◌≡◌ {A = Bool} true false = e in cc
+
+documented : (opening : Opening) (service : Service) (moment : ℕ) (lines : List EntryData) (raw now : ℕ) (e : EventData) (d : Decision) → IsBook opening service moment lines → now ≡ max raw moment
+    → d ≡ decision (situation_of (past_of (history_of opening lines))) now e → d ≡ answer (history_of opening lines) raw e
+documented opening service moment lines raw now e d book raised_ decided =
+    decided ∙ ap (λ (m : ℕ). machine (past_of (history_of opening lines)) m e) (raised_ ∙ ap (λ (m : ℕ). max raw m) book.greatest_moment)
+
+-- a reply that isn't entered leaves the history
+pub unentered_there : (opening : Opening) (service : Service) (moment : ℕ) (lines : List EntryData) (seat raw now : ℕ) (e : EventData) (d : Decision) → IsBook opening service moment lines → now ≡ max raw moment
+    → d ≡ decision (situation_of (past_of (history_of opening lines))) now e → is_entered d.reply ≡ false → IsApplied (history_of opening lines) seat raw e d.reply (history_of opening lines)
+unentered_there opening service moment lines seat raw now e d book raised_ decided none =
+    let history : History = history_of opening lines in
+    let same = documented opening service moment lines raw now e d book raised_ decided in
+    let unentered : is_entered (answer history raw e).reply ≡ false = ap (λ (x : Decision). is_entered x.reply) (sym same) ∙ none in
+    as_documented (ap (λ (x : Decision). x.reply) same) (sym (chosen_false (is_entered (answer history raw e).reply) (with_line history (line_of history seat raw e)) history unentered))
+
+-- without memory the history stays, where a line would have come
+pub lacking_there : (opening : Opening) (service : Service) (moment : ℕ) (lines : List EntryData) (seat raw now : ℕ) (e : EventData) (d : Decision) → IsBook opening service moment lines → now ≡ max raw moment
+    → d ≡ decision (situation_of (past_of (history_of opening lines))) now e → is_entered d.reply ≡ true → IsApplied (history_of opening lines) seat raw e (reply.Refused refusal.ServiceOutOfMemory) (history_of opening lines)
+lacking_there opening service moment lines seat raw now e d book raised_ decided entered =
+    let same = documented opening service moment lines raw now e d book raised_ decided in
+    out_of_memory refl (ap (λ (x : Decision). is_entered x.reply) (sym same) ∙ entered) refl
 
 -- ---- numbers that fit
 

@@ -172,7 +172,7 @@ pub record IsByVersion (s : Situation) (work : JudgedData) (ticket : ℕ) (v : V
 
 pub data Shape (s : Situation) (event : EventData) (d : Decision) : Type 0 where
   refuses : (number : RefusalNumber) → d.reply ≡ reply.Refused number → (is_entered_refusal number ≡ true → used s ≤ (most_entries - 1)) → Shape s event d
-  permits : (version : ℕ) (st : State) → event ≡ acquires → d.reply ≡ reply.Permitted s.next_ticket version st → used s ≤ (most_entries - 2) → length s.open_tickets < s.config.max_concurrent_calls → HasPermission s d.next → Shape s event d
+  permits : (version : ℕ) (st : State) → event ≡ acquires → d.reply ≡ reply.Permitted s.next_ticket version st → version ≡ current_version s → used s ≤ (most_entries - 2) → length s.open_tickets < s.config.max_concurrent_calls → HasPermission s d.next → Shape s event d
   concludes : (work : JudgedData) (ticket : ℕ) (f : Fate) (v : Verdict) (steps version : ℕ) (st : State) → event ≡ finishes work ticket → d.reply ≡ reply.Finished f v steps version st → is_open s.open_tickets ticket ≡ true → IsPresent s d.next ticket f → IsCounted f v → IsByVersion s work ticket v steps version → Shape s event d
   lets_go : (ticket : ℕ) (st : State) → event ≡ releases ticket → d.reply ≡ reply.Released st → is_open s.open_tickets ticket ≡ true → Shape s event d
   takes_in : (program : VerifiedProgram) (version budget : ℕ) → event ≡ installs program → d.reply ≡ reply.Installed version budget → length s.programs < most_versions → used s ≤ (most_entries - 1) → Shape s event d
@@ -211,7 +211,7 @@ acquired_shape s moment room =
     (refused permission.standing refusal.BulkheadFull)
     (record { reply = reply.Permitted s.next_ticket (current_version s) permission.standing.state; next = permission.standing })
     (λ f. refused_shape s acquires permission.standing refusal.BulkheadFull (omega arith))
-    (λ f. permits (current_version s) permission.standing.state refl refl room (leb-false s.config.max_concurrent_calls (length s.open_tickets) f) (permission_given s moment s.standing.state refl g)))
+    (λ f. permits (current_version s) permission.standing.state refl refl refl room (leb-false s.config.max_concurrent_calls (length s.open_tickets) f) (permission_given s moment s.standing.state refl g)))
     (λ g. refused_shape s acquires permission.standing refusal.CallNotPermitted (omega arith))
 
 found_head : (t ticket : OpenTicket) (b rest : Bool) (later : Option OpenTicket) → (later ≡ Some ticket → rest ≡ true) → (if b then Some t else later) ≡ Some ticket → (b || rest) ≡ true
@@ -337,7 +337,7 @@ full_in_open s moment resets full = full
 -- an event that is taken after a transition has the shape that it has in the situation before
 after_expiry : (s : Situation) (moment : ℕ) (event : EventData) (d : Decision) → IsNear (in_state state.Open moment s).standing d.next 1 → Shape (in_state state.Open moment s) event d → Shape s event d
 after_expiry s moment event d near (refuses number e room) = refuses number e room
-after_expiry s moment event d near (permits version st e r room free given) = permits version st e r room free (λ h same. absurd (omega (arith, same, near.least)))
+after_expiry s moment event d near (permits version st e r current room free given) = permits version st e r current room free (λ h same. absurd (omega (arith, same, near.least)))
 after_expiry s moment event d near (concludes work ticket f v steps version st e r there present counted version_is) =
     concludes work ticket f v steps version st e r there (λ g same. absurd (omega (arith, same, near.least))) counted
     (record { opened = version_is.opened; found = version_is.found; of_version = version_is.of_version; program = version_is.program; held = version_is.held; verdict_is = version_is.verdict_is; steps_are = version_is.steps_are })

@@ -26,7 +26,7 @@ use Rattle.book.proofs.Permissions.{permissions_after}
 use Rattle.book.proofs.Lists.{all_kept, all_kept_by, fewer_kept, map_with, all_append, all_weaken}
 use Rattle.book.proofs.Passing.{AreBefore, IsFresh, notes_step, open_step, issued_step, greatest_step}
 
-end_refused : (event : EventData) (number : RefusalNumber) → end_by event (reply.Refused number) ≡ None
+pub end_refused : (event : EventData) (number : RefusalNumber) → end_by event (reply.Refused number) ≡ None
 end_refused acquires number = refl
 end_refused (finishes work ticket) number = refl
 end_refused (releases ticket) number = refl
@@ -34,7 +34,7 @@ end_refused (installs program) number = refl
 end_refused (moves to) number = refl
 end_refused resets number = refl
 
-install_refused : (event : EventData) (number : RefusalNumber) → install_by event (reply.Refused number) ≡ None
+pub install_refused : (event : EventData) (number : RefusalNumber) → install_by event (reply.Refused number) ≡ None
 install_refused acquires number = refl
 install_refused (finishes work ticket) number = refl
 install_refused (releases ticket) number = refl
@@ -50,7 +50,7 @@ end_moved (installs program) s period = refl
 end_moved (moves to) s period = refl
 end_moved resets s period = refl
 
-install_moved : (event : EventData) (s : _) (period : ℕ) → install_by event (reply.Moved s period) ≡ None
+pub install_moved : (event : EventData) (s : _) (period : ℕ) → install_by event (reply.Moved s period) ≡ None
 install_moved acquires s period = refl
 install_moved (finishes work ticket) s period = refl
 install_moved (releases ticket) s period = refl
@@ -140,7 +140,7 @@ pub move_of : (s : Situation) (event : EventData) (d : Decision)
     → IsMove s.held s.open_tickets s.next_ticket (length s.programs) event d.reply d.next.period
 move_of s event d (refuses number e room) entered most few =
     rw e (still s.held s.open_tickets s.next_ticket (length s.programs) event (reply.Refused number) d.next.period (end_refused event number) refl (install_refused event number) (room (subst (λ (x : Reply). is_entered x ≡ true) e entered)) few)
-move_of s event d (permits version st e f room free given) entered most few =
+move_of s event d (permits version st e f current room free given) entered most few =
     rw (e, f) (permit_move s.held s.open_tickets s.next_ticket (length s.programs) version st d.next.period room few)
 move_of s event d (concludes work ticket fate v steps version st e f there present counted is) entered most few =
     rw (e, f) (end_move s.held s.open_tickets s.next_ticket (length s.programs) (finishes work ticket) (reply.Finished fate v steps version st) d.next.period ticket refl refl refl there most few)
@@ -239,7 +239,7 @@ open_issued_step past line sound follows next =
 places_after : (s : Situation) (event : EventData) (d : Decision) → Shape s event d → length s.open_tickets ≤ s.config.max_concurrent_calls
     → length (tickets_after s.open_tickets (end_by event d.reply) (issue_by d.reply d.next.period)) ≤ s.config.max_concurrent_calls
 places_after s event d (refuses number e room) le = rw (e, end_refused event number) (omega (arith, untouched s.open_tickets, le))
-places_after s event d (permits version st e f room free given) le = rw (e, f) (omega (arith, one_more s.open_tickets (record { number = s.next_ticket; version = version; period = d.next.period }), free))
+places_after s event d (permits version st e f current room free given) le = rw (e, f) (omega (arith, one_more s.open_tickets (record { number = s.next_ticket; version = version; period = d.next.period }), free))
 places_after s event d (concludes work ticket fate v steps version st e f there present counted is) le = rw (e, f) (omega (arith, one_less s.open_tickets ticket there, le))
 places_after s event d (lets_go ticket st e f there) le = rw (e, f) (omega (arith, one_less s.open_tickets ticket there, le))
 places_after s event d (takes_in program version budget e f less room) le = rw (e, f) (omega (arith, untouched s.open_tickets, le))

@@ -93,7 +93,7 @@ other_reply r a b p q = sym p ∙ q
 
 ignored_fate : (past : Past) (event : EventData) (d : Decision) (f : Fate) (steps version : ℕ) (st : State) → Shape (situation_of past) event d → d.reply ≡ reply.Finished f verdict.Ignored steps version st → f ≡ fate.Recorded → ⊥
 ignored_fate past event d f steps version st (refuses number e room) r h = let bad : ◌≡◌ {A = Reply} (reply.Refused number) (reply.Finished f verdict.Ignored steps version st) = sym e ∙ r in cc
-ignored_fate past event d f steps version st (permits v s e p room free given) r h = let bad : ◌≡◌ {A = Reply} (reply.Permitted (situation_of past).next_ticket v s) (reply.Finished f verdict.Ignored steps version st) = sym p ∙ r in cc
+ignored_fate past event d f steps version st (permits v s e p current room free given) r h = let bad : ◌≡◌ {A = Reply} (reply.Permitted (situation_of past).next_ticket v s) (reply.Finished f verdict.Ignored steps version st) = sym p ∙ r in cc
 ignored_fate past event d f steps version st (concludes work ticket g w k v s e p there present counted is) r h =
     let same : ◌≡◌ {A = Reply} (reply.Finished g w k v s) (reply.Finished f verdict.Ignored steps version st) = sym p ∙ r in
     let fates : g ≡ f = cc in

@@ -1,5 +1,4 @@
 pub mod Lists
-pub mod Sliding
 pub mod Judging
 pub mod Configured
 pub mod Deciding
@@ -8,7 +7,10 @@ pub mod SafeEvents
 pub mod Passing
 pub mod Planned
 pub mod Permissions
+pub mod Held
+pub mod Settled
 pub mod Keeping
+pub mod Effected
 pub mod Applying
 pub mod Openings
 pub mod Worlds

@@ -83,7 +83,7 @@ pub meant_by : (past : Past) (event : EventData) (d : Decision) (work : JudgedDa
     → AreSafePrograms (programs_of past) → IsJudged work → Shape (situation_of past) event d → event ≡ finishes work ticket → d.reply ≡ reply.Finished f v steps version st
     → IsMeant past.opening.version (programs_of past) (issued past.stages) work ticket v steps version
 meant_by past event d work ticket f v steps version st safe_ judged_ (refuses number e room) same r = let bad : ◌≡◌ {A = Reply} (reply.Refused number) (reply.Finished f v steps version st) = sym e ∙ r in cc
-meant_by past event d work ticket f v steps version st safe_ judged_ (permits w s e p room free given) same r = let bad : ◌≡◌ {A = Reply} (reply.Permitted (situation_of past).next_ticket w s) (reply.Finished f v steps version st) = sym p ∙ r in cc
+meant_by past event d work ticket f v steps version st safe_ judged_ (permits w s e p current room free given) same r = let bad : ◌≡◌ {A = Reply} (reply.Permitted (situation_of past).next_ticket w s) (reply.Finished f v steps version st) = sym p ∙ r in cc
 meant_by past event d work ticket f v steps version st safe_ judged_ (concludes other number g w k n s e p there present counted is) same r =
     let events : ◌≡◌ {A = EventData} (finishes other number) (finishes work ticket) = sym e ∙ same in
     let works : other ≡ work = cc in

@@ -1,22 +1,20 @@
 -- A book that has just been opened, and what any book shows.
-use Rattle.std.proofs.Common.{◌≡◌, ℕ, suc, ◌+◌, ◌-◌, ◌≤◌, ◌⊎◌, inl, inr, List, [], length, Option, None, Result, Ok, Err, arith, refl, ap, sym, ◌∙◌}
+use Rattle.std.proofs.Common.{◌≡◌, ℕ, suc, ◌+◌, ◌-◌, ◌≤◌, ◌⊎◌, inl, inr, List, [], length, None, Result, Ok, Err, arith, refl, ap, sym, ◌∙◌}
 use Rattle.book.specs.Safe.{IsSafeProgram}
 use Rattle.refusals.specs.declared.RefusalNumber.{RefusalNumber}
 use Rattle.refusals.specs.declared.RefusalNumber.TheVariants as refusal
 use Rattle.bpf_profile.specs.Programs.{VerifiedProgram}
 use Rattle.service_profile.specs.declared.configuration.ConfigParts.{ConfigParts}
 use Rattle.book.specs.declared.service.Service.{Service}
-use Rattle.service_profile.specs.Answers.{IsLooked, looks, no_owner, looked, budget_of, reading, reading_by}
-use Rattle.service_profile.specs.declared.notes.Totals.{Totals}
+use Rattle.service_profile.specs.Answers.{IsLooked, looks, no_owner, looked, budget_of, reading}
 use Rattle.service_profile.specs.declared.readings.Reading.{Reading}
-use Rattle.service_profile.specs.declared.standings.Standing.{Standing}
 use Rattle.service_profile.specs.Machine.{current_version, program_from}
-use Rattle.service_profile.specs.Rates.{minimum, shown_rate}
-use Rattle.service_profile.specs.Windows.{totals_of, windowed}
 use Rattle.service_profile.specs.Openings.{first_opening, IsOpening}
 use Rattle.service_profile.specs.Events.{history_of, EntryData, History, Opening}
 use Rattle.book.specs.Books.{IsBook}
-use Rattle.book.specs.Situations.{StandsFor}
+use Rattle.book.specs.Situations.{StandsFor, breaker_of}
+use Rattle.breaker.specs.Calls.{metrics_of}
+use Rattle.breaker.specs.declared.metrics.Metrics.{Metrics}
 use Rattle.service_profile.specs.Configuration.{bad_field}
 use Rattle.service_profile.specs.Histories.{Past, opened, past_of, situation_of, raised, refused_of, next_line, IsLegal}
 use Rattle.book.specs.Sound.{IsSound}
@@ -77,19 +75,14 @@ line_least opening service moment lines book = omega (arith, book.sound.opening.
 pub next_line_is : (opening : Opening) (lines : List EntryData) → opening.line + length lines ≡ next_line (past_of (history_of opening lines))
 next_line_is opening lines = omega (arith, stage_count opening lines, ap (λ (o : Opening). o.line) (same_opening opening lines))
 
-pub reads_so : (past : Past) (moment last : ℕ) (standing : Standing) (version budget : ℕ) (totals : Totals) (failures slow : Option ℕ) (count free not_permitted : ℕ)
-    → standing ≡ past.standing → version ≡ current_version (situation_of past) → budget ≡ budget_of (program_from past.opening.version (situation_of past).programs (current_version (situation_of past)))
-    → totals ≡ totals_of (windowed past.opening.config past.standing.state (raised past moment) (situation_of past).notes)
-    → failures ≡ shown_rate (minimum past.opening.config past.standing.state) totals.total totals.failed → slow ≡ shown_rate (minimum past.opening.config past.standing.state) totals.total totals.slow
+pub reads_so : (past : Past) (moment last : ℕ) (metrics : Metrics) (version budget count free not_permitted : ℕ)
+    → metrics ≡ metrics_of (raised past moment) (breaker_of (situation_of past)) → version ≡ current_version (situation_of past) → budget ≡ budget_of (program_from past.opening.version (situation_of past).programs (current_version (situation_of past)))
     → count ≡ length (situation_of past).open_tickets → free ≡ past.opening.config.max_concurrent_calls - length (situation_of past).open_tickets → not_permitted ≡ refused_of past → suc last ≡ next_line past
-    → ◌≡◌ {A = Reading} (record { state = standing.state; period = standing.period; version = version; budget = budget; total = totals.total; failed = totals.failed; slow = totals.slow; failure_rate = failures; slow_rate = slow; open_tickets = count; free = free; not_permitted = not_permitted; entries = last })
+    → ◌≡◌ {A = Reading} (record { state = metrics.state; period = metrics.period; version = version; budget = budget; total = metrics.total; failed = metrics.failed; slow = metrics.slow; failure_rate = metrics.failure_rate; slow_rate = metrics.slow_rate; open_tickets = count; free = free; not_permitted = not_permitted; entries = last })
     (reading past moment)
-reads_so past moment last standing version budget totals failures slow count free not_permitted a b c d e f g h i j =
-    let before : last ≡ next_line past - 1 = omega (arith, j) in
-    rw (a, b, c, e, f, g, h, i, before) (ap (reading_with past) d)
-  where
-    reading_with : Past → Totals → Reading
-    reading_with past totals = reading_by (situation_of past) totals (refused_of past) (next_line past - 1)
+reads_so past moment last metrics version budget count free not_permitted a b c d e f g =
+    let before : last ≡ next_line past - 1 = omega (arith, g) in
+    rw (a, b, c, d, e, f, before) refl
 
 pub looked_there : (history : History) (ticket : ℕ) (program : VerifiedProgram) (r : Result VerifiedProgram RefusalNumber)
     → looked (situation_of (past_of history)) ticket ≡ Ok program → (r ≡ Ok program) ⊎ (r ≡ Err refusal.ServiceOutOfMemory) → IsLooked history ticket r

@@ -26,7 +26,7 @@ eqb_false a b h = by_test (a == b) refl
     by_test true e = let same = (Decides-eqb a b).0 e in absurd (omega (arith, same))
     by_test false e = refl
 
-eqb_false_after : (a b : ℕ) → b < a → (a == b) ≡ false
+pub eqb_false_after : (a b : ℕ) → b < a → (a == b) ≡ false
 eqb_false_after a b h = by_test (a == b) refl
   where
     by_test : (t : Bool) → (a == b) ≡ t → t ≡ false

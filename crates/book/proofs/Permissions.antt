@@ -27,7 +27,7 @@ use Rattle.book.proofs.Passing.{eqb_false, strictly}
 
 -- ---- counting the tickets of a period
 
-held_append : (period : ℕ) (xs ys : List OpenTicket) → permissions_held period (xs ++ ys) ≡ permissions_held period xs + permissions_held period ys
+pub held_append : (period : ℕ) (xs ys : List OpenTicket) → permissions_held period (xs ++ ys) ≡ permissions_held period xs + permissions_held period ys
 held_append period xs ys =
     ap length (filter-append (λ (t : OpenTicket). t.period == period) xs ys)
     ∙ length-append (filter (λ (t : OpenTicket). t.period == period) xs) (filter (λ (t : OpenTicket). t.period == period) ys)
@@ -138,7 +138,7 @@ left_there : (s : Situation) (event : EventData) (d : Decision) (moment : ℕ) �
     → Left s event d.reply d.next.period moment ≤ s.config.permitted_number_of_calls_in_half_open_state
 left_there s event d moment (refuses number e room) same half le =
     rw (e, end_none event number, note_refused s.config moment event number) (omega (arith, le, held_after_none s.standing.period s.open_tickets, no_more_notes s.notes))
-left_there s event d moment (permits version st e f room free given) same half le =
+left_there s event d moment (permits version st e f current room free given) same half le =
     let less = given half (ap (λ (x : Standing). x.period) same) in
     rw (e, f) (omega (arith, less, held_after_issue s.standing.period s.open_tickets (record { number = s.next_ticket; version = version; period = d.next.period }), no_more_notes s.notes))
 left_there s event d moment (concludes work ticket f v steps version st e r there present counted version_is) same half le =

@@ -1,5 +1,5 @@
 -- What one entry changes in a situation: helpers of the proofs, which follow the code.
-use Rattle.std.specs.Prelude.{ℕ, ◌+◌, ◌==◌, not, Bool, false, if◌then◌else◌, List, [], ◌++◌, Option, Some, None, option_to_list}
+use Rattle.std.specs.Prelude.{ℕ, ◌+◌, ◌==◌, not, Bool, false, if◌then◌else◌, List, [], ◌∷◌, ◌++◌, Option, Some, None, option_to_list}
 use Rattle.std.specs.List.{filter}
 use Rattle.bpf_profile.specs.Programs.{VerifiedProgram}
 use Rattle.book.specs.declared.plans.Effects.{Effects}
@@ -9,6 +9,7 @@ use Rattle.service_profile.specs.declared.notes.Note.{Note}
 use Rattle.service_profile.specs.Events.{EntryData}
 use Rattle.service_profile.specs.Histories.{note_by, end_by, issue_by, install_by}
 use Rattle.service_profile.specs.Machine.{Situation}
+use Rattle.book.specs.Situations.{next_open}
 
 -- the notes after a line: none after a transition
 abbrev pub notes_after : Standing → Standing → List Note → Option Note → List Note
@@ -43,14 +44,44 @@ situation_after s line next = record {
   held = s.held + 1;
 }
 
--- the situation after the effects of a decision, with the program that gets a version
+-- ---- the situation after the effects of a decision
+
+-- a ticket ends
+abbrev pub without : Situation → Option ℕ → Situation
+without s ended = record s { open_tickets = filter (λ ticket. not (is_number ended ticket.number)) s.open_tickets }
+
+-- the breaker stands where a decision leads
+abbrev pub standing_so : Situation → Standing → Option Note → Situation
+standing_so s next note = record s { standing = next; notes = notes_after s.standing next s.notes note }
+
+-- where no ticket is issued
+abbrev pub settled : Situation → Standing → Effects → Situation
+settled s next effects = standing_so (without s effects.ended) next effects.note
+
+-- a ticket is issued
+abbrev pub with_ticket : Situation → OpenTicket → Situation
+with_ticket s ticket = record s { open_tickets = s.open_tickets ++ ticket ∷ []; next_ticket = s.next_ticket + 1 }
+
+-- where a call is permitted
+abbrev pub admitted : Situation → Standing → Situation
+admitted s next = with_ticket (standing_so s next None) (next_open s next.period)
+
+abbrev pub changed_by : Option OpenTicket → Situation → Standing → Effects → Situation
+changed_by None s next effects = settled s next effects
+changed_by (Some ticket) s next effects = admitted s next
+
+-- a program gets a version
+abbrev pub installed_in : Situation → Option VerifiedProgram → Situation
+installed_in s installs = record s { programs = s.programs ++ option_to_list installs }
+
+-- all of it, with one entry more
 abbrev pub followed : Situation → Standing → Effects → Option VerifiedProgram → Situation
-followed s next effects installed = record {
+followed s next effects installs = record {
   config = s.config;
   standing = next;
   notes = notes_after s.standing next s.notes effects.note;
   first_version = s.first_version;
-  programs = s.programs ++ option_to_list installed;
+  programs = s.programs ++ option_to_list installs;
   open_tickets = tickets_after s.open_tickets effects.ended effects.issued;
   next_ticket = s.next_ticket + one_where_some effects.issued;
   held = s.held + 1;

@@ -141,18 +141,17 @@ impl Book {
         ensures sound { IsSound (past_of self.now) }
     {
         let service = &self.service;
-        let standing = service.standing();
-        let totals = service.totals(moment.max(self.moment));
+        let metrics = service.metrics(moment.max(self.moment));
         Reading {
-            state: standing.state,
-            period: standing.period,
+            state: metrics.state,
+            period: metrics.period,
             version: service.current_version(),
             budget: service.current_program().budget(),
-            total: totals.total,
-            failed: totals.failed,
-            slow: totals.slow,
-            failure_rate: service.shown_rate(totals.total, totals.failed),
-            slow_rate: service.shown_rate(totals.total, totals.slow),
+            total: metrics.total,
+            failed: metrics.failed,
+            slow: metrics.slow,
+            failure_rate: metrics.failure_rate,
+            slow_rate: metrics.slow_rate,
             open_tickets: service.open_count() as u64,
             free: service.free_places(),
             not_permitted: service.refused,

@@ -12,7 +12,7 @@ ghost use Rattle.book.specs.Effects.{is_some};
 ghost use Rattle.book.specs.Following.{followed, refused_after};
 ghost use Rattle.book.specs.Safe.{IsSafeProgram, IsJudged, IsSafeEvent};
 ghost use Rattle.book.specs.Seen.{seen};
-ghost use Rattle.book.specs.Situations.{HasSituation, StandsFor};
+ghost use Rattle.book.specs.Situations.{AreEffects, CanFollow, IsOrderly, StandsFor};
 
 use crate::events::{Entry, Event};
 use crate::plans::Plan;
@@ -76,12 +76,13 @@ pub(crate) fn follow(
     event: &Event,
     plan: Plan,
 ) -> Result<(), AllocError>
-    requires situation { HasSituation service.old }
+    requires situation { CanFollow service.old plan.decision.next plan.effects (install_by (seen event.now) plan.decision.reply) }
+    requires installs { plan.effects.installs ≡ is_some (install_by (seen event.now) plan.decision.reply) }
     requires refused { service.old.refused + 1 < 2 ^ 64 }
     ensures entries { entries.new.items ≡ entries.old.items }
     ensures room { OnOk result (vec_len entries.new < vec_capacity entries.new) }
     ensures config { service.new.config ≡ service.old.config }
-    ensures stands { plan.effects.installs ≡ is_some (install_by (seen event.now) plan.decision.reply) → OnOk result ((held : ℕ) (s : Situation) → StandsFor service.old held s → StandsFor service.new (held + 1) (followed s plan.decision.next plan.effects (install_by (seen event.now) plan.decision.reply))) }
+    ensures stands { OnOk result ((held : ℕ) (s : Situation) → StandsFor service.old held s → IsOrderly s → AreEffects s plan.decision.next plan.effects → StandsFor service.new (held + 1) (followed s plan.decision.next plan.effects (install_by (seen event.now) plan.decision.reply))) }
     ensures refused { OnOk result ((held : ℕ) (s : Situation) → StandsFor service.old held s → service.new.refused ≡ refused_after s.standing plan.decision.next service.old.refused plan.effects.refuses_call) }
     ensures unchanged { OnErr result ((held : ℕ) (s : Situation) → StandsFor service.old held s → StandsFor service.new held s) }
     ensures refused_unchanged { OnErr result (service.new.refused ≡ service.old.refused) }

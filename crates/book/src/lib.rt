@@ -3,8 +3,6 @@
 #![tactic(auto)]
 
 mod books;
-mod breaker;
-mod bulkhead;
 mod changes;
 mod cutting;
 #[cfg(test)]
@@ -14,11 +12,10 @@ pub mod laws;
 mod machine;
 mod paging;
 mod plans;
-mod registry;
 mod service;
+mod settling;
 #[cfg(test)]
 mod tests;
-mod windows;
 
 pub use books::Book;
 pub use events::{Entry, Event};

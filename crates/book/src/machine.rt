@@ -3,6 +3,7 @@
 ghost use Rattle.std.specs.Prelude.{◌≡◌, ◌<◌, ◌^◌, ℕ, true, Some};
 ghost use Rattle.service_profile.specs.Events.{EventData, acquires, finishes, releases, installs, moves, resets};
 ghost use Rattle.service_profile.specs.Machine.{Situation, judged_as, acquired, same_program, fate_of, note_of, concluded, finished, finished_by, finished_under, released, installed, moved_to, is_full, decided, decision, is_entered, is_entered_refusal};
+ghost use Rattle.windows.specs.Notes.{AreNotAfter};
 ghost use Rattle.book.specs.Effects.{permitted_plan, planned, reported_plan};
 ghost use Rattle.book.specs.Seen.{seen};
 ghost use Rattle.book.specs.Situations.{HasSituation, StandsFor};
@@ -120,7 +121,7 @@ fn reported(
 /// The answer under a ticket to work that its program judged.
 fn concluded(service: &Service, moment: u64, ticket: OpenTicket, judged: &Judged) -> Plan
     requires { HasSituation service.now }
-    ensures { (held : ℕ) (s : Situation) → StandsFor service.now held s → result ≡ planned s.config moment (finishes judged.now ticket.number) (concluded s moment ticket judged.now.outcome (judged_as judged.now)) }
+    ensures { (held : ℕ) (s : Situation) → StandsFor service.now held s → AreNotAfter moment s.notes → result ≡ planned s.config moment (finishes judged.now ticket.number) (concluded s moment ticket judged.now.outcome (judged_as judged.now)) }
 {
     let standing = service.standing();
     let verdict = judged.verdict();
@@ -153,7 +154,7 @@ fn finished_by(
     program: &Verified,
 ) -> Plan
     requires { HasSituation service.now }
-    ensures { (held : ℕ) (s : Situation) → StandsFor service.now held s → result ≡ planned s.config moment (finishes judged.now ticket.number) (finished_by s moment ticket judged.now (Some program.now)) }
+    ensures { (held : ℕ) (s : Situation) → StandsFor service.now held s → AreNotAfter moment s.notes → result ≡ planned s.config moment (finishes judged.now ticket.number) (finished_by s moment ticket judged.now (Some program.now)) }
 {
     // That the program is safe and the record is one makes the verdict the only one.
     know_program(program);
@@ -167,7 +168,7 @@ fn finished_by(
 /// The answer under an open ticket.
 fn finished_under(service: &Service, moment: u64, judged: &Judged, ticket: OpenTicket) -> Plan
     requires { HasSituation service.now }
-    ensures { (held : ℕ) (s : Situation) → StandsFor service.now held s → result ≡ planned s.config moment (finishes judged.now ticket.number) (finished_under s moment judged.now (Some ticket)) }
+    ensures { (held : ℕ) (s : Situation) → StandsFor service.now held s → AreNotAfter moment s.notes → result ≡ planned s.config moment (finishes judged.now ticket.number) (finished_under s moment judged.now (Some ticket)) }
 {
     match service.program(ticket.version) {
         Some(program) => finished_by(service, moment, ticket, judged, program),
@@ -178,7 +179,7 @@ fn finished_under(service: &Service, moment: u64, judged: &Judged, ticket: OpenT
 /// The answer to an outcome under a ticket.
 fn finished(service: &Service, moment: u64, judged: &Judged, ticket: u64) -> Plan
     requires { HasSituation service.now }
-    ensures { (held : ℕ) (s : Situation) → StandsFor service.now held s → result ≡ planned s.config moment (finishes judged.now ticket) (finished s moment judged.now ticket) }
+    ensures { (held : ℕ) (s : Situation) → StandsFor service.now held s → AreNotAfter moment s.notes → result ≡ planned s.config moment (finishes judged.now ticket) (finished s moment judged.now ticket) }
 {
     if !service.is_issued(ticket) {
         return Plan::refused(service.standing(), RefusalNumber::NoTicket);
@@ -215,7 +216,6 @@ fn released(service: &Service, ticket: u64) -> Plan
 
 /// The answer to a program.
 fn installed(service: &Service, program: &Verified) -> Plan
-    requires { HasSituation service.now }
     ensures { (moment : ℕ) (held : ℕ) (s : Situation) → StandsFor service.now held s → result ≡ planned s.config moment (installs program.now) (installed s program.now) }
 {
     let standing = service.standing();
@@ -274,7 +274,7 @@ fn is_full(service: &Service, held: usize, event: &Event) -> bool
 /// What is decided where the journal has room.
 fn decided(service: &Service, moment: u64, event: &Event) -> Plan
     requires { HasSituation service.now }
-    ensures { (held : ℕ) (s : Situation) → StandsFor service.now held s → result ≡ planned s.config moment (seen event.now) (decided s moment (seen event.now)) }
+    ensures { (held : ℕ) (s : Situation) → StandsFor service.now held s → AreNotAfter moment s.notes → result ≡ planned s.config moment (seen event.now) (decided s moment (seen event.now)) }
 {
     match event {
         Event::Acquire => acquired(service, moment),
@@ -287,11 +287,11 @@ fn decided(service: &Service, moment: u64, event: &Event) -> Plan
 }
 
 /// What is decided of an event where the journal holds so many entries, by any situation that the parts
-/// stand for. It takes no memory, and changes nothing.
+/// stand for. The moment is not before that of a note. It takes no memory, and changes nothing.
 pub(crate) fn decide(service: &Service, held: usize, moment: u64, event: &Event) -> Plan
     requires situation { HasSituation service.now }
     requires held { held < 2 ^ 32 }
-    ensures { (s : Situation) → StandsFor service.now held s → result ≡ planned s.config moment (seen event.now) (decision s moment (seen event.now)) }
+    ensures { (s : Situation) → StandsFor service.now held s → AreNotAfter moment s.notes → result ≡ planned s.config moment (seen event.now) (decision s moment (seen event.now)) }
 {
     know_config(&service.config);
     if is_full(service, held, event) {

@@ -1,5 +1,7 @@
 use Rattle.std.proofs.Common.{◌≡◌, ℕ, ◌+◌, [], ◌∷◌, ◌++◌, length, arith, refl, ap, sym, ◌∙◌, subst}
 use Rattle.service_profile.specs.declared.configuration.ConfigParts.{ConfigParts}
+use Rattle.refusals.specs.declared.RefusalNumber.TheVariants as refusal
+use Rattle.service_profile.specs.declared.replies.Reply.TheVariants as reply
 use Rattle.service_profile.specs.Answers.{IsApplied}
 use Rattle.service_profile.specs.Events.{history_of, line, History}
 use Rattle.service_profile.specs.Histories.{past_of, situation_of}
@@ -8,7 +10,7 @@ use Rattle.book.specs.Books.{opening_of}
 use Rattle.book.specs.Effects.{planned}
 use Rattle.book.specs.Seen.{seen}
 use Rattle.book.specs.Situations.{StandsFor}
-use Rattle.book.proofs.Applying.{decided_so, situated, line_fits, refused_fits, held_fits, taken_there, kept_there, where_ok, where_err, word_there, applied_there}
+use Rattle.book.proofs.Applying.{decided_so, unentered_there, lacking_there, situated, notes_there, can_follow, plan_installs, line_fits, refused_fits, held_fits, taken_there, kept_there, where_ok, where_err, word_there, applied_there}
 use Rattle.book.proofs.books.Book.apply.Goals as goal
 
 pub decide-plan-requires-clause-situation : goal.decide-plan-requires-clause-situation
@@ -18,7 +20,18 @@ pub decide-plan-requires-clause-held : goal.decide-plan-requires-clause-held
 decide-plan-requires-clause-held c = omega (arith, held_fits _ _ _ _ c.self.invariant, c.len.ensures, c.self.inside.entries.ok.0)
 
 pub follow-requires-clause-situation : goal.follow-requires-clause-situation
-follow-requires-clause-situation c = situated _ _ _ _ c.self.invariant
+follow-requires-clause-situation c =
+    let s : Situation = situation_of (past_of (history_of (opening_of c.self.inside.service.config c.self.inside.start) c.self.inside.entries.items)) in
+    let planned_ = c.decide-plan.ensures s (subst (λ (n : ℕ). StandsFor c.self.inside.service n s) (sym (c.len.ensures ∙ c.self.inside.entries.ok.0)) c.self.invariant.situated) (notes_there _ _ _ c.args.moment c.max-moment.result _ c.self.invariant c.max-moment.ensures)
+    ∙ ap (λ (parts : ConfigParts). planned parts c.max-moment.result (seen c.args.event) (decision s c.max-moment.result (seen c.args.event))) c.self.invariant.situated.configured in
+    can_follow _ _ _ _ c.args.moment c.max-moment.result (seen c.args.event) c.decide-plan.result c.self.invariant c.max-moment.ensures planned_
+
+pub follow-requires-clause-installs : goal.follow-requires-clause-installs
+follow-requires-clause-installs c =
+    let s : Situation = situation_of (past_of (history_of (opening_of c.self.inside.service.config c.self.inside.start) c.self.inside.entries.items)) in
+    let planned_ = c.decide-plan.ensures s (subst (λ (n : ℕ). StandsFor c.self.inside.service n s) (sym (c.len.ensures ∙ c.self.inside.entries.ok.0)) c.self.invariant.situated) (notes_there _ _ _ c.args.moment c.max-moment.result _ c.self.invariant c.max-moment.ensures)
+    ∙ ap (λ (parts : ConfigParts). planned parts c.max-moment.result (seen c.args.event) (decision s c.max-moment.result (seen c.args.event))) c.self.invariant.situated.configured in
+    plan_installs _ _ _ _ c.max-moment.result (seen c.args.event) c.decide-plan.result c.self.invariant planned_
 
 pub follow-requires-clause-refused : goal.follow-requires-clause-refused
 follow-requires-clause-refused c = refused_fits _ _ _ _ c.self.invariant
@@ -38,7 +51,7 @@ invariant_of-self c =
 pub invariant_of-self-2 : goal.invariant_of-self-2
 invariant_of-self-2 c =
     let s : Situation = situation_of (past_of (history_of (opening_of c.self.inside.service.config c.self.inside.start) c.self.inside.entries.items)) in
-    let planned_ = c.decide-plan.ensures s (subst (λ (n : ℕ). StandsFor c.self.inside.service n s) (sym (c.len.ensures ∙ c.self.inside.entries.ok.0)) c.self.invariant.situated)
+    let planned_ = c.decide-plan.ensures s (subst (λ (n : ℕ). StandsFor c.self.inside.service n s) (sym (c.len.ensures ∙ c.self.inside.entries.ok.0)) c.self.invariant.situated) (notes_there _ _ _ c.args.moment c.max-moment.result _ c.self.invariant c.max-moment.ensures)
     ∙ ap (λ (parts : ConfigParts). planned parts c.max-moment.result (seen c.args.event) (decision s c.max-moment.result (seen c.args.event))) c.self.invariant.situated.configured in
     let numbered = ap (λ (n : ℕ). c.self.inside.start.line + n) (c.len-2.ensures ∙ c.follow.new.entries.ok.0 ∙ ap length c.follow.ensures.entries) in
     let items : c.push_reserved.new.self.items ≡ c.self.inside.entries.items ++ line (c.self.inside.start.line + c.len-2.result) c.args.seat (seen c.args.event) c.max-moment.result c.decide-plan.result.decision.reply ∷ [] =
@@ -46,12 +59,12 @@ invariant_of-self-2 c =
     let word = word_there _ _ _ _ c.args.moment c.max-moment.result c.self.invariant c.ranges.moment.fits c.max-moment.ensures in
     let fits = sym c.if-is_err.ensures.value in
     taken_there c.self.inside.start _ c.follow.new.service _ _ _ _ c.args.seat c.args.moment c.max-moment.result c.args.event c.decide-plan.result c.self.invariant numbered c.max-moment.ensures planned_
-    (sym c.if-not-is_entered.ensures) word c.ranges.seat.fits c.know_event.ensures (λ installs. where_ok c.follow.result fits (c.follow.ensures.stands installs)) (where_ok c.follow.result fits c.follow.ensures.refused) c.follow.ensures.config items
+    (sym c.if-not-is_entered.ensures) word c.ranges.seat.fits c.know_event.ensures (where_ok c.follow.result fits c.follow.ensures.stands) (where_ok c.follow.result fits c.follow.ensures.refused) c.follow.ensures.config items
 
 pub returns-clause-legal_after : goal.returns-clause-legal_after
 returns-clause-legal_after c =
     let s : Situation = situation_of (past_of (history_of (opening_of c.self.inside.service.config c.self.inside.start) c.self.inside.entries.items)) in
-    let planned_ = c.decide-plan.ensures s (subst (λ (n : ℕ). StandsFor c.self.inside.service n s) (sym (c.len.ensures ∙ c.self.inside.entries.ok.0)) c.self.invariant.situated)
+    let planned_ = c.decide-plan.ensures s (subst (λ (n : ℕ). StandsFor c.self.inside.service n s) (sym (c.len.ensures ∙ c.self.inside.entries.ok.0)) c.self.invariant.situated) (notes_there _ _ _ c.args.moment c.max-moment.result _ c.self.invariant c.max-moment.ensures)
     ∙ ap (λ (parts : ConfigParts). planned parts c.max-moment.result (seen c.args.event) (decision s c.max-moment.result (seen c.args.event))) c.self.invariant.situated.configured in
     let numbered = ap (λ (n : ℕ). c.self.inside.start.line + n) (c.len-2.ensures ∙ c.follow.new.entries.ok.0 ∙ ap length c.follow.ensures.entries) in
     let items : c.push_reserved.new.self.items ≡ c.self.inside.entries.items ++ line (c.self.inside.start.line + c.len-2.result) c.args.seat (seen c.args.event) c.max-moment.result c.decide-plan.result.decision.reply ∷ [] =
@@ -59,12 +72,12 @@ returns-clause-legal_after c =
     let word = word_there _ _ _ _ c.args.moment c.max-moment.result c.self.invariant c.ranges.moment.fits c.max-moment.ensures in
     let fits = sym c.if-is_err.ensures.value in
     (taken_there c.self.inside.start _ c.follow.new.service _ _ _ _ c.args.seat c.args.moment c.max-moment.result c.args.event c.decide-plan.result c.self.invariant numbered c.max-moment.ensures planned_
-    (sym c.if-not-is_entered.ensures) word c.ranges.seat.fits c.know_event.ensures (λ installs. where_ok c.follow.result fits (c.follow.ensures.stands installs)) (where_ok c.follow.result fits c.follow.ensures.refused) c.follow.ensures.config items).legal
+    (sym c.if-not-is_entered.ensures) word c.ranges.seat.fits c.know_event.ensures (where_ok c.follow.result fits c.follow.ensures.stands) (where_ok c.follow.result fits c.follow.ensures.refused) c.follow.ensures.config items).legal
 
 pub returns-clause-sound_after : goal.returns-clause-sound_after
 returns-clause-sound_after c =
     let s : Situation = situation_of (past_of (history_of (opening_of c.self.inside.service.config c.self.inside.start) c.self.inside.entries.items)) in
-    let planned_ = c.decide-plan.ensures s (subst (λ (n : ℕ). StandsFor c.self.inside.service n s) (sym (c.len.ensures ∙ c.self.inside.entries.ok.0)) c.self.invariant.situated)
+    let planned_ = c.decide-plan.ensures s (subst (λ (n : ℕ). StandsFor c.self.inside.service n s) (sym (c.len.ensures ∙ c.self.inside.entries.ok.0)) c.self.invariant.situated) (notes_there _ _ _ c.args.moment c.max-moment.result _ c.self.invariant c.max-moment.ensures)
     ∙ ap (λ (parts : ConfigParts). planned parts c.max-moment.result (seen c.args.event) (decision s c.max-moment.result (seen c.args.event))) c.self.invariant.situated.configured in
     let numbered = ap (λ (n : ℕ). c.self.inside.start.line + n) (c.len-2.ensures ∙ c.follow.new.entries.ok.0 ∙ ap length c.follow.ensures.entries) in
     let items : c.push_reserved.new.self.items ≡ c.self.inside.entries.items ++ line (c.self.inside.start.line + c.len-2.result) c.args.seat (seen c.args.event) c.max-moment.result c.decide-plan.result.decision.reply ∷ [] =
@@ -72,12 +85,12 @@ returns-clause-sound_after c =
     let word = word_there _ _ _ _ c.args.moment c.max-moment.result c.self.invariant c.ranges.moment.fits c.max-moment.ensures in
     let fits = sym c.if-is_err.ensures.value in
     (taken_there c.self.inside.start _ c.follow.new.service _ _ _ _ c.args.seat c.args.moment c.max-moment.result c.args.event c.decide-plan.result c.self.invariant numbered c.max-moment.ensures planned_
-    (sym c.if-not-is_entered.ensures) word c.ranges.seat.fits c.know_event.ensures (λ installs. where_ok c.follow.result fits (c.follow.ensures.stands installs)) (where_ok c.follow.result fits c.follow.ensures.refused) c.follow.ensures.config items).sound
+    (sym c.if-not-is_entered.ensures) word c.ranges.seat.fits c.know_event.ensures (where_ok c.follow.result fits c.follow.ensures.stands) (where_ok c.follow.result fits c.follow.ensures.refused) c.follow.ensures.config items).sound
 
 pub returns-clause-applied : goal.returns-clause-applied
 returns-clause-applied c =
     let s : Situation = situation_of (past_of (history_of (opening_of c.self.inside.service.config c.self.inside.start) c.self.inside.entries.items)) in
-    let planned_ = c.decide-plan.ensures s (subst (λ (n : ℕ). StandsFor c.self.inside.service n s) (sym (c.len.ensures ∙ c.self.inside.entries.ok.0)) c.self.invariant.situated)
+    let planned_ = c.decide-plan.ensures s (subst (λ (n : ℕ). StandsFor c.self.inside.service n s) (sym (c.len.ensures ∙ c.self.inside.entries.ok.0)) c.self.invariant.situated) (notes_there _ _ _ c.args.moment c.max-moment.result _ c.self.invariant c.max-moment.ensures)
     ∙ ap (λ (parts : ConfigParts). planned parts c.max-moment.result (seen c.args.event) (decision s c.max-moment.result (seen c.args.event))) c.self.invariant.situated.configured in
     let numbered = ap (λ (n : ℕ). c.self.inside.start.line + n) (c.len-2.ensures ∙ c.follow.new.entries.ok.0 ∙ ap length c.follow.ensures.entries) in
     let items : c.push_reserved.new.self.items ≡ c.self.inside.entries.items ++ line (c.self.inside.start.line + c.len-2.result) c.args.seat (seen c.args.event) c.max-moment.result c.decide-plan.result.decision.reply ∷ [] =
@@ -89,3 +102,26 @@ returns-clause-applied c =
     ap (history_of (opening_of c.self.inside.service.config c.self.inside.start)) (sym items) ∙ ap (λ (parts : ConfigParts). history_of (opening_of parts c.self.inside.start) c.push_reserved.new.self.items) (sym c.follow.ensures.config) in
     subst (λ (h : History). IsApplied h c.args.seat c.args.moment (seen c.args.event) c.decide-plan.result.decision.reply (history_of (opening_of c.follow.new.service.config c.self.inside.start) c.push_reserved.new.self.items)) c.self.view_is
     (subst (λ (h : History). IsApplied (history_of (opening_of c.self.inside.service.config c.self.inside.start) c.self.inside.entries.items) c.args.seat c.args.moment (seen c.args.event) c.decide-plan.result.decision.reply h) after there)
+
+-- ---- where nothing is entered
+
+pub returns-then-not-is_entered-clause-applied : goal.returns-then-not-is_entered-clause-applied
+returns-then-not-is_entered-clause-applied c =
+    let s : Situation = situation_of (past_of (history_of (opening_of c.self.inside.service.config c.self.inside.start) c.self.inside.entries.items)) in
+    let planned_ = c.decide-plan.ensures s (subst (λ (n : ℕ). StandsFor c.self.inside.service n s) (sym (c.len.ensures ∙ c.self.inside.entries.ok.0)) c.self.invariant.situated) (notes_there _ _ _ c.args.moment c.max-moment.result _ c.self.invariant c.max-moment.ensures)
+    ∙ ap (λ (parts : ConfigParts). planned parts c.max-moment.result (seen c.args.event) (decision s c.max-moment.result (seen c.args.event))) c.self.invariant.situated.configured in
+    let decided = decided_so c.self.inside.service.config c.max-moment.result (seen c.args.event) (decision s c.max-moment.result (seen c.args.event)) c.decide-plan.result planned_ in
+    let there = unentered_there _ _ _ _ c.args.seat c.args.moment c.max-moment.result (seen c.args.event) c.decide-plan.result.decision c.self.invariant c.max-moment.ensures decided (sym c.if-not-is_entered.ensures) in
+    subst (λ (h : History). IsApplied h c.args.seat c.args.moment (seen c.args.event) c.decide-plan.result.decision.reply h) c.self.view_is there
+
+pub returns-then-is_err-clause-applied : goal.returns-then-is_err-clause-applied
+returns-then-is_err-clause-applied c =
+    let s : Situation = situation_of (past_of (history_of (opening_of c.self.inside.service.config c.self.inside.start) c.self.inside.entries.items)) in
+    let planned_ = c.decide-plan.ensures s (subst (λ (n : ℕ). StandsFor c.self.inside.service n s) (sym (c.len.ensures ∙ c.self.inside.entries.ok.0)) c.self.invariant.situated) (notes_there _ _ _ c.args.moment c.max-moment.result _ c.self.invariant c.max-moment.ensures)
+    ∙ ap (λ (parts : ConfigParts). planned parts c.max-moment.result (seen c.args.event) (decision s c.max-moment.result (seen c.args.event))) c.self.invariant.situated.configured in
+    let decided = decided_so c.self.inside.service.config c.max-moment.result (seen c.args.event) (decision s c.max-moment.result (seen c.args.event)) c.decide-plan.result planned_ in
+    let there = lacking_there _ _ _ _ c.args.seat c.args.moment c.max-moment.result (seen c.args.event) c.decide-plan.result.decision c.self.invariant c.max-moment.ensures decided (sym c.if-not-is_entered.ensures) in
+    let after : history_of (opening_of c.self.inside.service.config c.self.inside.start) c.self.inside.entries.items ≡ history_of (opening_of c.follow.new.service.config c.self.inside.start) c.follow.new.entries.items =
+    ap (history_of (opening_of c.self.inside.service.config c.self.inside.start)) (sym c.follow.ensures.entries) ∙ ap (λ (parts : ConfigParts). history_of (opening_of parts c.self.inside.start) c.follow.new.entries.items) (sym c.follow.ensures.config) in
+    subst (λ (h : History). IsApplied h c.args.seat c.args.moment (seen c.args.event) (reply.Refused refusal.ServiceOutOfMemory) (history_of (opening_of c.follow.new.service.config c.self.inside.start) c.follow.new.entries.items)) c.self.view_is
+    (subst (λ (h : History). IsApplied (history_of (opening_of c.self.inside.service.config c.self.inside.start) c.self.inside.entries.items) c.args.seat c.args.moment (seen c.args.event) (reply.Refused refusal.ServiceOutOfMemory) h) after there)

@@ -17,13 +17,10 @@ overflow_add-standing c =
     let there = situated _ _ _ _ c.self.invariant in
     omega (arith, ap (λ (n : Standing). n.period) (c.standing.ensures there.held there.situation there.stands), there.orderly.period)
 
-pub current_version-requires : goal.current_version-requires
-current_version-requires c = situated _ _ _ _ c.self.invariant
-
 pub overflow_add-current_version : goal.overflow_add-current_version
 overflow_add-current_version c =
     let there = situated _ _ _ _ c.self.invariant in
-    omega (arith, c.current_version.ensures there.held there.situation there.stands, there.orderly.versions, there.orderly.current)
+    omega (arith, c.current_version.ensures there.held there.situation there.stands, there.orderly.versions)
 
 pub returns : goal.returns
 returns c =

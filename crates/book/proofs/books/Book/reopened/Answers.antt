@@ -12,12 +12,6 @@ use Rattle.book.proofs.Cuts.{current_is, made_so, reopened_is, reopens_well}
 use Rattle.book.proofs.Worlds.{current_safe}
 use Rattle.book.proofs.books.Book.reopened.Goals as goal
 
-pub current_program-requires : goal.current_program-requires
-current_program-requires c = situated _ _ _ _ c.self.invariant
-
-pub current_version-requires : goal.current_version-requires
-current_version-requires c = situated _ _ _ _ c.self.invariant
-
 pub overflow_add-start : goal.overflow_add-start
 overflow_add-start c =
     let there = situated _ _ _ _ c.self.invariant in

@@ -1,15 +1,32 @@
+use Rattle.std.proofs.Common.{ℕ, ◌+◌, length, arith, refl, ap, subst}
+use Rattle.std.specs.Arc.{arc_value}
+use Rattle.std.specs.Option.{option_map}
+use Rattle.service_profile.specs.Machine.{Situation}
+use Rattle.book.specs.declared.service.Service.{Service}
+use Rattle.book.specs.Situations.{StandsFor}
+use Rattle.book.proofs.Settled.{any_err, followed_so, installs_some}
 use Rattle.book.proofs.service.Service.follow.Goals as goal
 
-pub commit-requires-clause-situation : goal.commit-requires-clause-situation
-commit-requires-clause-situation c = record {
-  held = c.requires.situation.held;
-  situation = c.requires.situation.situation;
-  stands = c.make_room.ensures.stands c.requires.situation.held c.requires.situation.situation c.requires.situation.stands;
-  orderly = c.requires.situation.orderly;
-}
+pub returns-in_err-change-clause-unchanged : goal.returns-in_err-change-clause-unchanged
+returns-in_err-change-clause-unchanged c =
+    let unchanged : (held : ℕ) (s : Situation) → StandsFor c.args.self.now held s → StandsFor c.change.new.self held s = λ held s stands. c.in_err-change.ensures.unchanged held s (c.make_room.ensures.stands held s stands) in
+    any_err _ unchanged
+
+pub hold-requires-clause-few : goal.hold-requires-clause-few
+hold-requires-clause-few c =
+    installs_some arc_value c.args.installed _ refl (λ program e.
+    omega (arith, c.requires.situation.few program e, ap length c.change.ensures.kept.programs, ap length (c.make_room.ensures.stands _ _ c.requires.situation.stands).registered.versions))
 
 pub returns-clause-stands : goal.returns-clause-stands
-returns-clause-stands c = λ held s stands. c.commit.ensures.stands held s (c.make_room.ensures.stands held s stands)
-
-pub returns-clause-refused : goal.returns-clause-refused
-returns-clause-refused c = λ held s stands. rw (← c.make_room.ensures.refused) (c.commit.ensures.refused held s (c.make_room.ensures.stands held s stands))
+returns-clause-stands c = λ held s stands orderly changes.
+    let room = c.make_room.ensures.stands held s stands in
+    let there = c.hold.ensures.stands held _ (c.in_ok-change.ensures.stands held s room orderly changes) in
+    let after : Service = record { config = c.hold.new.self.config; breaker = c.hold.new.self.breaker; bulkhead = c.hold.new.self.bulkhead; registry = c.hold.new.self.registry; refused = c.refused_after-self.result } in
+    subst (λ (t : Situation). StandsFor after (held + 1) t) (followed_so s c.args.next c.args.effects (option_map arc_value c.args.installed) changes)
+    (record {
+      configured = there.configured;
+      stands = there.stands;
+      places = there.places;
+      registered = record { first = there.registered.first; versions = there.registered.versions; tickets = there.registered.tickets; next = there.registered.next };
+      entered = ap (λ (n : ℕ). n + 1) stands.entered;
+    })
