@@ -85,6 +85,7 @@ fn connections_are_served(rt: HostRuntime) -> Result<(), Fail> {
     assert_eq!(rt; status, Status::Done);
     assert_eq!(rt; status.code(), 0);
     let streams = &out.inner.streams;
+    assert_eq!(rt; streams.len(), 3);
     assert_eq!(rt; answer(alloc, &streams[0])?.as_slice(), ACQUIRED.as_bytes());
     // A message that is cut short ends its connection alone.
     assert!(rt; answer(alloc, &streams[1])?.is_empty());
