@@ -8,7 +8,7 @@ use Rattle.std.specs.Option.{is_some, option_map}
 use Rattle.bpf_profile.specs.Programs.{VerifiedProgram}
 use Rattle.service_profile.specs.Machine.{open_ticket, is_open, program_from}
 use Rattle.service_profile.specs.declared.tickets.OpenTicket.{OpenTicket}
-use Rattle.registry.specs.Registries.{IsTicketOf}
+use Rattle.registry.specs.Registries.{RegistryData, IsTicketOf, IsRegistry, without_ticket}
 
 -- ---- a ticket more, and a ticket less
 
@@ -26,6 +26,16 @@ kept_head P x false xs p all = all
 pub fewer : {X : Type 0} (P : X → Type 0) (test : X → Bool) (xs : List X) → AllByRecursion P xs → AllByRecursion P (filter test xs)
 fewer P test [] all = tt
 fewer P test (x ∷ xs) all = kept_head P x (test x) (filter test xs) all.0 (fewer P test xs all.1)
+
+-- a registry keeps its promises when a ticket ends
+pub kept_without : (r : RegistryData) (n : ℕ) → IsRegistry r → IsRegistry (without_ticket r n)
+kept_without r n kept = record {
+  some = kept.some;
+  few = kept.few;
+  numbered = kept.numbered;
+  begun = kept.begun;
+  tickets = fewer (IsTicketOf r.first_version (length r.programs) r.next_ticket) _ r.open_tickets kept.tickets;
+}
 
 -- ---- what is open
 

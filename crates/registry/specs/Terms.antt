@@ -1,5 +1,6 @@
 -- How a map from numbers to terms stands for open tickets.
-use Rattle.std.specs.Prelude.{ℕ, List, map}
+use Rattle.std.specs.Prelude.{ℕ, List, [], ◌∷◌, ◌++◌}
+use Rattle.std.specs.declared.cmp.Reverse.{Reverse}
 use Rattle.service_profile.specs.declared.tickets.OpenTicket.{OpenTicket}
 use Rattle.registry.specs.declared.tickets.Terms.{Terms}
 
@@ -7,6 +8,7 @@ use Rattle.registry.specs.declared.tickets.Terms.{Terms}
 abbrev pub ticket_of : ℕ → Terms → OpenTicket
 ticket_of number terms = record { number = number; version = terms.version; period = terms.period }
 
--- the tickets that a map's entries stand for, in the order of their numbers
-abbrev pub tickets_of : List (ℕ × Terms) → List OpenTicket
-tickets_of entries = map (λ entry. ticket_of entry.0 entry.1) entries
+-- the tickets that a map's entries stand for, in the order of their numbers; the map has the greatest first
+abbrev pub tickets_of : List (Reverse ℕ × Terms) → List OpenTicket
+tickets_of [] = []
+tickets_of (e ∷ es) = tickets_of es ++ ticket_of e.0.0 e.1 ∷ []

@@ -37,9 +37,13 @@ impl Registry {
         ensures others { self.new ≡ without_ticket self.old ticket }
         ensures err { OnErr result (self.new ≡ self.old) }
     {
-        let open = self.ticket(ticket)?;
-        self.open_tickets.remove(ticket);
-        Ok(open)
+        if !self.is_issued(ticket) {
+            return Err(RefusalNumber::NoTicket);
+        }
+        let Some(ended) = self.open_tickets.remove(ticket) else {
+            return Err(RefusalNumber::TicketSpent);
+        };
+        Ok(ended)
     }
 
     /// The ticket of a number, or why it is not open.

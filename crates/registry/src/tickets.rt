@@ -8,6 +8,7 @@ ghost use Rattle.registry.specs.Terms.{ticket_of};
 
 use service_profile::OpenTicket;
 use std::alloc::{AllocError, Global};
+use std::cmp::Reverse;
 use std::collections::BTreeMap;
 use std::marker::Model;
 
@@ -19,10 +20,11 @@ pub(crate) struct Terms {
 }
 
 /// The tickets that are open. Contracts see their list, in the order of their numbers. Each call takes time
-/// that grows with the logarithm of their number.
+/// that grows with the logarithm of their number. The map has the greatest number first, since the newest
+/// tickets are asked for most, and a search in a node of the map begins at its first key.
 #[derive(Drop)]
 pub(crate) struct OpenTickets {
-    terms: BTreeMap<u64, Terms>,
+    terms: BTreeMap<Reverse<u64>, Terms>,
 }
 
 impl Model for OpenTickets {
@@ -37,7 +39,7 @@ impl Model for OpenTickets {
 
     ghost view = { λ t. tickets_of t.terms.entries };
 
-    ghost invariant = { λ t. IsOrdered nat_cmp t.terms };
+    ghost invariant = { λ t. IsOrdered (λ x y. nat_cmp y.0 x.0) t.terms };
 }
 
 /// The ticket of a number, where there are terms for it.
@@ -76,14 +78,14 @@ impl OpenTickets {
     pub(crate) fn get(&self, number: u64) -> Option<OpenTicket>
         ensures { result ≡ open_ticket self.now number }
     {
-        ticket_of(number, self.terms.get(&number).copied())
+        ticket_of(number, self.terms.get(&Reverse(number)).copied())
     }
 
     /// Whether the ticket of a number is open.
     pub(crate) fn contains(&self, number: u64) -> bool
         ensures { result ≡ is_open self.now number }
     {
-        self.terms.contains_key(&number)
+        self.terms.contains_key(&Reverse(number))
     }
 
     /// Opens a ticket with a number above all others. Without memory nothing changes.
@@ -96,7 +98,7 @@ impl OpenTickets {
             version: ticket.version,
             period: ticket.period,
         };
-        self.terms.insert(ticket.number, terms)?;
+        self.terms.insert(Reverse(ticket.number), terms)?;
         Ok(())
     }
 
@@ -105,6 +107,6 @@ impl OpenTickets {
         ensures ticket { result ≡ open_ticket self.old number }
         ensures others { self.new ≡ filter (λ ticket. not (ticket.number == number)) self.old }
     {
-        ticket_of(number, self.terms.remove(&number))
+        ticket_of(number, self.terms.remove(&Reverse(number)))
     }
 }

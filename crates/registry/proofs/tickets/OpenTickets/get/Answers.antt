@@ -6,4 +6,4 @@ use Rattle.registry.proofs.tickets.OpenTickets.get.Goals as goal
 
 pub returns : goal.returns
 returns c =
-    rw (← c.self.view_is) (c.ticket_of.ensures ∙ ap (option_map (ticket_of c.args.number)) (c.copied.ensures ∙ c.get.ensures.value) ∙ sym (found c.args.number c.self.inside.terms.entries))
+    rw (← c.self.view_is) (c.ticket_of.ensures ∙ ap (option_map (ticket_of c.args.number)) (c.copied.ensures ∙ c.get.ensures.value) ∙ sym (found c.args.number c.self.inside.terms.entries c.self.invariant))

@@ -8,7 +8,7 @@ use Rattle.registry.proofs.tickets.OpenTickets.remove.Goals as goal
 
 pub returns-clause-ticket : goal.returns-clause-ticket
 returns-clause-ticket c =
-    rw (← c.self.view_is) (c.ticket_of.ensures ∙ ap (option_map (ticket_of c.args.number)) c.remove.ensures.value ∙ sym (found c.args.number c.self.inside.terms.entries))
+    rw (← c.self.view_is) (c.ticket_of.ensures ∙ ap (option_map (ticket_of c.args.number)) c.remove.ensures.value ∙ sym (found c.args.number c.self.inside.terms.entries c.self.invariant))
 
 pub returns-clause-others : goal.returns-clause-others
 returns-clause-others c =
