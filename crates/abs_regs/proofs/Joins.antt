@@ -14,14 +14,14 @@ length-joined f [] b e = refl
 length-joined f (x ∷ a) [] e = absurd (omega arith)
 length-joined f (x ∷ a) (y ∷ b) e = ap suc (length-joined f a b (omega arith))
 
-joined_at : {A : Type 0} (f : A → A → A) (a b : List A) (k : ℕ) (d x y : A) → k < length a → k < length b → get_or (joined_by f a b) k d ≡ f (get_or a k x) (get_or b k y)
+pub joined_at : {A : Type 0} (f : A → A → A) (a b : List A) (k : ℕ) (d x y : A) → k < length a → k < length b → get_or (joined_by f a b) k d ≡ f (get_or a k x) (get_or b k y)
 joined_at f [] b k d x y p q = absurd (omega arith)
 joined_at f (u ∷ a) [] k d x y p q = absurd (omega arith)
 joined_at f (u ∷ a) (v ∷ b) zero d x y p q = refl
 joined_at f (u ∷ a) (v ∷ b) (suc k) d x y p q = joined_at f a b k d x y (omega arith) (omega arith)
 
 -- an element inside a list is the same whatever stands for those past its end
-get_or-default : {A : Type 0} (xs : List A) (i k : ℕ) (d e : A) → k ≡ i → i < length xs → get_or xs i d ≡ get_or xs k e
+pub get_or-default : {A : Type 0} (xs : List A) (i k : ℕ) (d e : A) → k ≡ i → i < length xs → get_or xs i d ≡ get_or xs k e
 get_or-default xs i k d e same h = at_one xs i d e h ∙ ap (λ (n : ℕ). get_or xs n e) (sym same)
   where
     at_one : {A : Type 0} (xs : List A) (i : ℕ) (d e : A) → i < length xs → get_or xs i d ≡ get_or xs i e

@@ -1,5 +1,5 @@
 //! Refinement of the registers by conditional jumps (RFC 9669, section 4.3).
-ghost use Rattle.std.specs.Prelude.{◌≡◌};
+ghost use Rattle.std.specs.Prelude.{◌≡◌, Ok, Err, IfErr, OnErr, OnOk};
 ghost use Rattle.abs_regs.specs.Transfers.{compared_in, learnt_in, branched_in};
 
 use crate::operands::numbers;
@@ -24,27 +24,34 @@ fn compared<D: Domain>(registers: &RegFile<D>, width: Width, right: &Operand) ->
 }
 
 impl<D: Domain> RegFile<D> {
-    /// The registers, refined by the fact that a comparison holds (`holds`), or doesn't. It is refused with
+    /// Refines the registers by the fact that a comparison holds (`holds`), or doesn't. It is refused with
     /// `UnsetRegister` where either operand may be unset, else with `PointerUsed` where either is a
-    /// pointer.
-    pub fn branched(
-        &self,
+    /// pointer; the registers are then as before.
+    pub fn branch(
+        &mut self,
         comparison: Comparison,
         width: Width,
         holds: bool,
         left: Register,
         right: &Operand,
-    ) -> Result<Self, RefusalNumber>
-        ensures { result ≡ branched_in ⟦<D as Domain>⟧ comparison width holds self.now left right.now }
+    ) -> Result<(), RefusalNumber>
+        ensures branched { OnOk result (branched_in ⟦<D as Domain>⟧ comparison width holds self.old left right.now ≡ Ok self.new) }
+        ensures refused { IfErr result (λ number. branched_in ⟦<D as Domain>⟧ comparison width holds self.old left right.now ≡ Err number) }
+        ensures unchanged { OnErr result (self.new ≡ self.old) }
     {
         let (a, b) = numbers(self.get(left), compared(self, width, right))?;
         let (first, second) = refined(comparison, width, holds, a, b);
-        Ok(match *right {
-            Operand::Register(right) if left == right => *self,
-            Operand::Register(right) => self
-                .with(left, AbsVal::Number(first))
-                .with(right, AbsVal::Number(second)),
-            Operand::Immediate(_) => self.with(left, AbsVal::Number(first)),
-        })
+        match *right {
+            Operand::Register(right) if left == right => Ok(()),
+            Operand::Register(right) => {
+                self.set(left, AbsVal::Number(first));
+                self.set(right, AbsVal::Number(second));
+                Ok(())
+            }
+            Operand::Immediate(_) => {
+                self.set(left, AbsVal::Number(first));
+                Ok(())
+            }
+        }
     }
 }

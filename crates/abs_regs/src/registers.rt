@@ -1,5 +1,5 @@
 //! The abstract state of the registers before an instruction.
-ghost use Rattle.std.specs.Prelude.{◌≡◌, slice_index_or, slice_set};
+ghost use Rattle.std.specs.Prelude.{◌≡◌, slice_index_or, slice_set, length};
 ghost use Rattle.abs_regs.specs.Values.{entry_values, joined_values, value_in};
 
 use crate::value::AbsVal;
@@ -57,31 +57,35 @@ impl<D: Domain> RegFile<D> {
         self.values[register.index()]
     }
 
+    /// Replaces the value of one register.
+    pub fn set(&mut self, register: Register, value: AbsVal<D>)
+        ensures { self.new ≡ slice_set self.old register value }
+    {
+        self.values[register.index()] = value;
+    }
+
     /// This state, with the value of one register replaced.
     pub fn with(mut self, register: Register, value: AbsVal<D>) -> Self
         ensures { result ≡ slice_set self register value }
     {
-        self.values[register.index()] = value;
+        self.set(register, value);
         self
     }
 
-    /// The join, register by register: what is known where two paths meet.
-    pub fn join(self, other: Self) -> Self
-        ensures { result ≡ joined_values ⟦<D as Domain>⟧ self other }
+    /// Joins another state into this one, register by register: what is known where two paths meet.
+    pub fn join(&mut self, other: &Self)
+        ensures { self.new ≡ joined_values ⟦<D as Domain>⟧ self.old other.now }
     {
-        RegFile {
-            values: joined_arrays(self.values, other.values),
-        }
+        join_values(&mut self.values, &other.values);
     }
 }
 
-/// The join of two arrays, value by value.
-fn joined_arrays<D: Domain>(one: [AbsVal<D>; 11], other: [AbsVal<D>; 11]) -> [AbsVal<D>; 11]
-    ensures { result ≡ joined_values ⟦<D as Domain>⟧ one other }
+/// Joins values into others, each with the one in its place.
+fn join_values<D: Domain>(values: &mut [AbsVal<D>], others: &[AbsVal<D>])
+    requires { length values.old ≡ length others.now }
+    ensures { values.new ≡ joined_values ⟦<D as Domain>⟧ values.old others.now }
 {
-    let mut values = one;
-    for i in 0..11 {
-        values[i] = values[i].join(other[i]);
+    for i in 0..values.len() {
+        values[i] = values[i].join(others[i]);
     }
-    values
 }

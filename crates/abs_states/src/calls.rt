@@ -169,35 +169,31 @@ impl<D: Domain> AbsState<D> {
     }
 }
 
-/// The stack after a call.
-pub(crate) fn stack_after<D: Domain>(
-    stack: StackState<D>,
-    written: Option<Stretch>,
-) -> StackState<D>
+/// Writes the byte range that a call writes, if there is one.
+pub(crate) fn write<D: Domain>(stack: &mut StackState<D>, written: Option<Stretch>)
     requires { IfSome written (λ bytes. bytes.place + bytes.count ≤ stack_size) }
-    ensures { result ≡ written_in stack written }
+    ensures { stack.new ≡ written_in stack.old written }
 {
-    match written {
-        Some(bytes) => stack.stretch_written(bytes.place, bytes.count),
-        None => stack,
+    if let Some(bytes) = written {
+        stack.write_stretch(bytes.place, bytes.count);
     }
 }
 
-/// The registers once R1 to R5, the arguments, are forgotten.
-fn without_arguments<D: Domain>(registers: RegFile<D>) -> RegFile<D>
-    ensures { result ≡ without_arguments registers }
+/// Forgets R1 to R5, the arguments.
+fn forget_arguments<D: Domain>(registers: &mut RegFile<D>)
+    ensures { registers.new ≡ without_arguments registers.old }
 {
-    registers
-        .with(Register::new(1), AbsVal::Unset)
-        .with(Register::new(2), AbsVal::Unset)
-        .with(Register::new(3), AbsVal::Unset)
-        .with(Register::new(4), AbsVal::Unset)
-        .with(Register::new(5), AbsVal::Unset)
+    registers.set(Register::new(1), AbsVal::Unset);
+    registers.set(Register::new(2), AbsVal::Unset);
+    registers.set(Register::new(3), AbsVal::Unset);
+    registers.set(Register::new(4), AbsVal::Unset);
+    registers.set(Register::new(5), AbsVal::Unset);
 }
 
-/// The registers after a call: the answer in R0, the arguments unset, the others kept.
-pub(crate) fn registers_after<D: Domain>(registers: RegFile<D>, answer: D) -> RegFile<D>
-    ensures { result ≡ called_values registers answer }
+/// Makes of the registers those after a call: the answer in R0, the arguments unset, the others kept.
+pub(crate) fn answer<D: Domain>(registers: &mut RegFile<D>, answer: D)
+    ensures { registers.new ≡ called_values registers.old answer }
 {
-    without_arguments(registers).with(Register::new(0), AbsVal::Number(answer))
+    forget_arguments(registers);
+    registers.set(Register::new(0), AbsVal::Number(answer));
 }

@@ -5,26 +5,12 @@ ghost use Rattle.abs_states.specs.States.{entry_state, joined_state};
 use abs_domain::Domain;
 use abs_regs::RegFile;
 use stack_track::StackState;
-use std::alloc::AllocError;
 
 /// An abstract state: what is known of the registers and of the stack on all paths to an instruction.
-#[derive(Copy, Debug)]
+#[derive(Debug, Drop)]
 pub struct AbsState<D> {
     pub registers: RegFile<D>,
     pub stack: StackState<D>,
-}
-
-impl<D: Copy> Clone for AbsState<D> {
-    ghost use Rattle.std.specs.Prelude.{◌≡◌, ⊤};
-
-    /// A clone equals its original, and takes no memory.
-    ghost is_clone = { λ state copy. copy ≡ state };
-
-    ghost is_infallible = { λ _. ⊤ };
-
-    fn clone(&self) -> Result<Self, AllocError> {
-        Ok(*self)
-    }
 }
 
 impl<D: Domain> AbsState<D> {
@@ -38,13 +24,19 @@ impl<D: Domain> AbsState<D> {
         }
     }
 
-    /// The join: what is known where two paths meet.
-    pub fn join(self, other: Self) -> Self
-        ensures { result ≡ joined_state ⟦<D as Domain>⟧ self other }
+    /// Joins another state into this one: what is known where two paths meet.
+    pub fn join(&mut self, other: &Self)
+        ensures { self.new ≡ joined_state ⟦<D as Domain>⟧ self.old other.now }
     {
-        AbsState {
-            registers: self.registers.join(other.registers),
-            stack: self.stack.join(other.stack),
-        }
+        self.registers.join(&other.registers);
+        self.stack.join(&other.stack);
+    }
+
+    /// Makes this state the same as another one.
+    pub fn copy_from(&mut self, other: &Self)
+        ensures { self.new ≡ other.now }
+    {
+        self.registers = other.registers;
+        self.stack.copy_from(&other.stack);
     }
 }

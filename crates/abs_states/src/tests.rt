@@ -58,12 +58,44 @@ fn register(number: u8) -> Operand
     Operand::Register(Register::new(number))
 }
 
+/// The same state once more.
+fn copy(state: &AbsState<Flat>) -> AbsState<Flat> {
+    let mut copied = AbsState::entry();
+    copied.copy_from(state);
+    copied
+}
+
 /// The same state, but for one register.
 fn with(state: &AbsState<Flat>, register: Register, value: AbsVal<Flat>) -> AbsState<Flat> {
-    AbsState {
-        registers: state.registers.with(register, value),
-        stack: state.stack,
-    }
+    let mut changed = copy(state);
+    changed.registers.set(register, value);
+    changed
+}
+
+/// The state with a value stored so many bytes before the stack's end; the same where that is refused.
+fn stored_before(
+    state: &AbsState<Flat>,
+    bytes: u64,
+    value: AbsVal<Flat>,
+    size: Size,
+) -> AbsState<Flat> {
+    let mut changed = copy(state);
+    let _refused = changed
+        .stack
+        .store(Address::Stack(minus(bytes)), value, size);
+    changed
+}
+
+/// What an instruction makes of a state.
+fn transferred(
+    state: &AbsState<Flat>,
+    context_size: u64,
+    taken: bool,
+    instruction: &Instruction,
+) -> Found {
+    let mut after = copy(state);
+    after.transfer(context_size, taken, instruction)?;
+    Ok(after)
 }
 
 /// A state with R0 and R6 to R9 unset, in R2 eight, in R3 any number, and pointers in the others.
@@ -145,6 +177,8 @@ fn makes(
     instruction: &Instruction,
     wanted: &Found,
 ) -> bool {
-    agree(&state.transfer(context_size, false, instruction), wanted)
-        && agree(&state.transfer(context_size, true, instruction), wanted)
+    agree(
+        &transferred(state, context_size, false, instruction),
+        wanted,
+    ) && agree(&transferred(state, context_size, true, instruction), wanted)
 }

@@ -1,13 +1,27 @@
 //! Calls through a book.
-use book::{Book, Config, ConfigParts, Event, Fate, Reply};
+use book::{Book, Config, ConfigParts, Event, Fate, Reply, SlidingWindowType};
 use bpf_run::judge;
 use helpers::Record;
 use std::alloc::Global;
 use verifier::default_classifier;
 
-/// A book with the documented defaults and the default classifier.
-fn opened(alloc: Global) -> Option<Book> {
-    let Ok(config) = Config::new(ConfigParts::DEFAULT) else {
+/// Milliseconds between two calls: each call of a time window is in a second of its own.
+const BETWEEN_CALLS: u64 = 1000;
+
+/// A book with a window of so many seconds or so many calls, room for 10,000 open tickets, the
+/// documented defaults in all else, and the default classifier.
+fn opened(alloc: Global, counts_seconds: bool, window_size: u32) -> Option<Book> {
+    let parts = ConfigParts {
+        sliding_window_type: if counts_seconds {
+            SlidingWindowType::TimeBased
+        } else {
+            SlidingWindowType::CountBased
+        },
+        sliding_window_size: u64::from(window_size),
+        max_concurrent_calls: 10_000,
+        ..ConfigParts::DEFAULT
+    };
+    let Ok(config) = Config::new(parts) else {
         return None;
     };
     let Ok(classifier) = default_classifier(alloc) else {
@@ -17,6 +31,16 @@ fn opened(alloc: Global) -> Option<Book> {
         Ok(book) => Some(book),
         Err(_) => None,
     }
+}
+
+/// Asks for so many tickets that are never reported. Answers whether each was given.
+fn hold(book: &mut Book, open_tickets: u32) -> bool {
+    for _ in 0..open_tickets {
+        let Reply::Permitted { .. } = book.apply(1, 0, Event::Acquire) else {
+            return false;
+        };
+    }
+    true
 }
 
 /// Makes a call: asks for a ticket, and reports the outcome under it. Answers whether it was recorded.
@@ -34,19 +58,34 @@ fn call(book: &mut Book, outcome: Record, moment: u64) -> bool {
     }
 }
 
-/// Makes so many calls on a fresh book, at most 32,768, and answers how many were recorded: all of
-/// them. It is 0 where memory ran out.
+/// Makes so many calls, one second after another, on a fresh book while so many other tickets are
+/// open, and answers how many were recorded: all of them. The book's window has a size in seconds
+/// where `counts_seconds` is not 0, else in calls. A call makes two entries and an open ticket one,
+/// and a journal has room for 65,536. It is 0 where memory ran out or the size is out of range.
 #[unsafe(no_mangle)]
-pub extern "C" fn bench_exports_call(alloc: Global, calls: u32) -> u64 {
-    let Some(mut book) = opened(alloc) else {
+pub extern "C" fn bench_exports_call(
+    alloc: Global,
+    calls: u32,
+    counts_seconds: u8,
+    window_size: u32,
+    open_tickets: u32,
+) -> u64 {
+    let Some(mut book) = opened(alloc, counts_seconds != 0, window_size) else {
         return 0;
     };
     let Some(outcome) = Record::from_parts([0; 128], [0; 16], &[]) else {
         return 0;
     };
+    if !hold(&mut book, open_tickets) {
+        return 0;
+    }
     let mut recorded = 0u64;
-    for moment in 0..calls {
-        if call(&mut book, outcome, u64::from(moment)) {
+    for second in 0..calls {
+        if call(
+            &mut book,
+            outcome,
+            u64::from(second).wrapping_mul(BETWEEN_CALLS),
+        ) {
             recorded = recorded.wrapping_add(1);
         }
     }

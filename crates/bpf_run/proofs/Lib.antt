@@ -1,12 +1,14 @@
 pub mod Addresses
 pub mod ArithmeticWords
 pub mod HelperWords
+pub mod Leading
 pub mod LoadedWords
 pub mod MemoryBytes
 pub mod RegisterWords
 pub mod Running
 pub mod Simulation
 pub mod StackBytes
+pub mod Standing
 pub mod StoredBytes
 pub mod Untrapped
 pub mod Writes

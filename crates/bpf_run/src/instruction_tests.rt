@@ -1,8 +1,10 @@
 //! Single instructions over bare words and memory.
 use crate::calls::call;
+use crate::machine::{Machine, Words};
 use crate::memory::{BYTES, Memory, copy_context, load, store};
-use crate::step::{Words, execute};
-use bpf_profile::{Extension, Instruction, Operand, Operation, Register, Size, Width};
+use crate::step::execute;
+use bpf_flat::Flat;
+use bpf_profile::{Extension, Register, Size};
 use helpers::Record;
 
 /// R10 is the end of the stack, and R1 the context.
@@ -45,51 +47,44 @@ fn every_size_is_stored_and_loaded(rt: HostRuntime) {
 }
 
 #[test]
-#[tactic(auto, unfolding(crate::specs::Bare::MayRun, crate::specs::Bare::registers_after))]
+#[tactic(auto, unfolding(crate::specs::Bare::MayRun, crate::specs::Bare::LeadsWithin, crate::specs::Bare::registers_after))]
 fn a_pointer_is_stored_and_loaded(rt: HostRuntime) {
     let outcome = outcome(&[]).expect(&rt, "an empty tag");
-    let mut memory = memory_of(&outcome);
-    let mut registers = ENTRY;
+    let mut machine = Machine {
+        registers: ENTRY,
+        memory: memory_of(&outcome),
+        outcome: &outcome,
+    };
     // stxdw [r10-8], r10
-    let store = Instruction::Store {
-        size: Size::DoubleWord,
-        base: Register::new(10),
-        offset: 0xfffffffffffffff8,
-        operand: Operand::Register(Register::new(10)),
-    };
-    // ldxdw r2, [r10-8]
-    let load = Instruction::Load {
-        size: Size::DoubleWord,
-        extension: Extension::Zero,
-        destination: Register::new(2),
-        base: Register::new(10),
-        offset: 0xfffffffffffffff8,
-    };
-    assert_eq!(rt;
-        execute(&store, 0, &mut registers, &mut memory, &outcome),
-        1
+    let store = Flat::StoreDoubleWordRegister(
+        Register::new(10),
+        Register::new(10),
+        0xfffffffffffffff8,
     );
-    assert_eq!(rt; execute(&load, 1, &mut registers, &mut memory, &outcome), 2);
+    // ldxdw r2, [r10-8]
+    let load = Flat::LoadDoubleWord(Register::new(2), Register::new(10), 0xfffffffffffffff8);
+    assert!(rt; execute(&store, &[], &mut machine).is_some());
+    assert!(rt; execute(&load, &[], &mut machine).is_some());
+    let registers = machine.registers;
     assert_eq!(rt; registers, [0, 0, 640, 0, 0, 0, 0, 0, 0, 0, 640]);
-    assert_eq!(rt; &memory[632..], [0x80, 2, 0, 0, 0, 0, 0, 0].as_slice());
-    assert_eq!(rt; memory[631], 0xee);
+    let memory = machine.memory;
+    let (before, first, second, third) = (memory[631], memory[632], memory[633], memory[634]);
+    assert_eq!(rt; (before, first, second, third), (0xee, 0x80, 2, 0));
 }
 
 #[test]
-#[tactic(auto, unfolding(crate::specs::Bare::MayRun))]
+#[tactic(auto, unfolding(crate::specs::Bare::MayRun, crate::specs::Bare::LeadsWithin))]
 fn the_context_is_loaded(rt: HostRuntime) {
     let outcome = outcome(&[]).expect(&rt, "an empty tag");
-    let mut memory = memory_of(&outcome);
-    let mut registers = ENTRY;
-    // ldxsw r1, [r1+124]
-    let load = Instruction::Load {
-        size: Size::Word,
-        extension: Extension::Sign,
-        destination: Register::new(1),
-        base: Register::new(1),
-        offset: 124,
+    let mut machine = Machine {
+        registers: ENTRY,
+        memory: memory_of(&outcome),
+        outcome: &outcome,
     };
-    assert_eq!(rt; execute(&load, 7, &mut registers, &mut memory, &outcome), 8);
+    // ldxsw r1, [r1+124]
+    let load = Flat::LoadSignedWord(Register::new(1), Register::new(1), 124);
+    assert!(rt; execute(&load, &[], &mut machine).is_some());
+    let registers = machine.registers;
     assert_eq!(rt;
         registers,
         [0, 0xffffffff807f7e7d, 0, 0, 0, 0, 0, 0, 0, 0, 640]
@@ -97,30 +92,21 @@ fn the_context_is_loaded(rt: HostRuntime) {
 }
 
 #[test]
-#[tactic(auto, unfolding(crate::specs::Bare::MayRun))]
+#[tactic(auto, unfolding(crate::specs::Bare::MayRun, crate::specs::Bare::LeadsWithin))]
 fn pointers_are_computed_with(rt: HostRuntime) {
     let outcome = outcome(&[]).expect(&rt, "an empty tag");
-    let mut memory = memory_of(&outcome);
-    let mut registers = ENTRY;
+    let mut machine = Machine {
+        registers: ENTRY,
+        memory: memory_of(&outcome),
+        outcome: &outcome,
+    };
     // sub r10, 16
-    let subtract = Instruction::Arithmetic {
-        operation: Operation::Subtract,
-        width: Width::Bits64,
-        destination: Register::new(10),
-        operand: Operand::Immediate(16),
-    };
+    let subtract = Flat::Subtract64Immediate(Register::new(10), 16);
     // add r1, r10
-    let add = Instruction::Arithmetic {
-        operation: Operation::Add,
-        width: Width::Bits64,
-        destination: Register::new(1),
-        operand: Operand::Register(Register::new(10)),
-    };
-    assert_eq!(rt;
-        execute(&subtract, 0, &mut registers, &mut memory, &outcome),
-        1
-    );
-    assert_eq!(rt; execute(&add, 1, &mut registers, &mut memory, &outcome), 2);
+    let add = Flat::Add64Register(Register::new(1), Register::new(10));
+    assert!(rt; execute(&subtract, &[], &mut machine).is_some());
+    assert!(rt; execute(&add, &[], &mut machine).is_some());
+    let registers = machine.registers;
     assert_eq!(rt; registers, [0, 624, 0, 0, 0, 0, 0, 0, 0, 0, 624]);
 }
 

@@ -5,6 +5,7 @@ mod calls;
 mod execution;
 #[cfg(test)]
 mod instruction_tests;
+mod machine;
 mod memory;
 mod step;
 #[cfg(test)]

@@ -16,11 +16,11 @@ fn left(
 ) -> Bounds {
     let two = Register::new(2);
     let range = Range::constant(before.0).join(Range::constant(before.1));
-    let registers = RegFile::entry().with(two, AbsVal::Number(range));
-    let after = registers
-        .branched(comparison, width, true, two, right)
+    let mut registers = RegFile::entry().with(two, AbsVal::Number(range));
+    registers
+        .branch(comparison, width, true, two, right)
         .expect(rt, "numbers");
-    after.get(two).number().expect(rt, "a number").bounds()
+    registers.get(two).number().expect(rt, "a number").bounds()
 }
 
 /// A comparison of 32 bits takes as many bits of its immediate.

@@ -9,6 +9,8 @@ mod arithmetic;
 #[cfg(test)]
 mod branches;
 #[cfg(test)]
+mod changed;
+#[cfg(test)]
 mod comparisons;
 #[cfg(test)]
 mod conversions;

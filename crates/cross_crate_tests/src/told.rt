@@ -58,7 +58,7 @@ fn word(verdict: Verdict) -> &'static str {
 }
 
 /// The record of an outcome's JSON.
-fn outcome_of(rt: &impl Abort, alloc: Global, text: &str) -> Result<Record, Fail> {
+pub(crate) fn outcome_of(rt: &impl Abort, alloc: Global, text: &str) -> Result<Record, Fail> {
     let value = Value::from_slice(alloc, text.as_bytes()).expect(rt, "JSON");
     Ok(Record::from_json(&value).expect(rt, "an outcome"))
 }

@@ -102,8 +102,26 @@ fn follow_all(
     Ok(budget)
 }
 
-/// The flow of an accepted program. It takes memory for what it answers alone.
-fn routes_of(alloc: Global, slots: &[Slot]) -> Result<Flow, AllocError>
+/// The flow of an accepted program of few slots, which needs few counts.
+#[inline(never)]
+fn routes_of_few(alloc: Global, slots: &[Slot]) -> Result<Flow, AllocError>
+    requires few { length slots.now ≤ 64 }
+    requires program { IsProgram slots.now }
+    requires accepted { flow_fault slots.now ≡ None }
+    ensures budget { IfOk result (λ flow. IsBudget slots.now flow.budget) }
+    ensures counted { IfOk result (λ flow. length flow.edges ≡ length slots.now) }
+    ensures edges { IfOk result (λ flow. flow.edges ≡ map (successors slots.now) (range_with_len 0 (length slots.now))) }
+    ensures kinds { IfOk result (λ flow. flow.successors ≡ map (successors_at slots.now) (range_with_len 0 (length slots.now))) }
+{
+    let mut edges = Vec::with_capacity(alloc, slots.len())?;
+    let mut longest = [0u32; 64];
+    let budget = follow_all(&mut longest[..slots.len()], slots, &mut edges)?;
+    Ok(Flow { edges, budget })
+}
+
+/// The flow of an accepted program of any number of slots.
+#[inline(never)]
+fn routes_of_many(alloc: Global, slots: &[Slot]) -> Result<Flow, AllocError>
     requires program { IsProgram slots.now }
     requires accepted { flow_fault slots.now ≡ None }
     ensures budget { IfOk result (λ flow. IsBudget slots.now flow.budget) }
@@ -117,8 +135,38 @@ fn routes_of(alloc: Global, slots: &[Slot]) -> Result<Flow, AllocError>
     Ok(Flow { edges, budget })
 }
 
-/// The first fault of a program.
-fn fault(slots: &[Slot]) -> Option<FlowError>
+/// The flow of an accepted program. It takes memory for what it answers alone.
+fn routes_of(alloc: Global, slots: &[Slot]) -> Result<Flow, AllocError>
+    requires program { IsProgram slots.now }
+    requires accepted { flow_fault slots.now ≡ None }
+    ensures budget { IfOk result (λ flow. IsBudget slots.now flow.budget) }
+    ensures counted { IfOk result (λ flow. length flow.edges ≡ length slots.now) }
+    ensures edges { IfOk result (λ flow. flow.edges ≡ map (successors slots.now) (range_with_len 0 (length slots.now))) }
+    ensures kinds { IfOk result (λ flow. flow.successors ≡ map (successors_at slots.now) (range_with_len 0 (length slots.now))) }
+{
+    if slots.len() <= 64 {
+        routes_of_few(alloc, slots)
+    } else {
+        routes_of_many(alloc, slots)
+    }
+}
+
+/// The first fault of a program of few slots, which needs few marks.
+#[inline(never)]
+fn fault_of_few(slots: &[Slot]) -> Option<FlowError>
+    requires { length slots.now ≤ 64 }
+    ensures fault { option_map fault_of result ≡ flow_fault slots.now }
+    ensures slot { IfSome result (λ e. e.slot < most_slots) }
+{
+    let mut marks = [false; 64];
+    let entered = &mut marks[..slots.len()];
+    mark_entered(entered, slots);
+    first_fault(slots, entered)
+}
+
+/// The first fault of a program of any number of slots.
+#[inline(never)]
+fn fault_of_many(slots: &[Slot]) -> Option<FlowError>
     requires { length slots.now ≤ most_slots }
     ensures fault { option_map fault_of result ≡ flow_fault slots.now }
     ensures slot { IfSome result (λ e. e.slot < most_slots) }
@@ -127,6 +175,19 @@ fn fault(slots: &[Slot]) -> Option<FlowError>
     let entered = &mut marks[..slots.len()];
     mark_entered(entered, slots);
     first_fault(slots, entered)
+}
+
+/// The first fault of a program. Of few slots there are few marks, and setting them up takes less time.
+fn fault(slots: &[Slot]) -> Option<FlowError>
+    requires { length slots.now ≤ most_slots }
+    ensures fault { option_map fault_of result ≡ flow_fault slots.now }
+    ensures slot { IfSome result (λ e. e.slot < most_slots) }
+{
+    if slots.len() <= 64 {
+        fault_of_few(slots)
+    } else {
+        fault_of_many(slots)
+    }
 }
 
 /// Checks the flow of a program: each instruction is entered, every jump goes forward to an

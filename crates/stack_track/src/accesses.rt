@@ -1,5 +1,5 @@
 //! Loads and stores (RFC 9669, section 5).
-ghost use Rattle.std.specs.Prelude.{◌≡◌, ◌+◌, ◌%◌, ◌≤◌, IfOk};
+ghost use Rattle.std.specs.Prelude.{◌≡◌, ◌+◌, ◌%◌, ◌≤◌, Ok, Err, IfOk, IfErr, OnOk, OnErr};
 ghost use Rattle.bpf_profile.specs.Limits.{stack_size, context_size};
 ghost use Rattle.bpf_profile.specs.Words.{bytes_in};
 ghost use Rattle.stack_track.specs.Accesses.{any_loaded, zeros_of, load_context, stack_place, whole_cell, part_of_cell, load_cell, load_stack, load_at, stored_cell, store_stack, store_at};
@@ -30,16 +30,18 @@ impl<D: Domain> StackState<D> {
         }
     }
 
-    /// The state after a store. It is refused, in this order, with `ContextWrite`, `Misaligned`,
-    /// `OutOfBounds`, `UnsetRegister` where the value may be unset, and `PointerUsed` where a pointer isn't
-    /// stored as a whole.
+    /// Stores a value. It is refused, in this order, with `ContextWrite`, `Misaligned`, `OutOfBounds`,
+    /// `UnsetRegister` where the value may be unset, and `PointerUsed` where a pointer isn't stored as a
+    /// whole; the state is then as before.
     pub fn store(
-        self,
+        &mut self,
         address: Address<D>,
         value: AbsVal<D>,
         size: Size,
-    ) -> Result<Self, RefusalNumber>
-        ensures { result ≡ store_at self address value size }
+    ) -> Result<(), RefusalNumber>
+        ensures stored { OnOk result (store_at self.old address value size ≡ Ok self.new) }
+        ensures refused { IfErr result (λ number. store_at self.old address value size ≡ Err number) }
+        ensures unchanged { OnErr result (self.new ≡ self.old) }
     {
         match address {
             Address::Context(_) => Err(RefusalNumber::ContextWrite),
@@ -61,12 +63,20 @@ impl<D: Domain> StackState<D> {
     }
 
     /// A store to the stack.
-    fn store_stack(self, offset: u64, value: AbsVal<D>, size: Size) -> Result<Self, RefusalNumber>
-        ensures { result ≡ store_stack self offset value size }
+    fn store_stack(
+        &mut self,
+        offset: u64,
+        value: AbsVal<D>,
+        size: Size,
+    ) -> Result<(), RefusalNumber>
+        ensures stored { OnOk result (store_stack self.old offset value size ≡ Ok self.new) }
+        ensures refused { IfErr result (λ number. store_stack self.old offset value size ≡ Err number) }
+        ensures unchanged { OnErr result (self.new ≡ self.old) }
     {
         let place = stack_place(offset, size)?;
         let cell = self.cell(place / 8).store(value, place, size)?;
-        Ok(self.with(place / 8, cell))
+        self.set(place / 8, cell);
+        Ok(())
     }
 }
 

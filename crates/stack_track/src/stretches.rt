@@ -23,17 +23,15 @@ impl<D: Domain> StackState<D> {
         true
     }
 
-    /// The state after bytes were written to a range. `place` is the index of its first byte in the
-    /// stack, and `count` its length.
-    pub fn stretch_written(self, place: u64, count: u64) -> Self
+    /// Writes bytes to a range. `place` is the index of its first byte in the stack, and `count` its
+    /// length.
+    pub fn write_stretch(&mut self, place: u64, count: u64)
         requires { place + count ≤ stack_size }
-        ensures { result ≡ stretch_written self place count }
+        ensures { self.new ≡ stretch_written self.old place count }
     {
-        let mut state = self;
         for i in 0..count {
-            state = state.with_byte((place + i) as usize);
+            self.write_byte((place + i) as usize);
         }
-        state
     }
 
     /// Whether the byte at an index is known to be set and part of a number.
@@ -44,12 +42,12 @@ impl<D: Domain> StackState<D> {
         self.cell(place / 8).is_set(place, Size::Byte)
     }
 
-    /// The state after a byte was written at an index.
-    fn with_byte(self, place: usize) -> Self
+    /// Writes a byte at an index.
+    fn write_byte(&mut self, place: usize)
         requires { place < stack_size }
-        ensures { result ≡ slice_set self (place / 8) (with_numbers (cell_in self (place / 8)) place 1) }
+        ensures { self.new ≡ slice_set self.old (place / 8) (with_numbers (cell_in self.old (place / 8)) place 1) }
     {
         let cell = self.cell(place / 8).with_numbers(place, Size::Byte);
-        self.with(place / 8, cell)
+        self.set(place / 8, cell);
     }
 }

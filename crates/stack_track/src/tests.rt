@@ -24,13 +24,13 @@ fn number<D: Domain>(word: u64) -> AbsVal<D> {
     AbsVal::Number(D::constant(word))
 }
 
-fn load<D: Domain>(state: StackState<D>, bytes_before: u64, size: Size) -> Loaded<D> {
+fn load<D: Domain>(state: &StackState<D>, bytes_before: u64, size: Size) -> Loaded<D> {
     let address = Address::Stack(before(bytes_before));
     state.load(CONTEXT, address, Extension::Zero, size)
 }
 
 fn load_context<D: Domain>(
-    state: StackState<D>,
+    state: &StackState<D>,
     context_size: u64,
     offset: D,
     size: Size,
@@ -39,27 +39,32 @@ fn load_context<D: Domain>(
     state.load(context_size, address, Extension::Sign, size)
 }
 
+/// The same stack once more.
+fn copy<D: Domain>(state: &StackState<D>) -> StackState<D> {
+    let mut copied = StackState::entry();
+    copied.copy_from(state);
+    copied
+}
+
 /// What a store of this value makes of a stack; the stack stays where it is refused.
 fn store<D: Domain>(
-    state: StackState<D>,
+    mut state: StackState<D>,
     bytes_before: u64,
     value: AbsVal<D>,
     size: Size,
 ) -> StackState<D> {
-    match state.store(Address::Stack(before(bytes_before)), value, size) {
-        Ok(stored) => stored,
-        Err(_) => state,
-    }
+    let _refused = state.store(Address::Stack(before(bytes_before)), value, size);
+    state
 }
 
 /// Why a store of this value is refused, if it is.
 fn refusal_of_store<D: Domain>(
-    state: StackState<D>,
+    state: &StackState<D>,
     address: Address<D>,
     value: AbsVal<D>,
     size: Size,
 ) -> Option<RefusalNumber> {
-    state.store(address, value, size).err()
+    copy(state).store(address, value, size).err()
 }
 
 #[test]
@@ -70,9 +75,9 @@ fn numbers_load_in_each_size(rt: HostRuntime) -> Result<(), Fail> {
             Size::DoubleWord => Ok(number(7)),
             _ => Err(RefusalNumber::UnsetStack),
         };
-        assert_eq!(rt; load(state, 16, Size::DoubleWord), whole, "{size:?}");
+        assert_eq!(rt; load(&state, 16, Size::DoubleWord), whole, "{size:?}");
         for read in SIZES {
-            let found = load(state, 16, read);
+            let found = load(&state, 16, read);
             let expected = if read.bytes() > size.bytes() {
                 Err(RefusalNumber::UnsetStack)
             } else if read == Size::DoubleWord {
@@ -82,8 +87,11 @@ fn numbers_load_in_each_size(rt: HostRuntime) -> Result<(), Fail> {
             };
             assert_eq!(rt; found, expected, "{size:?} {read:?}");
         }
-        assert_eq!(rt; load(state, 8, Size::Byte), Err(RefusalNumber::UnsetStack));
-        assert_eq!(rt; load(state, 17, Size::Byte), Err(RefusalNumber::UnsetStack));
+        assert_eq!(rt; load(&state, 8, Size::Byte), Err(RefusalNumber::UnsetStack));
+        assert_eq!(rt;
+            load(&state, 17, Size::Byte),
+            Err(RefusalNumber::UnsetStack)
+        );
     }
     Ok(())
 }
@@ -92,17 +100,17 @@ fn numbers_load_in_each_size(rt: HostRuntime) -> Result<(), Fail> {
 fn pointers_load_whole(rt: HostRuntime) -> Result<(), Fail> {
     for pointer in [AbsVal::Stack(before(24)), AbsVal::Context(Flat::One(4))] {
         let state = store(StackState::entry(), 8, pointer, Size::DoubleWord);
-        assert_eq!(rt; load(state, 8, Size::DoubleWord), Ok(pointer));
+        assert_eq!(rt; load(&state, 8, Size::DoubleWord), Ok(pointer));
         for (bytes_before, size) in [
             (8, Size::Word),
             (4, Size::Word),
             (2, Size::HalfWord),
             (1, Size::Byte),
         ] {
-            let found = load(state, bytes_before, size);
+            let found = load(&state, bytes_before, size);
             assert_eq!(rt; found, Err(RefusalNumber::PointerUsed), "{size:?}");
             let offset = Address::Stack(before(bytes_before));
-            let refused = refusal_of_store(state, offset, pointer, size);
+            let refused = refusal_of_store(&state, offset, pointer, size);
             assert_eq!(rt; refused, Some(RefusalNumber::PointerUsed), "{size:?}");
         }
     }
@@ -129,7 +137,7 @@ fn offsets_are_aligned_and_inside(rt: HostRuntime) -> Result<(), Fail> {
             let state = StackState::<Flat>::entry();
             let found = state.load(CONTEXT, Address::Stack(offset), Extension::Zero, size);
             assert_eq!(rt; found, Err(expected), "{offset} {size:?}");
-            let refused = refusal_of_store(state, Address::Stack(offset), number(1), size);
+            let refused = refusal_of_store(&state, Address::Stack(offset), number(1), size);
             let stored = if expected == unset {
                 None
             } else {
@@ -161,11 +169,11 @@ fn the_context_is_aligned_inside_and_read_only(rt: HostRuntime) -> Result<(), Fa
         (0, Flat::One(0), Size::Byte, outside),
         (u64::MAX, Flat::One(u64::MAX), Size::Byte, outside),
     ] {
-        let found = load_context(state, context_size, offset, size);
+        let found = load_context(&state, context_size, offset, size);
         assert_eq!(rt; found, expected, "{context_size} {offset:?} {size:?}");
     }
     let offset = Address::Context(Flat::One(1));
-    let written = refusal_of_store(state, offset, AbsVal::Unset, Size::Word);
+    let written = refusal_of_store(&state, offset, AbsVal::Unset, Size::Word);
     assert_eq!(rt; written, Some(RefusalNumber::ContextWrite));
     Ok(())
 }
@@ -174,9 +182,9 @@ fn the_context_is_aligned_inside_and_read_only(rt: HostRuntime) -> Result<(), Fa
 fn unset_values_are_not_stored(rt: HostRuntime) -> Result<(), Fail> {
     let state = StackState::<Flat>::entry();
     for size in SIZES {
-        let inside = refusal_of_store(state, Address::Stack(before(8)), AbsVal::Unset, size);
+        let inside = refusal_of_store(&state, Address::Stack(before(8)), AbsVal::Unset, size);
         assert_eq!(rt; inside, Some(RefusalNumber::UnsetRegister));
-        let outside = refusal_of_store(state, Address::Stack(8), AbsVal::Unset, size);
+        let outside = refusal_of_store(&state, Address::Stack(8), AbsVal::Unset, size);
         assert_eq!(rt; outside, Some(RefusalNumber::OutOfBounds));
     }
     Ok(())
@@ -204,7 +212,7 @@ fn parts_keep_the_bytes_that_were_set(rt: HostRuntime) -> Result<(), Fail> {
         state = store(state, bytes_before, number(0), size);
         assert_eq!(rt; state.cell(63), Cell::Bytes(mask), "{size:?}");
     }
-    assert_eq!(rt; load(state, 8, Size::DoubleWord), Ok(ANY));
+    assert_eq!(rt; load(&state, 8, Size::DoubleWord), Ok(ANY));
     assert_eq!(rt;
         store(state, 8, number(9), Size::DoubleWord).cell(63),
         Cell::Kept(number(9))
@@ -246,11 +254,13 @@ fn cells_are_joined_by_kind(rt: HostRuntime) -> Result<(), Fail> {
 #[test]
 fn stacks_are_joined_cell_by_cell(rt: HostRuntime) -> Result<(), Fail> {
     let one = store(StackState::entry(), 8, number::<Flat>(1), Size::DoubleWord);
-    let both = store(one, 512, number(2), Size::Word);
-    let joined = both.join(one.clone()?);
+    let both = store(copy(&one), 512, number(2), Size::Word);
+    let mut joined = copy(&both);
+    joined.join(&one);
     assert_eq!(rt; joined.cell(63), Cell::Kept(number(1)));
     assert_eq!(rt; joined.cell(0), Cell::Bytes(0));
-    let again = both.join(store(one, 510, number(3), Size::HalfWord));
+    let mut again = both;
+    again.join(&store(one, 510, number(3), Size::HalfWord));
     assert_eq!(rt; again.cell(0), Cell::Bytes(12));
     assert_eq!(rt; again.cell(1), Cell::Bytes(0));
     Ok(())
@@ -264,7 +274,8 @@ fn stretches_cross_cells(rt: HostRuntime) -> Result<(), Fail> {
         number::<Flat>(1),
         Size::DoubleWord,
     );
-    let written = state.stretch_written(6, 13);
+    let mut written = copy(&state);
+    written.write_stretch(6, 13);
     assert_eq!(rt; written.cell(0), Cell::Bytes(0xc0));
     assert_eq!(rt; written.cell(1), Cell::Bytes(0xff));
     assert_eq!(rt; written.cell(2), Cell::Bytes(0x07));
@@ -285,7 +296,8 @@ fn stretches_cross_cells(rt: HostRuntime) -> Result<(), Fail> {
         );
     }
     assert!(rt; state.stretch_is_set(8, 8));
-    let all = state.stretch_written(0, 512);
+    let mut all = state;
+    all.write_stretch(0, 512);
     assert!(rt; all.stretch_is_set(0, 512));
     Ok(())
 }

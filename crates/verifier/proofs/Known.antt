@@ -66,7 +66,7 @@ message_goes P (Some to) (Ok a) h = (h to refl, tt)
 message_goes P (Some to) (Err number) h = tt
 
 -- what a slot sends goes along its edges
-sent_goes : {X : Type 0} (domain : Ghosts X) (context : ℕ) (slots : List Slot) (place : ℕ) (P : ℕ → Type 0) → ((to : ℕ) → Edge slots place to → P to) → (o : Option Instruction) → instruction_at slots place ≡ o → (k : Option (AbsState X))
+pub sent_goes : {X : Type 0} (domain : Ghosts X) (context : ℕ) (slots : List Slot) (place : ℕ) (P : ℕ → Type 0) → ((to : ℕ) → Edge slots place to → P to) → (o : Option Instruction) → instruction_at slots place ≡ o → (k : Option (AbsState X))
     → AllGo P (sent_with domain context place o k)
 sent_goes domain context slots place P h None at k = tt
 sent_goes domain context slots place P h (Some i) at None = tt
@@ -75,7 +75,7 @@ sent_goes domain context slots place P h (Some i) at (Some a) =
     (message_goes P (edge_of place i false) (transfer_in domain context a false i) (λ to e. h to (edge_at slots place to i at (way_edge place i false to e))))
     (message_goes P (edge_of place i true) (transfer_in domain context a true i) (λ to e. h to (edge_at slots place to i at (way_edge place i true to e))))
 
-within_all : {X : Type 0} (count : ℕ) (messages : List (Message X)) → AllGo (λ to. to < count) messages → AreWithin count messages
+pub within_all : {X : Type 0} (count : ℕ) (messages : List (Message X)) → AllGo (λ to. to < count) messages → AreWithin count messages
 within_all count [] h = tt
 within_all count (m ∷ more) h = (h.0, within_all count more h.1)
 

@@ -4,3 +4,5 @@ pub mod Edges
 pub mod FirstFault
 pub mod Known
 pub mod Sound
+pub mod Taken
+pub mod Marked

@@ -234,7 +234,7 @@ runs_out {X} domain laws context slots program accepted analysed words outcome i
 -- ---- from the entry
 
 -- a program starts with an instruction, since it doesn't start with a tail
-starts : (slots : List Slot) → IsProgram slots → IsSome (instruction_at slots 0)
+pub starts : (slots : List Slot) → IsProgram slots → IsSome (instruction_at slots 0)
 starts slots program = instruction_there slots program 0 program.some (by_slot (slice_get slots 0) refl)
   where
     by_slot : (o : Option Slot) → slice_get slots 0 ≡ o → is_tail_at slots 0 ≡ false

@@ -5,3 +5,4 @@ pub mod Memory
 pub mod Passes
 pub mod Product
 pub mod Verifying
+pub mod Width

@@ -9,6 +9,8 @@ ghost use Rattle.verifier.specs.Memory.{StateFits};
 ghost use Rattle.verifier.specs.Passes.{entry_states};
 ghost use Rattle.verifier.specs.Verifying.{out_of_memory, fault_of};
 
+use crate::awaited::pass_awaited;
+use crate::nones::nones;
 use crate::passes::pass_all;
 use crate::refusal::Refusal;
 use abs_domain::Domain;
@@ -55,7 +57,7 @@ fn entry_states<D: Domain>(
     requires { 0 < length slots.now }
     ensures { IfOk result (λ states. states.items ≡ entry_states ⟦<D as Domain>⟧ (length slots.now)) }
 {
-    let mut states = vec![in alloc; None; slots.len()]?;
+    let mut states = nones(alloc, slots.len())?;
     states[0] = Some(AbsState::entry());
     Ok(states)
 }
@@ -83,4 +85,22 @@ pub fn analyse<D: Domain>(
     let mut states = entry_states(alloc, slots)?;
     pass_all(&mut states, slots, flow)?;
     Ok(States { states })
+}
+
+/// The same check, which holds no more states than it still awaits, and keeps none.
+pub(crate) fn analyse_awaited<D: Domain>(
+    alloc: Global,
+    program: &Program,
+    flow: &Flow,
+) -> Result<(), Refusal>
+    requires fits { StateFits D.row }
+    requires accepted { flow_fault program.now ≡ None }
+    requires flow { flow.now.edges ≡ map (successors program.now) (range_with_len 0 (length program.now)) }
+    ensures accepted { OnOk result (analysis_fault ⟦<D as Domain>⟧ context_size program.now ≡ None) }
+    ensures safe { OnOk result ((budget : ℕ) → IsBudget program.now budget → IsSafe context_size program.now budget) }
+    ensures refused { IfErr result (λ e. (e ≡ out_of_memory) ⊎ (analysis_fault ⟦<D as Domain>⟧ context_size program.now ≡ Some (fault_of e))) }
+    ensures slot { IfErr result (λ e. e.slot < most_slots) }
+{
+    pass_awaited::<D>(alloc, program.slots(), flow)?;
+    Ok(())
 }

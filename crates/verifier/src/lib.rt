@@ -3,16 +3,20 @@
 #![tactic(auto)]
 
 mod analysis;
+mod awaited;
 mod classifier;
-mod decoded;
+mod counted;
 pub mod laws;
+mod nones;
 mod passes;
 mod refusal;
 #[cfg(test)]
 mod tests;
 mod verified;
+mod width;
 
 pub use analysis::{States, analyse};
 pub use classifier::default_classifier;
+pub use counted::verify_counted;
 pub use refusal::Refusal;
 pub use verified::{Verified, verify};

@@ -7,6 +7,7 @@ ghost use Rattle.bpf_profile.specs.Meaning.{instruction_at};
 ghost use Rattle.bpf_profile.specs.Spelling.{IsProgram};
 ghost use Rattle.flow_check.specs.Routes.{successor_list};
 ghost use Rattle.verifier.specs.Analysis.{message_to, sent_with, fault_with, analysis_fault, AreKnown};
+ghost use Rattle.verifier.specs.Memory.{StateFits};
 ghost use Rattle.verifier.specs.Passes.{state_of, entry_states, delivered, delivered_all};
 ghost use Rattle.abs_states.specs.Transfers.{transfer_in};
 ghost use Rattle.verifier.specs.Verifying.{IsFlowOf, fault_of};
@@ -23,11 +24,13 @@ fn join_at<D: Domain>(states: &mut [Option<AbsState<D>>], to: usize, state: AbsS
     requires { to < length states.old }
     ensures { states.new ≡ delivered ⟦<D as Domain>⟧ states.old (record { to = to; state = state }) }
 {
-    let joined = match states[to] {
-        Some(before) => before.join(state),
-        None => state,
-    };
-    states[to] = Some(joined);
+    match states[to].take() {
+        Some(mut before) => {
+            before.join(&state);
+            states[to] = Some(before);
+        }
+        None => states[to] = Some(state),
+    }
 }
 
 /// The same for an edge that may not be there.
@@ -41,7 +44,7 @@ fn deliver<D: Domain>(states: &mut [Option<AbsState<D>>], to: Option<u32>, state
 }
 
 /// The edges of a slot of an accepted program.
-fn edges_at(flow: &Flow, slots: &[Slot], place: usize) -> Successors
+pub(crate) fn edges_at(flow: &Flow, slots: &[Slot], place: usize) -> Successors
     requires place { place < length slots.now }
     requires program { IsProgram slots.now }
     requires accepted { flow_fault slots.now ≡ None }
@@ -57,18 +60,27 @@ fn edges_at(flow: &Flow, slots: &[Slot], place: usize) -> Successors
 fn deliver_target<D: Domain>(
     states: &mut [Option<AbsState<D>>],
     to: Option<u32>,
-    state: &AbsState<D>,
+    mut state: AbsState<D>,
     instruction: &Instruction,
 ) -> Result<(), RefusalNumber>
     requires { IfSome to (λ slot. slot < length states.old) }
-    ensures sent { OnOk result (states.new ≡ delivered_all ⟦<D as Domain>⟧ states.old (message_to to (transfer_in ⟦<D as Domain>⟧ context_size state.now true instruction.now))) }
-    ensures fault { IfErr result (λ number. transfer_in ⟦<D as Domain>⟧ context_size state.now true instruction.now ≡ Err number) }
+    ensures sent { OnOk result (states.new ≡ delivered_all ⟦<D as Domain>⟧ states.old (message_to to (transfer_in ⟦<D as Domain>⟧ context_size state true instruction.now))) }
+    ensures fault { IfErr result (λ number. transfer_in ⟦<D as Domain>⟧ context_size state true instruction.now ≡ Err number) }
 {
     if to.is_some() {
-        let target = state.transfer(CONTEXT_SIZE as u64, true, instruction)?;
-        deliver(states, to, target);
+        state.transfer(CONTEXT_SIZE as u64, true, instruction)?;
+        deliver(states, to, state);
     }
     Ok(())
+}
+
+/// A copy of a state.
+fn copied<D: Domain>(state: &AbsState<D>) -> AbsState<D>
+    ensures { result ≡ state.now }
+{
+    let mut copy = AbsState::entry();
+    copy.copy_from(state);
+    copy
 }
 
 /// Sends the abstract states after the instruction at a slot along its edges. A tail sends nothing.
@@ -78,6 +90,8 @@ fn pass<D: Domain>(
     flow: &Flow,
     place: usize,
 ) -> Result<(), RefusalNumber>
+    // A state over the domain is no larger than memory.
+    requires fits { StateFits D.row }
     requires place { place < length slots.now }
     requires states { length states.old ≡ length slots.now }
     requires program { IsProgram slots.now }
@@ -90,13 +104,15 @@ fn pass<D: Domain>(
     let Some(instruction) = instruction_at(slots, place) else {
         return Ok(());
     };
-    let Some(state) = states[place] else {
+    let Some(state) = &states[place] else {
         return Ok(());
     };
-    let next = state.transfer(CONTEXT_SIZE as u64, false, &instruction)?;
+    let target = copied(state);
+    let mut next = copied(state);
+    next.transfer(CONTEXT_SIZE as u64, false, &instruction)?;
     let edges = edges_at(flow, slots, place);
     deliver(states, edges.next, next);
-    deliver_target(states, edges.target, &state, &instruction)
+    deliver_target(states, edges.target, target, &instruction)
 }
 
 /// Passes over all slots in order, up to the first fault.
@@ -105,6 +121,7 @@ pub(crate) fn pass_all<D: Domain>(
     slots: &[Slot],
     flow: &Flow,
 ) -> Result<(), Refusal>
+    requires fits { StateFits D.row }
     requires entered { states.old ≡ entry_states ⟦<D as Domain>⟧ (length slots.now) }
     requires program { IsProgram slots.now }
     requires accepted { flow_fault slots.now ≡ None }

@@ -1,4 +1,6 @@
 //! Programs that are accepted, with their budgets, and programs that are refused.
+mod widths;
+
 use crate::{Refusal, analyse, default_classifier, verify};
 use abs_domain::Flat;
 use abs_regs::AbsVal;

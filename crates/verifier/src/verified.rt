@@ -1,20 +1,19 @@
 //! Verified programs.
-ghost use Rattle.std.specs.Prelude.{◌≡◌, ◌⊎◌, ℕ, ◌<◌, ◌≤◌, List, length, IsSome, IsOk, Some, None, IfOk, IfErr, OnOk};
+ghost use Rattle.std.specs.Prelude.{◌≡◌, ◌⊎◌, ℕ, ◌<◌, ◌≤◌, List, length, IsOk, Some, None, IfOk, IfErr, OnOk};
 ghost use Rattle.bpf_profile.specs.declared.slot.Slot.{Slot};
 ghost use Rattle.bpf_profile.specs.Limits.{most_slots, context_size};
-ghost use Rattle.bpf_profile.specs.Meaning.{instruction_at};
+ghost use Rattle.bpf_flat.specs.Flattened.{IsFlattened};
 ghost use Rattle.bpf_profile.specs.Safety.{IsSafe};
 ghost use Rattle.bpf_profile.specs.Spelling.{Spells};
 ghost use Rattle.bpf_profile.specs.Flow.{flow_fault, IsBudget};
 ghost use Rattle.verifier.specs.Analysis.{analysis_fault};
 ghost use Rattle.verifier.specs.Verifying.{out_of_memory, fault_of, IsAccepted, IsProgramRefused, IsRefused, IsVerification};
 
-use crate::analysis::analyse;
-use crate::decoded::decoded;
+use crate::analysis::analyse_awaited;
 use crate::refusal::Refusal;
 use abs_domain::Both;
 use bpf_decode::Program;
-use bpf_profile::Instruction;
+use bpf_flat::{Flat, flattened};
 use flow_check::check;
 use known_bits::KnownBits;
 use ranges::Range;
@@ -27,7 +26,7 @@ use std::marker::Model;
 pub struct Verified {
     program: Program,
     bytes: Vec<u8>,
-    code: Vec<Instruction>,
+    flat: Vec<Flat>,
     budget: u32,
 }
 
@@ -40,7 +39,7 @@ impl Model for Verified {
 
     ghost view = { λ v. record { slots = v.program; budget = v.budget } };
 
-    ghost invariant = { λ v. IsVerified v.program v.bytes.items v.code.items v.budget };
+    ghost invariant = { λ v. IsVerified v.program v.bytes.items v.flat.items v.budget };
 }
 
 impl Verified {
@@ -71,12 +70,16 @@ impl Verified {
         &self.program
     }
 
-    /// The instruction at a slot that is no tail. It was decoded when the program was verified.
-    pub fn instruction(&self, slot: usize) -> &Instruction
-        requires { IsSome (instruction_at self.now.slots slot) }
-        ensures { instruction_at self.now.slots slot ≡ Some result.now }
+    /// The program in the flat form, in which it is run: it was made when the program was verified.
+    pub fn flat(&self) -> &[Flat]
+        ensures flattened { IsFlattened self.now.slots result.now }
+        ensures safe { IsSafe context_size self.now.slots self.now.budget }
+        // No fault was found in its flow: each instruction leads forward, to another one.
+        ensures flow { flow_fault self.now.slots ≡ None }
+        ensures few_slots { length self.now.slots ≤ most_slots }
+        ensures few_steps { self.now.budget ≤ most_slots }
     {
-        &self.code[slot]
+        self.flat.as_slice()
     }
 }
 
@@ -91,7 +94,7 @@ fn checked(alloc: Global, program: &Program) -> Result<u32, Refusal>
     ensures slot { IfErr result (λ e. e.slot < most_slots) }
 {
     let flow = check(alloc, program)?;
-    analyse::<Both<Range, KnownBits>>(alloc, program, &flow)?;
+    analyse_awaited::<Both<Range, KnownBits>>(alloc, program, &flow)?;
     Ok(flow.budget())
 }
 
@@ -104,12 +107,12 @@ fn kept(alloc: Global, program: Program, bytes: &[u8], budget: u32) -> Result<Ve
     ensures program { IfOk result (λ v. v.slots ≡ program) }
     ensures budget { IfOk result (λ v. v.budget ≡ budget) }
 {
-    let code = decoded(alloc, program.slots())?;
+    let flat = flattened(alloc, program.slots())?;
     let bytes = bytes.to_vec(alloc)?;
     Ok(Verified {
         program,
         bytes,
-        code,
+        flat,
         budget,
     })
 }

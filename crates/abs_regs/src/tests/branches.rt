@@ -23,9 +23,9 @@ fn branched(
 ) -> Result<Pair, RefusalNumber> {
     let two = Register::new(2);
     let three = Register::new(3);
-    let registers = RegFile::entry().with(two, before.0).with(three, before.1);
-    let after = registers.branched(comparison, width, holds, two, right)?;
-    Ok((after.get(two), after.get(three)))
+    let mut registers = RegFile::entry().with(two, before.0).with(three, before.1);
+    registers.branch(comparison, width, holds, two, right)?;
+    Ok((registers.get(two), registers.get(three)))
 }
 
 /// The register of a number, as an operand.
@@ -115,8 +115,9 @@ fn other_registers_stay(rt: HostRuntime) -> Result<(), Fail> {
     let two = Register::new(2);
     let three = Register::new(3);
     let registers = RegFile::entry().with(two, ANY).with(three, EIGHT);
-    match registers.branched(Comparison::Equal, Width::Bits64, true, two, &register(3)) {
-        Ok(after) => {
+    let mut after = registers;
+    match after.branch(Comparison::Equal, Width::Bits64, true, two, &register(3)) {
+        Ok(()) => {
             for number in [0, 1, 4, 5, 6, 7, 8, 9, 10] {
                 assert!(rt; number < 11);
                 let other = Register::new(number);

@@ -44,6 +44,13 @@ fn one_register_is_set(rt: HostRuntime) -> Result<(), Fail> {
     Ok(())
 }
 
+/// The join of two states.
+fn joined(one: RegFile<Flat>, other: RegFile<Flat>) -> RegFile<Flat> {
+    let mut registers = one;
+    registers.join(&other);
+    registers
+}
+
 #[test]
 fn registers_are_joined_each_with_its_own(rt: HostRuntime) -> Result<(), Fail> {
     let one = RegFile::entry()
@@ -72,8 +79,8 @@ fn registers_are_joined_each_with_its_own(rt: HostRuntime) -> Result<(), Fail> {
         (9, UNSET),
         (10, UNSET),
     ] {
-        assert_eq!(rt; known(&rt, one.join(other), number), wanted, "R{number}");
-        assert_eq!(rt; known(&rt, other.join(one), number), wanted, "R{number}");
+        assert_eq!(rt; known(&rt, joined(one, other), number), wanted, "R{number}");
+        assert_eq!(rt; known(&rt, joined(other, one), number), wanted, "R{number}");
     }
     Ok(())
 }

@@ -1,5 +1,5 @@
 //! The end of a program (RFC 9669, section 4.3): its answer is a number of at most 2.
-use super::{ANY, CONTEXT, CONTEXT_SIZE, STACK, UNSET, makes, number, sample, with};
+use super::{ANY, CONTEXT, CONTEXT_SIZE, STACK, UNSET, copy, makes, number, sample, with};
 use abs_regs::AbsVal;
 use bpf_profile::{Instruction, Register};
 use refusals::RefusalNumber;
@@ -9,7 +9,7 @@ use std::test::*;
 fn answers_are_numbers_of_at_most_two(rt: HostRuntime) -> Result<(), Fail> {
     for answer in [0, 1, 2] {
         let state = with(&sample(), Register::new(0), number(answer));
-        let wanted = Ok(state);
+        let wanted = Ok(copy(&state));
         assert!(rt;
             makes(&state, CONTEXT_SIZE, &Instruction::Exit, &wanted),
             "{answer}"

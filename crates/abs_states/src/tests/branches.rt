@@ -1,10 +1,11 @@
 //! Conditional jumps (RFC 9669, section 4.3).
 use super::{
-    ANY, CONTEXT, CONTEXT_SIZE, EIGHT, STACK, UNSET, agree, makes, number, register, sample, with,
+    ANY, CONTEXT, CONTEXT_SIZE, EIGHT, STACK, UNSET, agree, makes, number, register, sample,
+    stored_before, transferred, with,
 };
 use crate::AbsState;
 use abs_domain::Flat;
-use abs_regs::{AbsVal, Address};
+use abs_regs::AbsVal;
 use bpf_profile::{Comparison, Instruction, Operand, Register, Size, Width};
 use refusals::RefusalNumber;
 use std::test::*;
@@ -24,16 +25,7 @@ fn branch(comparison: Comparison, width: Width, right: Operand) -> Instruction {
 fn compared(two: AbsVal<Flat>, three: AbsVal<Flat>) -> AbsState<Flat> {
     let state = with(&sample(), Register::new(2), two);
     let state = with(&state, Register::new(3), three);
-    match state
-        .stack
-        .store(Address::Stack(super::minus(8)), EIGHT, Size::DoubleWord)
-    {
-        Ok(stack) => AbsState {
-            registers: state.registers,
-            stack,
-        },
-        Err(_) => state,
-    }
+    stored_before(&state, 8, EIGHT, Size::DoubleWord)
 }
 
 #[test]
@@ -50,7 +42,7 @@ fn the_comparison_holds_at_the_target_alone(rt: HostRuntime) -> Result<(), Fail>
         let state = compared(before.0, before.1);
         let instruction = branch(comparison, width, register(3));
         for (taken, after) in [(true, target), (false, next)] {
-            let found = state.transfer(CONTEXT_SIZE, taken, &instruction);
+            let found = transferred(&state, CONTEXT_SIZE, taken, &instruction);
             let wanted = Ok(compared(after.0, after.1));
             assert!(rt; agree(&found, &wanted), "{comparison:?} {width:?} {taken}");
         }
@@ -69,7 +61,7 @@ fn a_comparison_with_a_word_tells_of_one_register(rt: HostRuntime) -> Result<(),
             let state = compared(ANY, three);
             let instruction = branch(comparison, Width::Bits64, Operand::Immediate(7));
             for (taken, two) in [(true, target), (false, next)] {
-                let found = state.transfer(CONTEXT_SIZE, taken, &instruction);
+                let found = transferred(&state, CONTEXT_SIZE, taken, &instruction);
                 let wanted = Ok(compared(two, three));
                 assert!(rt; agree(&found, &wanted), "{comparison:?} {three:?} {taken}");
             }

@@ -1,11 +1,12 @@
 //! Calls of helper functions (RFC 9669, section 4.3.1): the two that take a number, and what every call
 //! does to the registers.
 use super::{
-    ANY, CONTEXT, CONTEXT_SIZE, EIGHT, STACK, UNSET, before, makes, minus, number, sample, with,
+    ANY, CONTEXT, CONTEXT_SIZE, EIGHT, STACK, UNSET, before, makes, minus, number, sample,
+    stored_before, with,
 };
 use crate::AbsState;
 use abs_domain::Flat;
-use abs_regs::{AbsVal, Address};
+use abs_regs::AbsVal;
 use bpf_profile::{Instruction, Register, Size};
 use refusals::RefusalNumber;
 use std::test::*;
@@ -13,39 +14,23 @@ use std::test::*;
 /// A state with the arguments in R1 and R2, values in every other register but R0, and the eight bytes
 /// 16 bytes before the stack's end set.
 pub(super) fn called_with(one: AbsVal<Flat>, two: AbsVal<Flat>) -> AbsState<Flat> {
-    let state = sample();
-    AbsState {
-        registers: state
-            .registers
-            .with(Register::new(1), one)
-            .with(Register::new(2), two)
-            .with(Register::new(6), STACK)
-            .with(Register::new(7), CONTEXT)
-            .with(Register::new(8), EIGHT)
-            .with(Register::new(9), ANY),
-        stack: match state
-            .stack
-            .store(Address::Stack(minus(16)), EIGHT, Size::DoubleWord)
-        {
-            Ok(stack) => stack,
-            Err(_) => state.stack,
-        },
-    }
+    let mut state = sample();
+    state.registers.set(Register::new(1), one);
+    state.registers.set(Register::new(2), two);
+    state.registers.set(Register::new(6), STACK);
+    state.registers.set(Register::new(7), CONTEXT);
+    state.registers.set(Register::new(8), EIGHT);
+    state.registers.set(Register::new(9), ANY);
+    stored_before(&state, 16, EIGHT, Size::DoubleWord)
 }
 
 /// The registers that are wanted after a call of a helper whose answer isn't known: R1 to R5 are unset.
 pub(super) fn after_call(state: &AbsState<Flat>) -> AbsState<Flat> {
-    AbsState {
-        registers: state
-            .registers
-            .with(Register::new(0), ANY)
-            .with(Register::new(1), UNSET)
-            .with(Register::new(2), UNSET)
-            .with(Register::new(3), UNSET)
-            .with(Register::new(4), UNSET)
-            .with(Register::new(5), UNSET),
-        stack: state.stack,
+    let mut after = with(state, Register::new(0), ANY);
+    for number in 1..6u8 {
+        after = with(&after, Register::new(number), UNSET);
     }
+    after
 }
 
 #[test]

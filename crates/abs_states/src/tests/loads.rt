@@ -1,8 +1,11 @@
 //! Loads (RFC 9669, sections 5.1 and 5.2).
-use super::{ANY, CONTEXT, CONTEXT_SIZE, EIGHT, STACK, UNSET, before, makes, minus, sample, with};
+use super::{
+    ANY, CONTEXT, CONTEXT_SIZE, EIGHT, STACK, UNSET, before, makes, minus, sample, stored_before,
+    with,
+};
 use crate::AbsState;
 use abs_domain::Flat;
-use abs_regs::{AbsVal, Address};
+use abs_regs::AbsVal;
 use bpf_profile::{Extension, Instruction, Register, Size};
 use refusals::RefusalNumber;
 use std::test::*;
@@ -27,17 +30,8 @@ fn based(base: AbsVal<Flat>) -> AbsState<Flat> {
 /// a word of four bytes.
 fn stored(value: AbsVal<Flat>) -> AbsState<Flat> {
     let state = based(AbsVal::Stack(0));
-    let mut stack = state.stack;
-    if let Ok(written) = stack.store(Address::Stack(minus(8)), value, Size::DoubleWord) {
-        stack = written;
-    }
-    if let Ok(written) = stack.store(Address::Stack(minus(16)), EIGHT, Size::Word) {
-        stack = written;
-    }
-    AbsState {
-        registers: state.registers,
-        stack,
-    }
+    let state = stored_before(&state, 8, value, Size::DoubleWord);
+    stored_before(&state, 16, EIGHT, Size::Word)
 }
 
 #[test]

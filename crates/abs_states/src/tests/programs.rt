@@ -28,7 +28,7 @@ fn arithmetic(operation: Operation, destination: Register, operand: Operand) -> 
 fn followed(instructions: &[Instruction]) -> Found {
     let mut state = AbsState::entry();
     for instruction in instructions {
-        state = state.transfer(CONTEXT_SIZE, false, instruction)?;
+        state.transfer(CONTEXT_SIZE, false, instruction)?;
     }
     Ok(state)
 }

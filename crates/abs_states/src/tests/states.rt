@@ -1,11 +1,11 @@
 //! The state at the entry, and where two paths meet.
 use super::{
-    ANY, CONTEXT, EIGHT, STACK, UNSET, cell_of, number, registers_are_alike, sample, set_bytes_are,
-    stacks_are_alike,
+    ANY, CONTEXT, EIGHT, STACK, UNSET, cell_of, copy, number, registers_are_alike, sample,
+    set_bytes_are, stacks_are_alike, stored_before,
 };
 use crate::AbsState;
 use abs_domain::Flat;
-use abs_regs::{AbsVal, Address};
+use abs_regs::AbsVal;
 use bpf_profile::{Register, Size};
 use refusals::RefusalNumber;
 use stack_track::StackState;
@@ -13,17 +13,11 @@ use std::test::*;
 
 /// The same state with these values stored into cells 0 to 3.
 fn with_cells(state: &AbsState<Flat>, values: [AbsVal<Flat>; 4]) -> AbsState<Flat> {
-    let mut stack = state.stack;
+    let mut changed = copy(state);
     for i in 0..4usize {
-        let address = Address::Stack(super::minus(512 - 8 * i as u64));
-        if let Ok(stored) = stack.store(address, values[i], Size::DoubleWord) {
-            stack = stored;
-        }
+        changed = stored_before(&changed, 512 - 8 * i as u64, values[i], Size::DoubleWord);
     }
-    AbsState {
-        registers: state.registers,
-        stack,
-    }
+    changed
 }
 
 #[test]
@@ -69,11 +63,17 @@ fn second_path() -> AbsState<Flat> {
     with_cells(&state, [EIGHT, number(9), STACK, CONTEXT])
 }
 
+/// The join of two states.
+fn joined(mut state: AbsState<Flat>, other: &AbsState<Flat>) -> AbsState<Flat> {
+    state.join(other);
+    state
+}
+
 #[test]
 fn registers_and_stacks_are_joined(rt: HostRuntime) -> Result<(), Fail> {
     for joined in [
-        first_path().join(second_path()),
-        second_path().join(first_path()),
+        joined(first_path(), &second_path()),
+        joined(second_path(), &first_path()),
     ] {
         for number in 0..11u8 {
             let wanted = match number {
@@ -107,8 +107,13 @@ fn registers_and_stacks_are_joined(rt: HostRuntime) -> Result<(), Fail> {
 #[test]
 fn a_copy_is_the_same(rt: HostRuntime) -> Result<(), Fail> {
     let state = with_cells(&sample(), [EIGHT, ANY, STACK, CONTEXT]);
-    let copy = state.clone()?;
-    assert!(rt; registers_are_alike(&copy, &state));
-    assert!(rt; stacks_are_alike(&copy, &state));
+    let copied = copy(&state);
+    assert!(rt; registers_are_alike(&copied, &state));
+    assert!(rt; stacks_are_alike(&copied, &state));
+    // What was there before is forgotten.
+    let mut other = second_path();
+    other.copy_from(&AbsState::entry());
+    assert!(rt; registers_are_alike(&other, &AbsState::entry()));
+    assert!(rt; stacks_are_alike(&other, &AbsState::entry()));
     Ok(())
 }

@@ -1,7 +1,7 @@
 //! Stores (RFC 9669, section 5.1).
 use super::{
     ANY, CONTEXT, CONTEXT_SIZE, EIGHT, Found, STACK, UNSET, before, cell_of, makes, minus, number,
-    register, registers_are_alike, sample, set_bytes_are, with,
+    register, registers_are_alike, sample, set_bytes_are, transferred, with,
 };
 use crate::AbsState;
 use abs_domain::Flat;
@@ -30,7 +30,12 @@ fn based(base: AbsVal<Flat>, value: AbsVal<Flat>) -> AbsState<Flat> {
 
 /// What is known once R6 is stored.
 fn stored(state: &AbsState<Flat>, size: Size, offset: u64) -> Found {
-    state.transfer(CONTEXT_SIZE, false, &store(size, offset, register(6)))
+    transferred(
+        state,
+        CONTEXT_SIZE,
+        false,
+        &store(size, offset, register(6)),
+    )
 }
 
 #[test]
@@ -132,7 +137,7 @@ fn an_immediate_is_stored_whole(rt: HostRuntime) -> Result<(), Fail> {
     let state = based(STACK, UNSET);
     for word in [0, 7, u64::MAX] {
         let instruction = store(Size::DoubleWord, 8, Operand::Immediate(word));
-        match state.transfer(CONTEXT_SIZE, true, &instruction) {
+        match transferred(&state, CONTEXT_SIZE, true, &instruction) {
             Ok(after) => {
                 assert_eq!(rt; cell_of(&after, 63), Ok(number(word)));
                 assert!(rt; registers_are_alike(&after, &state));

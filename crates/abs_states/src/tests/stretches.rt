@@ -2,35 +2,25 @@
 use super::calls::{after_call, called_with};
 use super::{
     ANY, CONTEXT, CONTEXT_SIZE, EIGHT, Found, STACK, UNSET, agree, before, makes, minus, number,
-    registers_are_alike, sample, set_bytes_are,
+    registers_are_alike, sample, set_bytes_are, stored_before, transferred,
 };
 use crate::AbsState;
 use abs_domain::Flat;
-use abs_regs::{AbsVal, Address};
+use abs_regs::AbsVal;
 use bpf_profile::{Instruction, Register, Size};
 use refusals::RefusalNumber;
 use std::test::*;
 
 /// A state with nothing known of the stack but for a value in the cell 16 bytes before its end.
 fn kept(value: AbsVal<Flat>, one: AbsVal<Flat>, two: AbsVal<Flat>) -> AbsState<Flat> {
-    let entry = AbsState::entry();
-    AbsState {
-        registers: entry
-            .registers
-            .with(Register::new(1), one)
-            .with(Register::new(2), two),
-        stack: match entry
-            .stack
-            .store(Address::Stack(minus(16)), value, Size::DoubleWord)
-        {
-            Ok(stack) => stack,
-            Err(_) => entry.stack,
-        },
-    }
+    let mut state = AbsState::entry();
+    state.registers.set(Register::new(1), one);
+    state.registers.set(Register::new(2), two);
+    stored_before(&state, 16, value, Size::DoubleWord)
 }
 
 fn call(state: &AbsState<Flat>, helper: u32) -> Found {
-    state.transfer(CONTEXT_SIZE, false, &Instruction::Call { helper })
+    transferred(state, CONTEXT_SIZE, false, &Instruction::Call { helper })
 }
 
 #[test]
@@ -178,13 +168,9 @@ fn what_helper_3_wrote_helper_4_reads(rt: HostRuntime) -> Result<(), Fail> {
     ] {
         match call(&called_with(before(40), number(10)), 3) {
             Ok(after) => {
-                let state = AbsState {
-                    registers: after
-                        .registers
-                        .with(Register::new(1), before(place))
-                        .with(Register::new(2), number(count)),
-                    stack: after.stack,
-                };
+                let mut state = after;
+                state.registers.set(Register::new(1), before(place));
+                state.registers.set(Register::new(2), number(count));
                 let wanted = if are_set {
                     Ok(after_call(&state))
                 } else {

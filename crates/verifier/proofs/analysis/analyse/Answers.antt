@@ -14,10 +14,13 @@ pass_all-requires g c =
     let all = c.slots-slots.ensures.all in (
       c.requires.fits,
       (
-        c.deref_mut.ensures.value ∙ c.in_ok-states.ensures,
+        c.requires.fits,
         (
-          subst IsProgram (sym all) c.slots-slots.ensures.program,
-          (ap flow_fault all ∙ c.requires.accepted, subst (λ (slots : List Slot). IsFlowOf slots c.args.flow.now.edges) (sym all) (is_flow_of c.args.program.now c.args.flow.now.edges c.requires.flow)),
+          c.deref_mut.ensures.value ∙ c.in_ok-states.ensures,
+          (
+            subst IsProgram (sym all) c.slots-slots.ensures.program,
+            (ap flow_fault all ∙ c.requires.accepted, subst (λ (slots : List Slot). IsFlowOf slots c.args.flow.now.edges) (sym all) (is_flow_of c.args.program.now c.args.flow.now.edges c.requires.flow)),
+          ),
         ),
       ),
     )

@@ -1,6 +1,0 @@
-use Rattle.abs_regs.proofs.Joins.{JoinedTo}
-use Rattle.abs_regs.specs.Values.{joined_value}
-use Rattle.abs_regs.proofs.registers.joined_arrays.Given as goal
-
-abbrev pub invariant-loop-i : goal.invariant-loop-i
-invariant-loop-i g l = JoinedTo (joined_value g.D.Domain) l.fn.one l.fn.other l.values l.i

@@ -1,0 +1,12 @@
+use Rattle.std.proofs.Common.{length}
+use Rattle.std.proofs.lemmas.List.{take-replicate}
+use Rattle.flow_check.proofs.EdgeKinds.{are_few}
+use Rattle.flow_check.proofs.flow.routes_of_many.Goals as goal
+use Rattle.bpf_profile.specs.Limits.{most_slots}
+
+pub follow_all-requires-clause-unfound : goal.follow_all-requires-clause-unfound
+follow_all-requires-clause-unfound c = take-replicate (length c.args.slots.now) most_slots 0 c.requires.program.few
+
+pub invariant_of-result : goal.invariant_of-result
+invariant_of-result c =
+    are_few c.args.slots.now (record { program = c.requires.program; faultless = c.requires.accepted }) c.follow_all.new.edges.items c.in_ok-budget.budget c.in_ok-budget.ensures.kinds c.in_ok-budget.ensures.budget

@@ -1,0 +1,14 @@
+use Rattle.std.proofs.Common.{Option, None, sym, ◌∙◌}
+use Rattle.verifier.proofs.Known.{get_or-default}
+use Rattle.verifier.proofs.Taken.{joined_in, put_in}
+use Rattle.verifier.proofs.passes.join_at.Goals as goal
+
+pub returns-in-Some : goal.returns-in-Some
+returns-in-Some g c =
+    joined_in g.D.Domain c.args.states.now c.args.to c.take.new.self c.in-Some.before c.join.new.self c.args.state
+    (get_or-default c.args.states.now c.args.to None _ c.requires ∙ (sym c.take.ensures.value ∙ c.in-Some.is)) c.join.ensures
+
+pub returns-in-None : goal.returns-in-None
+returns-in-None g c =
+    put_in g.D.Domain c.args.states.now c.args.to c.take.new.self c.args.state
+    (get_or-default c.args.states.now c.args.to None _ c.requires ∙ (sym c.take.ensures.value ∙ c.in-None.is))
