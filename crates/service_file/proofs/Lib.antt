@@ -1,3 +1,4 @@
+pub mod Counts
 pub mod KnownKeys
 pub mod Named
 pub mod Settling

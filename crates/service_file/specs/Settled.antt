@@ -1,5 +1,5 @@
 -- Services that are ready to open, and when there are none.
-use Rattle.std.specs.Prelude.{◌≡◌, ◌⊎◌, ℕ, List, [], ◌∷◌, Option, Some, None, string_bytes, ⊤}
+use Rattle.std.specs.Prelude.{◌≡◌, ◌⊎◌, ℕ, List, [], ◌∷◌, length, Option, Some, None, string_bytes, true, ⊤}
 use Rattle.std.specs.Net.Grammar.{IsSocketText}
 use Rattle.std.specs.declared.net.socket_addr.SocketAddr.{SocketAddr}
 use Rattle.bpf_profile.specs.Spelling.{Fault}
@@ -7,7 +7,7 @@ use Rattle.verifier.specs.DefaultClassifier.{default_classifier_bytes}
 use Rattle.verifier.specs.Verifying.{IsVerification, IsRefused}
 use Rattle.service_file.specs.declared.settings.ServiceSettings.{ServiceSettings}
 use Rattle.service_file.specs.declared.settings.Settings.{Settings}
-use Rattle.service_file.specs.Files.{ServiceData, FileData, file_in}
+use Rattle.service_file.specs.Files.{ServiceData, FileData, file_in, is_count}
 
 -- the default classifier where the file has no program
 abbrev pub bytes_of : Option (List ℕ) → List ℕ
@@ -46,3 +46,7 @@ CannotSettle file = ((address : SocketAddr) → IsSocketText file.listen address
 abbrev pub IsRead : List ℕ → Option Settings → Type 0
 IsRead text None = (file : FileData) → file_in text ≡ Some file → CannotSettle file
 IsRead text (Some settings) = (file : FileData) × (file_in text ≡ Some file) × AreSettings settings file
+
+-- 1 to 64 workers, and 1 to 64 services
+abbrev pub HasCounts : Settings → Type 0
+HasCounts settings = (is_count settings.workers ≡ true) × (is_count (length settings.services.items) ≡ true)

@@ -3,7 +3,7 @@ ghost use Rattle.std.specs.Prelude.{◌≡◌, map, ◌∷◌, [], None, option_
 ghost use Rattle.bpf_profile.specs.Spelling.{Fault};
 ghost use Rattle.verifier.specs.Verifying.{IsVerification, IsRefused, fault_of, out_of_memory};
 ghost use Rattle.service_file.specs.Parts.{service_data, file_data};
-ghost use Rattle.service_file.specs.Settled.{bytes_of, IsService, AreServices, HasRefusal, AreSettings, CannotSettle, IsRead};
+ghost use Rattle.service_file.specs.Settled.{bytes_of, IsService, AreServices, HasRefusal, AreSettings, CannotSettle, IsRead, HasCounts};
 
 use crate::file::{FilePart, file_in};
 use crate::services::ServicePart;
@@ -126,6 +126,8 @@ pub fn read_settings(alloc: Global, text: &[u8]) -> Result<Option<Settings>, All
     // What is answered are the settings of the file that the text is; None only where the text is no
     // such file, its address is none, or a program in it is refused.
     ensures read { IfOk result (IsRead text.now) }
+    // There are 1 to 64 workers, and as many services.
+    ensures counts { IfOk result (λ found. IfSome found HasCounts) }
 {
     match file_in(alloc, text)? {
         Some(part) => settled(alloc, part),

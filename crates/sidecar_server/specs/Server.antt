@@ -13,7 +13,7 @@ use Rattle.http_front.specs.declared.books.Books.{Books}
 use Rattle.http_front.specs.Named.{holds_in, IsAskedOf}
 use Rattle.sidecar_server.specs.declared.serving.Status.{Status}
 use Rattle.sidecar_server.specs.declared.serving.Status.TheVariants as status
-use Rattle.sidecar_server.specs.Connections.{HasServed}
+use Rattle.http_pool.specs.Connections.{HasServed}
 use Rattle.sidecar_server.specs.Opened.{AreOpened}
 
 -- the line that is printed once the server listens

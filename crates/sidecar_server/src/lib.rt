@@ -3,12 +3,10 @@
 #![tactic(auto)]
 
 mod clock;
-mod connections;
 mod opening;
 mod serving;
 #[cfg(test)]
 mod tests;
 
 pub use clock::SystemClock;
-pub use connections::serve_connections;
 pub use serving::{Status, serve_file, serve_path};

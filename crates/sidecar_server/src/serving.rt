@@ -3,10 +3,10 @@ ghost use Rattle.std.specs.Prelude.{◌≡◌, IfErr, OnOk};
 ghost use Rattle.std.specs.Io.KnownBytes.{Appends};
 ghost use Rattle.sidecar_server.specs.Server.{refused_line, IsFileRefused, IsRefused, IsFailed, IsCause, IsServedBy, HasServedFile, status_of, code_of};
 
-use crate::connections::serve_connections;
 use crate::opening::open;
 use counted_io::Counted;
 use http_front::Clock;
+use http_pool::serve_connections;
 use refusals::{RefusalNumber, RefusalText};
 use service_file::{Settings, read_settings};
 use std::alloc::Global;

@@ -1,4 +1,4 @@
--- What becomes of services and of the clock while connections are served, one after another.
+-- What becomes of services and of a clock while connections are served, one after another.
 use Rattle.std.specs.Prelude.{◌≡◌, ℕ, List, [], ◌∷◌, Option, Bool}
 use Rattle.service.specs.Asked.{RequestData, ResponseData}
 use Rattle.http_serving.specs.declared.ended.Ended.{Ended}

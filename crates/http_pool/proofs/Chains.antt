@@ -4,7 +4,7 @@ use Rattle.service.specs.Asked.{RequestData, ResponseData}
 use Rattle.http_serving.specs.declared.ended.Ended.{Ended}
 use Rattle.http_serving.specs.Serving.{IsServed}
 use Rattle.http_front.specs.Answered.{fault_text, IsAnswered}
-use Rattle.sidecar_server.specs.Connections.{Connection, AreConnectionsServed, HasServed}
+use Rattle.http_pool.specs.Connections.{Connection, AreConnectionsServed, HasServed}
 
 module _ {S C : Type 0} (holds : S → List ℕ → Bool) (answers : S → List ℕ → ℕ → RequestData → ResponseData → S → Type 0) (ticks : C → ℕ → C → Type 0) where
   pub none_served : (state : S) (clock : C) → HasServed holds answers ticks state clock state clock

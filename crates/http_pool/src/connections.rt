@@ -1,6 +1,5 @@
-//! Serving connections, one after another.
-ghost use Rattle.std.specs.Prelude.{◌≡◌, ◌≢◌};
-ghost use Rattle.sidecar_server.specs.Connections.{HasServed};
+//! One connection.
+ghost use Rattle.http_pool.specs.Connections.{HasServed};
 
 use counted_io::Counted;
 use http_front::{Answerer, Clock, serve};
@@ -16,6 +15,17 @@ use std::time::Duration;
 /// keep idle connections open for, so that mostly the client closes first.
 const MOST_SILENT_SECONDS: u64 = 75;
 
+/// The next connection. One that was given up before it was accepted is passed over.
+pub(crate) fn next_connection(listener: &TcpListener) -> io::Result<TcpStream> {
+    for stream in listener.incoming() {
+        match stream {
+            Err(error) if error.kind() == ErrorKind::ConnectionAborted => {}
+            accepted => return accepted,
+        }
+    }
+    Err(io::Error::from(ErrorKind::ConnectionAborted))
+}
+
 /// Gives a connection its time-outs, and has answers sent at once (TCP_NODELAY).
 fn prepare(stream: &TcpStream) -> io::Result<()> {
     let silence = Duration::from_secs(MOST_SILENT_SECONDS);
@@ -25,7 +35,7 @@ fn prepare(stream: &TcpStream) -> io::Result<()> {
 }
 
 /// Serves a connection. One that can't be given its time-outs is closed.
-fn serve_stream<A: Answerer, C: Clock>(
+pub(crate) fn serve_stream<A: Answerer, C: Clock>(
     rt: &impl Wait,
     alloc: Global,
     stream: &TcpStream,
@@ -40,32 +50,4 @@ fn serve_stream<A: Answerer, C: Clock>(
     let mut reader = Counted::new(stream);
     let mut writer = Counted::new(stream);
     let _ended = serve(rt, alloc, &mut reader, &mut writer, answerer, clock);
-}
-
-/// Serves so many connections of a listener, one after another; with 0, without end. How a connection ends
-/// ends nothing else. A connection that was given up before it was accepted isn't counted; where accepting
-/// fails for another reason, serving ends.
-pub fn serve_connections<A: Answerer, C: Clock>(
-    rt: &impl Wait,
-    alloc: Global,
-    listener: &TcpListener,
-    connections: u64,
-    answerer: &mut A,
-    clock: &mut C,
-)
-    // The state after is the one that serving some connections leaves, each as `http_front::serve` says.
-    ensures { HasServed A.holds A.answers C.ticks answerer.old clock.old answerer.new clock.new }
-{
-    let mut served: u64 = 0;
-    'connections: for stream in listener.incoming() {
-        match stream {
-            Ok(stream) => serve_stream(rt, alloc, &stream, answerer, clock),
-            Err(error) if error.kind() == ErrorKind::ConnectionAborted => continue,
-            Err(_) => return,
-        }
-        served = served.saturating_add(1);
-        if served == connections {
-            return;
-        }
-    }
 }

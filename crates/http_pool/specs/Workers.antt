@@ -1,0 +1,25 @@
+-- What becomes of workers, each of which serves connections beside the others.
+use Rattle.std.specs.Prelude.{◌==◌, ◌||◌, nat_lt, ℕ, List, [], ◌∷◌, Bool, ⊤}
+use Rattle.service.specs.Asked.{RequestData, ResponseData}
+use Rattle.http_pool.specs.declared.workers.Worker.{Worker}
+use Rattle.http_pool.specs.Connections.{HasServed}
+
+-- how many workers serve at most
+abbrev pub most_workers : ℕ
+most_workers = 64
+
+-- whether the connection of this number, from 0 on, is one of so many; 0 sets no limit
+abbrev pub is_left : ℕ → ℕ → Bool
+is_left connections number = (connections == 0) || nat_lt number connections
+
+-- holds tells which services an answerer has; answers relates an answerer, a service, a moment and what is asked to the response and the answerer after it; ticks relates a clock to the moment that it reads and the clock after it
+module _ {S C : Type 0} (holds : S → List ℕ → Bool) (answers : S → List ℕ → ℕ → RequestData → ResponseData → S → Type 0) (ticks : C → ℕ → C → Type 0) where
+  -- some connections were served by a worker
+  abbrev pub HasWorked : Worker S C → Worker S C → Type 0
+  HasWorked worker after = HasServed holds answers ticks worker.answerer worker.clock after.answerer after.clock
+
+  -- worker by worker: as many come back, in their order
+  abbrev pub HaveWorked : List (Worker S C) → List (Worker S C) → Type 0
+  HaveWorked [] [] = ⊤
+  HaveWorked (worker ∷ workers) (after ∷ later) = HasWorked worker after × HaveWorked workers later
+  HaveWorked workers other = ⊥
