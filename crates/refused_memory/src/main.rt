@@ -1,16 +1,21 @@
 //! Calls a book in every way that may want memory. A call that is refused for want of it must change
 //! nothing, and the same call given again must answer as though it had never been refused. So what is
 //! printed is the same whichever single request for memory is refused, but for the last line, which
-//! counts the refusals. `checks/refused-memory` refuses each request in turn.
+//! counts the refusals.
+//!
+//! The input is a number. So many requests for memory come before all others and do nothing, so that one
+//! build of the program, of which always the same request is refused, can have each of the others refused:
+//! `checks/refused-memory` does that.
 #![tactic(auto)]
 
 use book::{Book, Config, ConfigParts, Entry, Event, Reply, State};
 use bpf_run::judge;
 use helpers::Record;
+use http_messages::decimal;
 use refusals::RefusalNumber;
 use std::alloc::{AllocError, Global};
 use std::io;
-use std::io::Write;
+use std::io::{Read, Write};
 use std::sync::Arc;
 use verifier::{Verified, default_classifier, verify};
 
@@ -218,9 +223,28 @@ fn show(entries: &[Entry], out: &mut impl Write) -> io::Result<()> {
     Ok(())
 }
 
+/// The number that the input is.
+fn number(input: &mut impl Read) -> io::Result<u64> {
+    let mut digits = [0; 20];
+    let size = input.read(&mut digits)?;
+    Ok(decimal(digits.get(..size).unwrap_or(&[])).unwrap_or(0))
+}
+
+/// Takes memory so many times, and gives it back.
+fn take_and_give(refusals: &mut Refusals, alloc: Global, times: u64) {
+    for number in 0..times {
+        let mut taken = Vec::new(alloc);
+        if taken.push(number).is_err() {
+            refusals.count();
+        }
+    }
+}
+
 fn main(rt: HostRuntime) -> io::Result<()> {
     let mut out = rt.stdout();
     let mut refusals = Refusals(0);
+    let times = number(&mut rt.stdin())?;
+    take_and_give(&mut refusals, rt.alloc(), times);
     let mut book = opened(&mut refusals, rt.alloc())?;
     let mut moment = 1000u64;
     for call in CALLS {
