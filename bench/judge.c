@@ -1,6 +1,8 @@
-/* Nanoseconds a judged record, for the default classifier. */
+/* What a judged record takes, for the default classifier. Without arguments it prints nanoseconds. With
+   the number ROUNDS it judges so many rounds and prints nothing, for a count of its instructions. */
 #include <stdint.h>
 #include <stdio.h>
+#include <stdlib.h>
 #include <time.h>
 
 /* Judges 256 records in each round, and answers how many were failures: 128 a round. */
@@ -12,7 +14,11 @@ static double seconds(void) {
     return (double)now.tv_sec + (double)now.tv_nsec * 1e-9;
 }
 
-int main(void) {
+int main(int count, char **words) {
+    if (count == 2) {
+        const uint32_t wanted = (uint32_t)atoi(words[1]);
+        return bench_exports_judge(wanted) != 128u * (uint64_t)wanted;
+    }
     const uint32_t rounds = 40000;
     double best = 0.0;
     for (int attempt = 0; attempt < 5; attempt++) {

@@ -1,6 +1,9 @@
-/* Nanoseconds a step of a run, for a program of 4,000 arithmetic instructions. */
+/* What a step of a run takes, for a program of 4,000 arithmetic instructions. Without arguments it prints
+   nanoseconds. With the number ROUNDS it runs so many rounds and prints nothing, for a count of its
+   instructions. */
 #include <stdint.h>
 #include <stdio.h>
+#include <stdlib.h>
 #include <time.h>
 
 /* Runs a program of so many slots in each round, and answers the sum of the steps: as many as there are
@@ -13,8 +16,12 @@ static double seconds(void) {
     return (double)now.tv_sec + (double)now.tv_nsec * 1e-9;
 }
 
-int main(void) {
+int main(int count, char **words) {
     const uint32_t slots = 4001;
+    if (count == 2) {
+        const uint32_t wanted = (uint32_t)atoi(words[1]);
+        return bench_exports_steps(slots, wanted) != (uint64_t)slots * wanted;
+    }
     const uint32_t rounds = 2000;
     double best = 0.0;
     for (int attempt = 0; attempt < 5; attempt++) {

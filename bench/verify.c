@@ -1,6 +1,9 @@
-/* Microseconds for verifying a program, for two numbers of slots. */
+/* What verifying a program takes, for two numbers of slots. Without arguments it prints microseconds. With
+   the numbers SLOTS ROUNDS it verifies so many rounds and prints nothing, for a count of its
+   instructions. */
 #include <stdint.h>
 #include <stdio.h>
+#include <stdlib.h>
 #include <time.h>
 
 /* Verifies a program of so many slots in each round, and answers the sum of the budgets: as many as
@@ -31,7 +34,12 @@ static double best_verify(uint32_t slots, uint32_t rounds) {
     return best / rounds;
 }
 
-int main(void) {
+int main(int count, char **words) {
+    if (count == 3) {
+        const uint32_t slots = (uint32_t)atoi(words[1]);
+        const uint32_t rounds = (uint32_t)atoi(words[2]);
+        return bench_exports_verify(slots, rounds) != (uint64_t)slots * rounds;
+    }
     const uint32_t sizes[] = {8, 4000};
     for (int i = 0; i < 2; i++) {
         const double taken = best_verify(sizes[i], 4000u * 500u / sizes[i]);
