@@ -1,0 +1,5 @@
+pub mod Counting
+pub mod FlatSending
+pub mod Places
+pub mod Sending
+pub mod Showing

@@ -1,0 +1,21 @@
+-- What contracts see of a desk, whose books are behind locks.
+use Rattle.std.specs.Prelude.{ℕ, ◌<◌, List, length}
+
+-- the names of its services, and how many seats it has given
+pub record DeskData : Type 0 where
+  pub services : List (List ℕ)
+  pub seats : ℕ
+
+abbrev pub desk_of : List (List ℕ) → ℕ → DeskData
+desk_of services seats = record { services = services; seats = seats }
+
+-- the service at this place is one of the desk's
+abbrev pub IsServiceOf : DeskData → ℕ → Type 0
+IsServiceOf desk service = service < length desk.services
+
+-- how many seats a desk gives at most, and how many services it has at most
+abbrev pub most_seats : ℕ
+most_seats = 128
+
+abbrev pub most_services : ℕ
+most_services = 64

@@ -1,0 +1,5 @@
+pub mod Seats
+pub mod Desks
+pub mod Kept
+pub mod AfterSome
+pub mod Closing

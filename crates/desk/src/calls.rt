@@ -1,0 +1,183 @@
+//! The calls of seats. Each holds the lock of its service for one call of its book.
+ghost use Rattle.std.specs.Prelude.{◌≡◌, ◌<◌, ◌-◌, ◌^◌};
+ghost use Rattle.std.specs.Arc.{arc_value};
+ghost use Rattle.book.specs.Seen.{seen};
+ghost use Rattle.service_profile.specs.Answers.{map_ok};
+ghost use Rattle.service_profile.specs.Events.{acquires, releases, installs, moves, resets};
+ghost use Rattle.desk.specs.Desks.{IsServiceOf};
+ghost use Rattle.desk.specs.Seats.{after_call};
+ghost use Rattle.desk.specs.AfterSome.{IsReplied, IsFound, IsShown, IsPageFrom, IsCutOff};
+
+use crate::desks::{Desk, ServiceId};
+use crate::seats::Seat;
+use book::{Entry, Event, Reading, Reply, State};
+use refusals::RefusalNumber;
+use std::sync::ledger::Ledger;
+use std::sync::{Arc, Wait};
+use verifier::Verified;
+
+impl<L: Ledger, M: Ledger> Desk<L, M> {
+    /// An event of a seat on a service.
+    pub(crate) fn apply<R: Wait>(
+        &self,
+        rt: &R,
+        seat: &mut Seat<L>,
+        service: ServiceId,
+        moment: u64,
+        event: Event,
+    ) -> Reply
+        requires held { IsServiceOf self.now service }
+        requires room { seat.old.count < 2 ^ 64 - 8 }
+        ensures replied { IsReplied seat.old.number moment (seen event) result }
+        ensures counted { seat.new ≡ after_call seat.old result }
+    {
+        let mut kept = self.services[service.place()].kept.lock(rt);
+        kept.apply(rt, &self.tally, seat, moment, event)
+    }
+
+    /// The program that judges under a ticket of a service.
+    pub(crate) fn look<R: Wait>(
+        &self,
+        rt: &R,
+        service: ServiceId,
+        ticket: u64,
+    ) -> Result<Arc<Verified>, RefusalNumber>
+        requires held { IsServiceOf self.now service }
+        ensures { IsFound ticket (map_ok arc_value result) }
+    {
+        let kept = self.services[service.place()].kept.lock(rt);
+        kept.look(ticket)
+    }
+
+    /// Asks for a ticket, before a call.
+    pub fn acquire<R: Wait>(
+        &self,
+        rt: &R,
+        seat: &mut Seat<L>,
+        service: ServiceId,
+        moment: u64,
+    ) -> Reply
+        requires held { IsServiceOf self.now service }
+        requires room { seat.old.count < 2 ^ 64 - 8 }
+        ensures replied { IsReplied seat.old.number moment acquires result }
+        ensures counted { seat.new ≡ after_call seat.old result }
+    {
+        self.apply(rt, seat, service, moment, Event::Acquire)
+    }
+
+    /// Ends a ticket without an outcome.
+    pub fn release<R: Wait>(
+        &self,
+        rt: &R,
+        seat: &mut Seat<L>,
+        service: ServiceId,
+        moment: u64,
+        ticket: u64,
+    ) -> Reply
+        requires held { IsServiceOf self.now service }
+        requires room { seat.old.count < 2 ^ 64 - 8 }
+        ensures replied { IsReplied seat.old.number moment (releases ticket) result }
+        ensures counted { seat.new ≡ after_call seat.old result }
+    {
+        self.apply(rt, seat, service, moment, Event::Release(ticket))
+    }
+
+    /// Makes a program the current version.
+    pub fn install<R: Wait>(
+        &self,
+        rt: &R,
+        seat: &mut Seat<L>,
+        service: ServiceId,
+        moment: u64,
+        program: Arc<Verified>,
+    ) -> Reply
+        requires held { IsServiceOf self.now service }
+        requires room { seat.old.count < 2 ^ 64 - 8 }
+        ensures replied { IsReplied seat.old.number moment (installs (arc_value program)) result }
+        ensures counted { seat.new ≡ after_call seat.old result }
+    {
+        self.apply(rt, seat, service, moment, Event::Install(program))
+    }
+
+    /// Moves the breaker to a state.
+    pub fn move_to<R: Wait>(
+        &self,
+        rt: &R,
+        seat: &mut Seat<L>,
+        service: ServiceId,
+        moment: u64,
+        state: State,
+    ) -> Reply
+        requires held { IsServiceOf self.now service }
+        requires room { seat.old.count < 2 ^ 64 - 8 }
+        ensures replied { IsReplied seat.old.number moment (moves state) result }
+        ensures counted { seat.new ≡ after_call seat.old result }
+    {
+        self.apply(rt, seat, service, moment, Event::Move(state))
+    }
+
+    /// Moves the breaker to CLOSED.
+    pub fn reset<R: Wait>(
+        &self,
+        rt: &R,
+        seat: &mut Seat<L>,
+        service: ServiceId,
+        moment: u64,
+    ) -> Reply
+        requires held { IsServiceOf self.now service }
+        requires room { seat.old.count < 2 ^ 64 - 8 }
+        ensures replied { IsReplied seat.old.number moment resets result }
+        ensures counted { seat.new ≡ after_call seat.old result }
+    {
+        self.apply(rt, seat, service, moment, Event::Reset)
+    }
+
+    /// How the service stands at a moment, which is raised for this answer alone.
+    pub fn read<R: Wait>(
+        &self,
+        rt: &R,
+        seat: &mut Seat<L>,
+        service: ServiceId,
+        moment: u64,
+    ) -> Reading
+        requires held { IsServiceOf self.now service }
+        ensures shown { IsShown moment result }
+        ensures uncounted { seat.new ≡ seat.old }
+    {
+        let kept = self.services[service.place()].kept.lock(rt);
+        kept.read(moment)
+    }
+
+    /// Copies of at most 100 entries of the journal, from a number on.
+    pub fn page<R: Wait>(
+        &self,
+        rt: &R,
+        seat: &mut Seat<L>,
+        service: ServiceId,
+        _moment: u64,
+        from: u64,
+    ) -> Result<Vec<Entry>, RefusalNumber>
+        requires held { IsServiceOf self.now service }
+        ensures page { IsPageFrom from (map_ok (λ entries. entries.items) result) }
+        ensures uncounted { seat.new ≡ seat.old }
+    {
+        let kept = self.services[service.place()].kept.lock(rt);
+        kept.page(from)
+    }
+
+    /// Hands out all entries of the journal, which opens anew. Numbers go on, and so does what is counted.
+    pub fn cut<R: Wait>(
+        &self,
+        rt: &R,
+        seat: &mut Seat<L>,
+        service: ServiceId,
+        _moment: u64,
+    ) -> Result<Vec<Entry>, RefusalNumber>
+        requires held { IsServiceOf self.now service }
+        ensures cut { IsCutOff (map_ok (λ entries. entries.items) result) }
+        ensures uncounted { seat.new ≡ seat.old }
+    {
+        let mut kept = self.services[service.place()].kept.lock(rt);
+        kept.cut()
+    }
+}

@@ -1,0 +1,21 @@
+//! Services that many threads ask at once. Each service's book lies behind a lock of its own, and what all
+//! callers count together is just what all journals have.
+#![tactic(auto)]
+
+mod calls;
+mod closing;
+mod desks;
+#[cfg(test)]
+mod fixtures;
+mod kept;
+mod reports;
+#[cfg(test)]
+mod row_tests;
+#[cfg(test)]
+mod seat_tests;
+mod seats;
+
+pub use closing::Unclosed;
+pub use desks::{Desk, ServiceId};
+pub use reports::Gate;
+pub use seats::Seat;
