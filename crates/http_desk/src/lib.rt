@@ -1,0 +1,9 @@
+//! Services behind a desk, as an answerer over HTTP: each worker asks by a seat of its own.
+#![tactic(auto)]
+
+mod asking;
+mod seated;
+#[cfg(test)]
+mod tests;
+
+pub use seated::{OpenGate, SeatedAnswerer};
