@@ -80,6 +80,13 @@ pub(crate) fn moved(state: State, period: u64) -> Reply {
     Reply::Moved { state, period }
 }
 
+/// One seat, at its desk: what a thread takes along.
+#[derive(Drop)]
+pub(crate) struct Caller<'a, L: Ledger, M: Ledger> {
+    pub desk: &'a Desk<L, M>,
+    pub seat: Seat<L>,
+}
+
 /// Asks the service of a name; a report passes the gate.
 pub(crate) fn ask<L: Ledger, M: Ledger, R: Wait + Abort, G: Gate>(
     rt: &R,
@@ -187,6 +194,34 @@ pub(crate) fn play_at_a_desk<P: Play, R: Threads + Wait + Abort + Sync>(
     )
 }
 
+/// A new desk with services of these names, of one configuration, with the default classifier.
+pub(crate) fn open_desk<L: Ledger, M: Ledger, R: Abort>(
+    rt: &R,
+    alloc: Global,
+    seats: Blank,
+    entries: Blank,
+    names: &[&str],
+    parts: ConfigParts,
+) -> Result<Desk<L, M>, Fail>
+    requires seats_name { seats.name ≡ L.name }
+    requires seats_parts { (seats.parts ≡ L.parts) × (L.parts ≡ 129) }
+    requires entries_name { entries.name ≡ M.name }
+    requires entries_parts { (entries.parts ≡ M.parts) × (M.parts ≡ 65) }
+{
+    let mut services = Vec::new(alloc);
+    for name in names {
+        let config = Config::new(parts).expect(rt, "parts in their ranges");
+        services.push((
+            String::from_str(alloc, name)?,
+            config,
+            program(rt, alloc, false),
+        ))?;
+    }
+    assert!(rt; services.len() <= 64);
+    let desk = Desk::<L, M>::open(alloc, seats, entries, services)?;
+    Ok(desk)
+}
+
 fn play_at<
     L: Ledger + Send + Sync,
     M: Ledger + Send + Sync,
@@ -206,16 +241,6 @@ fn play_at<
     requires entries_name { entries.name ≡ M.name }
     requires entries_parts { (entries.parts ≡ M.parts) × (M.parts ≡ 65) }
 {
-    let mut services = Vec::new(alloc);
-    for name in names {
-        let config = Config::new(parts).expect(rt, "parts in their ranges");
-        services.push((
-            String::from_str(alloc, name)?,
-            config,
-            program(rt, alloc, false),
-        ))?;
-    }
-    assert!(rt; services.len() <= 64);
-    let desk = Desk::<L, M>::open(alloc, seats, entries, services)?;
+    let desk = open_desk::<L, M, R>(rt, alloc, seats, entries, names, parts)?;
     play.play(rt, alloc, desk)
 }

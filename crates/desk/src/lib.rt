@@ -7,6 +7,8 @@ mod closing;
 mod desks;
 #[cfg(test)]
 mod fixtures;
+#[cfg(test)]
+mod gate_tests;
 mod kept;
 mod reports;
 #[cfg(test)]
@@ -14,6 +16,8 @@ mod row_tests;
 #[cfg(test)]
 mod seat_tests;
 mod seats;
+#[cfg(test)]
+mod thread_tests;
 
 pub use closing::Unclosed;
 pub use desks::{Desk, ServiceId};

@@ -3,12 +3,8 @@
 #![tactic(auto)]
 
 mod bodies;
-#[cfg(test)]
-mod body_tests;
 mod message;
 mod phrase;
-#[cfg(test)]
-mod tests;
 
 pub use bodies::body_asks;
 pub use message::{AnswerMessage, write_answer};

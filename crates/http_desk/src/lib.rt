@@ -3,7 +3,5 @@
 
 mod asking;
 mod seated;
-#[cfg(test)]
-mod tests;
 
 pub use seated::{OpenGate, SeatedAnswerer};

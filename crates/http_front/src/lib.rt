@@ -5,16 +5,8 @@ mod answerer;
 mod answering;
 mod asking;
 mod books;
-#[cfg(test)]
-mod failing_tests;
-#[cfg(test)]
-mod fixtures;
 mod front;
-#[cfg(test)]
-mod hostile_tests;
 mod serving;
-#[cfg(test)]
-mod tests;
 
 pub use answerer::Answerer;
 pub use books::{Books, NamedBook};

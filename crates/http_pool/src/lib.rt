@@ -2,8 +2,6 @@
 #![tactic(auto)]
 
 mod connections;
-#[cfg(test)]
-mod tests;
 mod workers;
 
 pub use workers::{Worker, pool, serve_connections};

@@ -7,8 +7,6 @@ mod input;
 mod output;
 mod responder;
 mod serving;
-#[cfg(test)]
-mod tests;
 
 pub use clock::Clock;
 pub use ended::Ended;

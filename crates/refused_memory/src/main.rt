@@ -1,261 +1,32 @@
-//! Calls a book in every way that may want memory. A call that is refused for want of it must change
-//! nothing, and the same call given again must answer as though it had never been refused. So what is
-//! printed is the same whichever single request for memory is refused, but for the last line, which
-//! counts the refusals.
+//! Calls that may want memory: of a book, over HTTP, and of the assembler and the verifier. What is refused
+//! for want of memory must change nothing, and is tried again. So what is printed is the same whichever
+//! single request for memory is refused, but for the last line, which counts the refusals that were met.
 //!
 //! The input is a number. So many requests for memory come before all others and do nothing, so that one
 //! build of the program, of which always the same request is refused, can have each of the others refused:
 //! `checks/refused-memory` does that.
 #![tactic(auto)]
 
-use book::{Book, Config, ConfigParts, Entry, Event, Reply, State};
-use bpf_run::judge;
-use helpers::Record;
-use http_messages::decimal;
-use refusals::RefusalNumber;
-use std::alloc::{AllocError, Global};
+mod calls;
+mod counting;
+mod messages;
+mod programs;
+
+use calls::ask_a_book;
+use counting::{Refusals, number, take_and_give};
+use messages::ask_over_http;
+use programs::verify_programs;
 use std::io;
-use std::io::{Read, Write};
-use std::sync::Arc;
-use verifier::{Verified, default_classifier, verify};
-
-/// How often a call is tried: once more than requests for memory are refused.
-const TRIES: u32 = 2;
-
-/// Each outcome is ignored.
-const IGNORING: [u8; 16] = [0xb7, 0, 0, 0, 2, 0, 0, 0, 0x95, 0, 0, 0, 0, 0, 0, 0];
-
-/// How many requests for memory were refused.
-#[derive(Drop)]
-struct Refusals(u32);
-
-impl Refusals {
-    fn count(&mut self) {
-        self.0 = self.0.saturating_add(1);
-    }
-}
-
-/// An event, before it has memory of its own.
-#[derive(Clone, Copy, Debug)]
-enum Call {
-    Acquire,
-    Finish(u64),
-    Release(u64),
-    Install,
-    Move(State),
-    Reset,
-}
-
-/// What the calls are, in their order.
-const CALLS: [Call; 12] = [
-    Call::Acquire,
-    Call::Acquire,
-    Call::Finish(1),
-    Call::Install,
-    Call::Acquire,
-    Call::Release(2),
-    Call::Finish(3),
-    Call::Finish(3),
-    Call::Move(State::ForcedOpen),
-    Call::Acquire,
-    Call::Reset,
-    Call::Release(9),
-];
-
-/// What is not as it should be ends the program.
-fn wrong() -> io::Error {
-    io::Error::from(io::ErrorKind::InvalidData)
-}
-
-/// The program of a ticket's version, or the refusal; one that wants memory is tried again.
-fn looked(
-    refusals: &mut Refusals,
-    book: &Book,
-    ticket: u64,
-) -> io::Result<Result<Arc<Verified>, RefusalNumber>> {
-    for _ in 0..TRIES {
-        match book.look(ticket) {
-            Err(RefusalNumber::ServiceOutOfMemory) => refusals.count(),
-            answer => return Ok(answer),
-        }
-    }
-    Err(wrong())
-}
-
-fn ignoring(alloc: Global) -> Result<Arc<Verified>, AllocError> {
-    match verify(alloc, &IGNORING) {
-        Ok(program) => Ok(Arc::new(alloc, program)?),
-        Err(_) => Err(AllocError),
-    }
-}
-
-/// The program that is installed; without memory it is made again.
-fn installed(refusals: &mut Refusals, alloc: Global) -> io::Result<Arc<Verified>> {
-    for _ in 0..TRIES {
-        match ignoring(alloc) {
-            Ok(program) => return Ok(program),
-            Err(_) => refusals.count(),
-        }
-    }
-    Err(wrong())
-}
-
-/// The event of a call, or the reply of the look before it.
-fn event(
-    refusals: &mut Refusals,
-    alloc: Global,
-    book: &Book,
-    call: Call,
-) -> io::Result<Result<Event, RefusalNumber>> {
-    Ok(match call {
-        Call::Acquire => Ok(Event::Acquire),
-        Call::Finish(ticket) => match looked(refusals, book, ticket)? {
-            Ok(program) => {
-                let Some(outcome) = Record::from_parts([0; 128], [0; 16], &[]) else {
-                    return Err(wrong());
-                };
-                Ok(Event::Finish(judge(program, outcome), ticket))
-            }
-            Err(number) => Err(number),
-        },
-        Call::Release(ticket) => Ok(Event::Release(ticket)),
-        Call::Install => Ok(Event::Install(installed(refusals, alloc)?)),
-        Call::Move(state) => Ok(Event::Move(state)),
-        Call::Reset => Ok(Event::Reset),
-    })
-}
-
-/// Whether the last entry, where there is one, was taken at a moment.
-fn last_at(book: &Book, moment: u64) -> bool {
-    match book.entries(book.last_number()).last() {
-        Some(entry) => entry.moment() == moment,
-        None => false,
-    }
-}
-
-/// The reply to a call at a moment. Where it is refused for want of memory, the readings are as before,
-/// and it is made again a millisecond earlier, which shows that the greatest moment is as before too.
-fn reply(
-    refusals: &mut Refusals,
-    alloc: Global,
-    book: &mut Book,
-    moment: u64,
-    call: Call,
-) -> io::Result<Reply> {
-    for earlier in 0..TRIES {
-        let at = moment.saturating_sub(u64::from(earlier));
-        let event = match event(refusals, alloc, book, call)? {
-            Ok(event) => event,
-            Err(number) => return Ok(Reply::Refused(number)),
-        };
-        let before = (book.read(0), book.last_number());
-        match book.apply(7, at, event) {
-            Reply::Refused(RefusalNumber::ServiceOutOfMemory) => {
-                refusals.count();
-                if (book.read(0), book.last_number()) != before {
-                    return Err(wrong());
-                }
-            }
-            reply => {
-                if !last_at(book, at) {
-                    return Err(wrong());
-                }
-                return Ok(reply);
-            }
-        }
-    }
-    Err(wrong())
-}
-
-/// A book with the default classifier, or nothing without memory.
-fn opening(alloc: Global, config: Config) -> Option<Book> {
-    let classifier = default_classifier(alloc).ok()?;
-    Book::open(alloc, config, classifier).ok()
-}
-
-fn opened(refusals: &mut Refusals, alloc: Global) -> io::Result<Book> {
-    let Ok(config) = Config::new(ConfigParts::DEFAULT) else {
-        return Err(wrong());
-    };
-    for _ in 0..TRIES {
-        match opening(alloc, config) {
-            Some(book) => return Ok(book),
-            None => refusals.count(),
-        }
-    }
-    Err(wrong())
-}
-
-/// A page of the journal; one that wants memory is tried again.
-fn page(refusals: &mut Refusals, book: &Book, from: u64) -> io::Result<Vec<Entry>> {
-    for _ in 0..TRIES {
-        match book.page(from) {
-            Ok(entries) => return Ok(entries),
-            Err(RefusalNumber::ServiceOutOfMemory) => refusals.count(),
-            Err(_) => return Err(wrong()),
-        }
-    }
-    Err(wrong())
-}
-
-/// What a cut hands out. Where it is refused for want of memory, nothing has changed.
-fn cut(refusals: &mut Refusals, book: &mut Book) -> io::Result<Vec<Entry>> {
-    for _ in 0..TRIES {
-        let before = (book.read(0), book.last_number(), book.entries(0).len());
-        match book.cut() {
-            Ok(entries) => return Ok(entries),
-            Err(RefusalNumber::ServiceOutOfMemory) => {
-                refusals.count();
-                if (book.read(0), book.last_number(), book.entries(0).len()) != before {
-                    return Err(wrong());
-                }
-            }
-            Err(_) => return Err(wrong()),
-        }
-    }
-    Err(wrong())
-}
-
-fn show(entries: &[Entry], out: &mut impl Write) -> io::Result<()> {
-    for entry in entries {
-        writeln!(out, "entry {} {:?}", entry.number(), entry.reply())?;
-    }
-    Ok(())
-}
-
-/// The number that the input is.
-fn number(input: &mut impl Read) -> io::Result<u64> {
-    let mut digits = [0; 20];
-    let size = input.read(&mut digits)?;
-    Ok(decimal(digits.get(..size).unwrap_or(&[])).unwrap_or(0))
-}
-
-/// Takes memory so many times, and gives it back.
-fn take_and_give(refusals: &mut Refusals, alloc: Global, times: u64) {
-    for number in 0..times {
-        let mut taken = Vec::new(alloc);
-        if taken.push(number).is_err() {
-            refusals.count();
-        }
-    }
-}
+use std::io::Write;
 
 fn main(rt: HostRuntime) -> io::Result<()> {
+    let alloc = rt.alloc();
     let mut out = rt.stdout();
     let mut refusals = Refusals(0);
     let times = number(&mut rt.stdin())?;
-    take_and_give(&mut refusals, rt.alloc(), times);
-    let mut book = opened(&mut refusals, rt.alloc())?;
-    let mut moment = 1000u64;
-    for call in CALLS {
-        moment = moment.saturating_add(1000);
-        let reply = reply(&mut refusals, rt.alloc(), &mut book, moment, call)?;
-        writeln!(out, "{call:?} {reply:?}")?;
-    }
-    show(page(&mut refusals, &book, 3)?.as_slice(), &mut out)?;
-    let handed_out = cut(&mut refusals, &mut book)?;
-    writeln!(out, "cut {}", handed_out.len())?;
-    show(handed_out.as_slice(), &mut out)?;
-    writeln!(out, "{:?}", book.read(0))?;
+    take_and_give(&mut refusals, alloc, times);
+    ask_a_book(&mut refusals, alloc, &mut out)?;
+    ask_over_http(&rt, &mut refusals, alloc, &mut out)?;
+    verify_programs(&mut refusals, alloc, &mut out)?;
     writeln!(out, "refused {}", refusals.0)
 }

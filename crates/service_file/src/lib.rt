@@ -7,7 +7,5 @@ mod keys;
 mod names;
 mod services;
 mod settings;
-#[cfg(test)]
-mod tests;
 
 pub use settings::{ServiceSettings, Settings, read_settings};

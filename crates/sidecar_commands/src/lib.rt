@@ -8,9 +8,5 @@ mod commands;
 mod hexadecimal;
 mod input;
 mod judging;
-#[cfg(test)]
-mod tests;
-#[cfg(test)]
-mod text_tests;
 
 pub use commands::{Status, command};

@@ -9,12 +9,9 @@ use Rattle.refusals.specs.declared.RefusalNumber.TheVariants as refusal
 use Rattle.refusals.specs.Texts.{refusal_text}
 use Rattle.service_file.specs.declared.settings.Settings.{Settings}
 use Rattle.service_file.specs.Settled.{IsRead}
-use Rattle.http_front.specs.declared.books.Books.{Books}
-use Rattle.http_front.specs.Named.{holds_in, IsAskedOf}
 use Rattle.sidecar_server.specs.declared.serving.Status.{Status}
 use Rattle.sidecar_server.specs.declared.serving.Status.TheVariants as status
-use Rattle.http_pool.specs.Connections.{HasServed}
-use Rattle.sidecar_server.specs.Opened.{AreOpened}
+use Rattle.sidecar_server.specs.Served.{HasServedBy}
 
 -- the line that is printed once the server listens
 abbrev pub listening_line : SocketAddr → List ℕ
@@ -51,24 +48,20 @@ abbrev pub IsCause : Status → ℕ → ℕ → Type 0
 IsCause status.WriteFailed before after = after ≡ one_more before
 IsCause other before after = after ≡ before
 
--- the services opened, the line of the address was printed, and connections were served
-abbrev pub HasServedOn : {C : Type 0} → (C → ℕ → C → Type 0) → Settings → C → C → Option (List ℕ) → Option (List ℕ) → Type 0
-HasServedOn ticks settings clock later before after =
-    (address : SocketAddr) × (opened : Books) × (served : Books)
-    × AreOpened settings.services.items opened.services.items
-    × HasServed (λ books service. holds_in books.services.items service) (λ old service moment wanted response new. IsAskedOf old.services.items service moment wanted response new.services.items) ticks opened clock served later
-    × Appends before after (listening_line address)
+-- the server listens: the line of the address that was bound was printed
+abbrev pub IsListening : Option (List ℕ) → Option (List ℕ) → Type 0
+IsListening before after = (address : SocketAddr) × Appends before after (listening_line address)
 
--- how serving with settings ended
-abbrev pub IsServedBy : {C : Type 0} → (C → ℕ → C → Type 0) → Settings → C → Status → C → Option (List ℕ) → Option (List ℕ) → Type 0
-IsServedBy ticks settings clock status.Done later before after = HasServedOn ticks settings clock later before after
-IsServedBy ticks settings clock (status.Refused number) later before after = (number ≡ refusal.Listen) × Appends before after (refused_line number)
-IsServedBy ticks settings clock other later before after = ⊤
+-- what serving with settings printed, by how it ended: the line of the address where it is done, or the refusal
+abbrev pub IsEnded : Status → Option (List ℕ) → Option (List ℕ) → Type 0
+IsEnded status.Done before after = IsListening before after
+IsEnded (status.Refused number) before after = (number ≡ refusal.Listen) × Appends before after (refused_line number)
+IsEnded other before after = ⊤
 
--- the same by the settings of a file's text
+-- the services of a file's text opened, the line was printed, and connections were served
 abbrev pub HasServedFile : {C : Type 0} → (C → ℕ → C → Type 0) → List ℕ → C → C → Option (List ℕ) → Option (List ℕ) → Type 0
 HasServedFile ticks text clock later before after =
-    (settings : Settings) × IsRead text (Some settings) × HasServedOn ticks settings clock later before after
+    (settings : Settings) × IsRead text (Some settings) × HasServedBy ticks settings clock later × IsListening before after
 
 abbrev pub code_of : Status → ℕ
 code_of status.Done = 0

@@ -7,8 +7,8 @@ use std::time::{SystemTime, UNIX_EPOCH};
 
 /// Tells the milliseconds since 1970-01-01 00:00 UTC that the system's clock reads. Where it can't be
 /// read, or reads a time before 1970 or past 2^64 ms, the last moment is told again, and 0 before the first.
-/// The system's clock may be set back, and then an earlier moment is told.
-#[derive(Drop)]
+/// The system's clock may be set back, and then an earlier moment is told. A copy keeps a last moment of its own.
+#[derive_where(Clone, Copy)]
 pub struct SystemClock<'a, T: time::Clock> {
     time: &'a T,
     last: u64,

@@ -1,0 +1,60 @@
+//! Assembler text to hexadecimal, and back.
+use crate::commands::ends;
+use std::test::Fail;
+
+const CLASSIFIER: &str = "6112000000000000550204000000000061120400000000003502\
+0200f4010000b7000000000000009500000000000000b7000000010000009500000000000000";
+
+const LINES: &str =
+    "ldxw r2, [r1+0]\njne r2, 0, +4\nldxw r2, [r1+4]\njge r2, 500, +2\nmov r0, 0\nexit\nmov r0, 1\nexit\n";
+
+#[test]
+fn programs_are_disassembled(rt: HostRuntime) -> Result<(), Fail> {
+    for (program, status, printed) in [
+        (CLASSIFIER, 0, LINES),
+        ("9g", 1, "refused 46 BadHex\n"),
+        ("", 1, "refused 1 Length slot 0\n"),
+    ] {
+        ends(&rt, rt.alloc(), &["dis", program], b"", status, printed)?;
+    }
+    Ok(())
+}
+
+#[test]
+fn text_is_assembled(rt: HostRuntime) -> Result<(), Fail> {
+    let mut line = String::from_str(rt.alloc(), CLASSIFIER)?;
+    line.push('\n')?;
+    ends(&rt, rt.alloc(), &["asm"], LINES.as_bytes(), 0, &line)?;
+    for (text, printed) in [
+        ("exit\nmov r0, 4294967296", "refused 43 BadNumber line 2\n"),
+        ("", "refused 44 BadLength line 0\n"),
+    ] {
+        ends(&rt, rt.alloc(), &["asm"], text.as_bytes(), 1, printed)?;
+    }
+    Ok(())
+}
+
+#[test]
+fn bytes_that_are_no_text_are_unknown_words(rt: HostRuntime) -> Result<(), Fail> {
+    for (bytes, printed) in [
+        (b"\xff\xffmvo" as &[u8], "refused 41 UnknownWord line 1\n"),
+        (b"mvo\nexit\n\n \xc3", "refused 41 UnknownWord line 4\n"),
+    ] {
+        ends(&rt, rt.alloc(), &["asm"], bytes, 1, printed)?;
+    }
+    Ok(())
+}
+
+#[test]
+fn other_words_of_asm_and_dis_are_wrong(rt: HostRuntime) -> Result<(), Fail> {
+    let wrong: [&[&str]; 4] = [
+        &["asm", "exit"],
+        &["dis"],
+        &["dis", "95", "00"],
+        &["dis", CLASSIFIER, ""],
+    ];
+    for words in wrong {
+        ends(&rt, rt.alloc(), words, b"exit\n", 2, "")?;
+    }
+    Ok(())
+}

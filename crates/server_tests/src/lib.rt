@@ -1,0 +1,34 @@
+//! Tests of the commands and of the server, by the public functions of their crates. The library itself is
+//! empty.
+#![tactic(auto)]
+
+#[cfg(test)]
+mod answer_messages;
+#[cfg(test)]
+mod assembler_commands;
+#[cfg(test)]
+mod commands;
+#[cfg(test)]
+mod failing_connections;
+#[cfg(test)]
+mod fixtures;
+#[cfg(test)]
+mod hostile_messages;
+#[cfg(test)]
+mod many_workers;
+#[cfg(test)]
+mod pools;
+#[cfg(test)]
+mod racing_workers;
+#[cfg(test)]
+mod request_bodies;
+#[cfg(test)]
+mod seats_over_http;
+#[cfg(test)]
+mod servers;
+#[cfg(test)]
+mod service_files;
+#[cfg(test)]
+mod services_over_http;
+#[cfg(test)]
+mod serving;

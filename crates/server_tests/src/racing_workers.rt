@@ -1,0 +1,213 @@
+//! Two workers of a pool, each with a seat of one desk. The report of one connection is held between its look
+//! and its finish until the report of the other connection was answered.
+ghost use Rattle.std.specs.Prelude.{◌≡◌};
+
+use book::{Config, ConfigParts, Entry, Event, Reply};
+use desk::{Desk, Gate, Seat};
+use http_desk::SeatedAnswerer;
+use http_front::Clock;
+use http_pool::{Worker, pool};
+use std::alloc::{AllocError, Global};
+use std::io::{Read, Write};
+use std::marker::Brand;
+use std::net::{Net, Shutdown, SocketAddr, TcpListener, TcpStream};
+use std::process::Abort;
+use std::sync::Wait;
+use std::sync::atomic::{AtomicU64, Ordering};
+use std::sync::ledger::{Blank, Ledger};
+use std::test::Fail;
+use std::thread::Threads;
+use std::{io, thread};
+use verifier::default_classifier;
+
+/// How often a thread looks whether another one is there yet.
+const MOST_TURNS: u32 = 1_000_000;
+
+const FIRST_REPORT: &str =
+    "POST /v1/services/pay/report HTTP/1.1\r\nContent-Length: 37\r\n\r\n{\"ticket\":1,\"outcome\":{\"status\":500}}";
+
+/// A report, and behind it a message at which the clock is read once more.
+const SECOND_REPORT: &str =
+    "POST /v1/services/pay/report HTTP/1.1\r\nContent-Length: 37\r\n\r\n{\"ticket\":2,\"outcome\":{\"status\":200}}GET /v1/services/pay/state HTTP/1.1\r\n\r\n";
+
+/// Something that one thread says and another waits for.
+#[derive(Drop)]
+struct Flag(AtomicU64);
+
+impl Flag {
+    fn new() -> Flag {
+        Flag(AtomicU64::new(0))
+    }
+
+    fn raise(&self) {
+        self.0.store(1, Ordering::SeqCst);
+    }
+
+    fn is_raised(&self) -> bool {
+        self.0.load(Ordering::SeqCst) != 0
+    }
+
+    /// Gives way until it is raised, but not for ever.
+    fn wait(&self) {
+        for _ in 0..MOST_TURNS {
+            if self.is_raised() {
+                return;
+            }
+            thread::yield_now();
+        }
+    }
+}
+
+/// Holds the report of ticket 1 until that of ticket 2 was answered, and the latter until the former looked.
+#[derive(Drop)]
+struct OvertakingGate {
+    first_looked: Flag,
+    second_answered: Flag,
+    overtaken: Flag,
+}
+
+impl Gate for OvertakingGate {
+    fn between(&self, ticket: u64) {
+        if ticket == 1 {
+            self.first_looked.raise();
+            self.second_answered.wait();
+            if self.second_answered.is_raised() {
+                self.overtaken.raise();
+            }
+        } else {
+            self.first_looked.wait();
+        }
+    }
+}
+
+/// A worker's clock. It is read once a message, so at its second reading the first message was answered.
+#[derive(Drop)]
+struct Readings<'a> {
+    times: u64,
+    gate: &'a OvertakingGate,
+}
+
+impl<'a> Clock for Readings<'a> {
+    ghost ticks = { λ old moment new. moment ≡ 7 };
+
+    fn now_ms(&mut self) -> u64 {
+        self.times = self.times.saturating_add(1);
+        if self.times == 2 {
+            self.gate.second_answered.raise();
+        }
+        7
+    }
+}
+
+/// Connects to an address, asks, and sends no more.
+fn ask<R>(rt: &R, address: SocketAddr, input: &str) -> io::Result<TcpStream>
+where
+    R: Net<Listener = TcpListener, Stream = TcpStream>,
+{
+    let stream = TcpStream::connect(rt, address)?;
+    (&stream).write_all(input.as_bytes())?;
+    stream.shutdown(Shutdown::Write)?;
+    Ok(stream)
+}
+
+/// Whether the other side sent, to its end, what has this piece.
+fn answers(alloc: Global, stream: &TcpStream, piece: &str) -> Result<bool, Fail> {
+    let mut text = Vec::new(alloc);
+    (&mut &*stream).read_to_end(&mut text)?;
+    let Ok(text) = str::from_utf8(&text) else {
+        return Ok(false);
+    };
+    Ok(text.contains(piece))
+}
+
+/// A worker for each of two seats, in their order.
+fn workers<'a, L: Ledger, M: Ledger, R: Wait>(
+    rt: &'a R,
+    alloc: Global,
+    desk: &'a Desk<L, M>,
+    seats: (Seat<L>, Seat<L>),
+    gate: &'a OvertakingGate,
+) -> Result<Vec<Worker<SeatedAnswerer<'a, L, M, OvertakingGate, R>, Readings<'a>>>, AllocError> {
+    let mut workers = Vec::new(alloc);
+    workers.push(Worker {
+        answerer: SeatedAnswerer::new(rt, alloc, desk, seats.0, gate),
+        clock: Readings { times: 0, gate },
+    })?;
+    workers.push(Worker {
+        answerer: SeatedAnswerer::new(rt, alloc, desk, seats.1, gate),
+        clock: Readings { times: 0, gate },
+    })?;
+    Ok(workers)
+}
+
+/// Whether an entry is the finish of a ticket.
+fn finishes(entry: &Entry, ticket: u64) -> bool {
+    match entry.event() {
+        Event::Finish(_, finished) => *finished == ticket,
+        _ => false,
+    }
+}
+
+/// Lets two connections report to one service.
+fn reports_of_two_workers<
+    L: Ledger + Send + Sync,
+    M: Ledger + Send + Sync,
+    R: Threads + Wait + Sync + Abort + Net<Listener = TcpListener, Stream = TcpStream>,
+>(rt: &R, alloc: Global, seats: Blank, entries: Blank) -> Result<(), Fail>
+    requires seats_name { seats.name ≡ L.name }
+    requires seats_parts { (seats.parts ≡ L.parts) × (L.parts ≡ 129) }
+    requires entries_name { entries.name ≡ M.name }
+    requires entries_parts { (entries.parts ≡ M.parts) × (M.parts ≡ 65) }
+{
+    let config = Config::new(ConfigParts::DEFAULT).expect(rt, "the defaults");
+    let classifier = default_classifier(alloc).expect(rt, "the default classifier");
+    let mut services = Vec::new(alloc);
+    services.push((String::from_str(alloc, "pay")?, config, classifier))?;
+    assert!(rt; services.len() <= 64);
+    let mut desk = Desk::<L, M>::open(alloc, seats, entries, services)?;
+    let mut caller = desk.sit().expect(rt, "a seat for the tickets");
+    let first = desk.sit().expect(rt, "a first worker's seat");
+    let second = desk.sit().expect(rt, "a second worker's seat");
+    let service = desk.find("pay").expect(rt, "a service of the desk");
+    for ticket in 1..=2 {
+        assert!(rt; caller.count() < 1_000_000);
+        let Reply::Permitted { ticket: given, .. } = desk.acquire(rt, &mut caller, service, 1)
+        else {
+            return Err(Fail::from("a call is permitted"));
+        };
+        assert_eq!(rt; given, ticket);
+    }
+    let gate = OvertakingGate {
+        first_looked: Flag::new(),
+        second_answered: Flag::new(),
+        overtaken: Flag::new(),
+    };
+    let listener = TcpListener::bind(rt, "127.0.0.1:0")?;
+    let address = listener.local_addr()?;
+    let held = ask(rt, address, FIRST_REPORT)?;
+    let overtaking = ask(rt, address, SECOND_REPORT)?;
+    let workers = workers(rt, alloc, &desk, (first, second), &gate)?;
+    assert_eq!(rt; workers.len(), 2);
+    let workers = pool(rt, alloc, &listener, 2, workers)?;
+    assert_eq!(rt; workers.len(), 2);
+    assert!(rt; gate.overtaken.is_raised());
+    assert!(rt; answers(alloc, &held, "\"fate\":\"recorded\"")?);
+    assert!(rt; answers(alloc, &overtaking, "\"fate\":\"recorded\"")?);
+    // Both were recorded, in the order of their finishes.
+    let page = desk.page(rt, &mut caller, service, 8, 3);
+    let made = page.expect(rt, "entries 3 and 4");
+    assert_eq!(rt; made.len(), 2);
+    assert!(rt; finishes(&made[0], 2));
+    assert!(rt; finishes(&made[1], 1));
+    Ok(())
+}
+
+#[test]
+fn a_held_report_is_overtaken(rt: HostRuntime) -> Result<(), Fail> {
+    reports_of_two_workers::<Brand, Brand, HostRuntime>(
+        &rt,
+        rt.alloc(),
+        Blank::new(129),
+        Blank::new(65),
+    )
+}

@@ -1,0 +1,11 @@
+use Rattle.std.proofs.Common.{◌≡◌, ◌++◌, List, map}
+use Rattle.std.specs.Vec.Iter.{into_iter_items}
+use Rattle.service_file.specs.declared.settings.ServiceSettings.{ServiceSettings}
+use Rattle.sidecar_server.specs.Served.{opening_of}
+use Rattle.sidecar_server.proofs.at_desk.opened_by.Given as goal
+
+abbrev pub invariant-loop-service : goal.invariant-loop-service
+invariant-loop-service l =
+    (goal.iterator-loop-service).can_next l.service-iterator ×
+    (goal.iterator-loop-service).is_finite l.service-iterator ×
+    ((done : List ServiceSettings) × (l.fn.services.items ≡ done ++ into_iter_items l.service-iterator) × (l.opened.items ≡ map opening_of done))

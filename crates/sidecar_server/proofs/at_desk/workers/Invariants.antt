@@ -1,0 +1,11 @@
+use Rattle.std.proofs.Common.{◌≡◌, ◌++◌, List}
+use Rattle.std.specs.Vec.Iter.{into_iter_items}
+use Rattle.desk.specs.Seats.{SeatData}
+use Rattle.sidecar_server.specs.Served.{workers_with}
+use Rattle.sidecar_server.proofs.at_desk.workers.Given as goal
+
+abbrev pub invariant-loop-seat : goal.invariant-loop-seat
+invariant-loop-seat g l =
+    (goal.iterator-loop-seat g).can_next l.seat-iterator ×
+    (goal.iterator-loop-seat g).is_finite l.seat-iterator ×
+    ((done : List SeatData) × (l.fn.seats.items ≡ done ++ into_iter_items l.seat-iterator) × (l.workers.items ≡ workers_with l.desk.services l.clock done))
