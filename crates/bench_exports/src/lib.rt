@@ -3,6 +3,7 @@
 
 mod calls;
 mod texts;
+mod verifying;
 
 use bpf_decode::Program;
 use bpf_run::{Verdict, run};
@@ -63,20 +64,20 @@ pub extern "C" fn bench_exports_judge(alloc: Global, rounds: u32) -> u64 {
 }
 
 /// `mov r0, 0`.
-const MOVE: [u8; 8] = [0xb7, 0, 0, 0, 0, 0, 0, 0];
+pub(crate) const MOVE: [u8; 8] = [0xb7, 0, 0, 0, 0, 0, 0, 0];
 
 /// `jeq r0, 0, +0`.
-const BRANCH_BY_0: [u8; 8] = [0x15, 0, 0, 0, 0, 0, 0, 0];
+pub(crate) const BRANCH_BY_0: [u8; 8] = [0x15, 0, 0, 0, 0, 0, 0, 0];
 
 /// `jeq r0, 0, +1`.
 const BRANCH_BY_1: [u8; 8] = [0x15, 0, 1, 0, 0, 0, 0, 0];
 
 /// `exit`.
-const EXIT: [u8; 8] = [0x95, 0, 0, 0, 0, 0, 0, 0];
+pub(crate) const EXIT: [u8; 8] = [0x95, 0, 0, 0, 0, 0, 0, 0];
 
 /// The bytes of a program of so many slots, from 3 on: a move, comparisons that lead to the next slot
 /// and the one after it, and an exit.
-fn branching(alloc: Global, slots: u32) -> Result<Vec<u8>, AllocError> {
+pub(crate) fn branching(alloc: Global, slots: u32) -> Result<Vec<u8>, AllocError> {
     let mut bytes = Vec::from_slice(alloc, &MOVE)?;
     for _ in 3..slots {
         bytes.extend_from_slice(&BRANCH_BY_1)?;
@@ -121,7 +122,7 @@ const OPERATIONS: [[u8; 8]; 6] = [
 
 /// The bytes of a program of so many slots, from 4 on: operations on registers, and at the end a move
 /// and an exit.
-fn computing(alloc: Global, slots: u32) -> Result<Vec<u8>, AllocError> {
+pub(crate) fn computing(alloc: Global, slots: u32) -> Result<Vec<u8>, AllocError> {
     let mut bytes = Vec::from_slice(alloc, &OPERANDS)?;
     let mut next = 0usize;
     for _ in 4..slots {
@@ -151,22 +152,6 @@ pub extern "C" fn bench_exports_steps(alloc: Global, slots: u32, rounds: u32) ->
     for _ in 0..rounds {
         let (_, steps) = run(&program, &outcome);
         sum = sum.wrapping_add(u64::from(steps));
-    }
-    sum
-}
-
-/// Verifies the bytes of a program of so many slots, from 4 to 4,096, so many times, and answers the
-/// sum of the budgets: as many as there are slots in each round. It is 0 where memory ran out.
-#[unsafe(no_mangle)]
-pub extern "C" fn bench_exports_verify(alloc: Global, slots: u32, rounds: u32) -> u64 {
-    let Ok(bytes) = computing(alloc, slots) else {
-        return 0;
-    };
-    let mut sum = 0u64;
-    for _ in 0..rounds {
-        if let Ok(program) = verify(alloc, &bytes) {
-            sum = sum.wrapping_add(u64::from(program.budget()));
-        }
     }
     sum
 }

@@ -47,11 +47,11 @@ not_ok : (number : RefusalNumber) (r : Result Instruction RefusalNumber) → r �
 not_ok number (Ok instruction) e ok = cc
 not_ok number (Err other) e ok = cc
 
-wide_next : (slot : Slot) (next : Option Slot) → is_wide slot ≡ true → IsOk (instruction_of slot next) → (high : ℕ) × (next ≡ Some (Tail high))
+pub wide_next : (slot : Slot) (next : Option Slot) → is_wide slot ≡ true → IsOk (instruction_of slot next) → (high : ℕ) × (next ≡ Some (Tail high))
 wide_next (Ins op dst src off imm) next wide ok = tail_next dst src off imm next (subst (λ (o : ℕ). IsOk (instruction_of (Ins o dst src off imm) next)) (eqb-true op 24 wide) ok)
 wide_next (Tail imm) next wide ok = absurd cc
 
-begins_if : (wide : Bool) (slots : List Slot) → (wide ≡ true → (high : ℕ) × (slice_get slots 0 ≡ Some (Tail high))) → Begins wide slots
+pub begins_if : (wide : Bool) (slots : List Slot) → (wide ≡ true → (high : ℕ) × (slice_get slots 0 ≡ Some (Tail high))) → Begins wide slots
 begins_if true slots h = h refl
 begins_if false slots h = tt
 
@@ -158,7 +158,7 @@ run_tails slots run place high at = follows_wide slots place (run_tail false slo
 
 -- ---- one slot after the other
 
-next_first : (slots : List Slot) (place : ℕ) → slice_get (drop place slots) 0 ≡ slice_get slots place
+pub next_first : (slots : List Slot) (place : ℕ) → slice_get (drop place slots) 0 ≡ slice_get slots place
 next_first [] zero = refl
 next_first [] (suc place) = refl
 next_first (slot ∷ slots) zero = refl

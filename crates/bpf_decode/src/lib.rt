@@ -3,6 +3,7 @@
 
 mod encoding;
 mod error;
+mod instructions;
 pub mod laws;
 mod opcode;
 mod program;
@@ -12,6 +13,7 @@ mod writing;
 pub use bpf_profile::Slot;
 pub use encoding::Encoded;
 pub use error::DecodeError;
+pub use instructions::Decoded;
 pub use program::Program;
 
 #[cfg(test)]

@@ -7,10 +7,10 @@ ghost use Rattle.bpf_profile.specs.Spelling.{Spells, IsProgram, is_tail};
 ghost use Rattle.bpf_decode.specs.Faults.{out_of_memory, IsFirstFault};
 
 use crate::error::DecodeError;
-use crate::reading::{SLOT_BYTES, check_slots, has_bad_length, instruction_at, slots_of};
+use crate::instructions::Decoded;
+use crate::reading::{SLOT_BYTES, instruction_at};
 use crate::writing::slot_bytes;
 use bpf_profile::{Instruction, Slot};
-use refusals::RefusalNumber;
 use std::alloc::{AllocError, Global};
 use std::marker::Model;
 
@@ -46,15 +46,7 @@ impl Program {
         // What is spelled so is decoded, unless memory ran out.
         ensures complete { (slots : List Slot) → Spells bytes.now slots → MatchResult result (λ p. p ≡ slots) (λ e. e ≡ out_of_memory) }
     {
-        if has_bad_length(bytes.len()) {
-            return Err(DecodeError {
-                slot: 0,
-                number: RefusalNumber::Length,
-            });
-        }
-        let slots = slots_of(alloc, bytes)?;
-        check_slots(&slots)?;
-        Ok(Program { slots })
+        Ok(Decoded::decode(alloc, bytes)?.into_program())
     }
 
     /// The program of slots, whose caller knows that they are one.

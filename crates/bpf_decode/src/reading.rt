@@ -1,9 +1,11 @@
 //! Bytes read as slots, and the first fault of the slots.
-ghost use Rattle.std.specs.Prelude.{◌≡◌, ◌≤◌, ◌/◌, ◌<◌, ◌+◌, length, slice_get, IfSome, IfOk, IfErr, false};
+ghost use Rattle.std.specs.Prelude.{◌≡◌, ◌≤◌, ◌/◌, ◌<◌, ◌+◌, [], length, slice_get, IfSome, IfOk, IfErr, OnOk, false};
+ghost use Rattle.std.specs.Vec.{vec_capacity};
 ghost use Rattle.bpf_profile.specs.Limits.{most_slots};
 ghost use Rattle.bpf_profile.specs.Slots.{instruction_of};
 ghost use Rattle.bpf_profile.specs.Spelling.{is_bad_length, slot_at, slots_at, is_wide, fault_from};
 ghost use Rattle.bpf_decode.specs.Faults.{found_fault};
+ghost use Rattle.bpf_decode.specs.Kept.{AreInstructions};
 
 use crate::error::DecodeError;
 use bpf_profile::{Instruction, MOST_SLOTS, Slot};
@@ -77,24 +79,34 @@ pub(crate) fn instruction_at(slots: &[Slot], place: usize) -> Result<Instruction
     slots[place].instruction(next)
 }
 
-/// The first fault of the slots, with its index. The second slot of a wide immediate isn't looked at
-/// again: a first slot with no tail behind it is a fault.
-pub(crate) fn check_slots(slots: &[Slot]) -> Result<(), DecodeError>
-    requires { length slots.now ≤ most_slots }
+/// Reads the slots, up to the first fault, which is answered with its index. The second slot of a wide
+/// immediate isn't looked at again: a first slot with no tail behind it is a fault.
+pub(crate) fn read_slots(
+    slots: &[Slot],
+    instructions: &mut Vec<Option<Instruction>>,
+) -> Result<(), DecodeError>
+    requires few { length slots.now ≤ most_slots }
+    requires empty { instructions.old.items ≡ [] }
+    requires room { length slots.now ≤ vec_capacity instructions.old }
     ensures fault { found_fault result ≡ fault_from 0 false slots.now }
     ensures slot { IfErr result (λ e. e.slot < most_slots) }
+    ensures read { OnOk result (AreInstructions slots.now instructions.new.items) }
 {
     let mut is_second = false;
     for (place, slot) in slots.iter().enumerate() {
         if is_second {
             is_second = false;
+            instructions.push_reserved(None);
             continue;
         }
-        if let Err(number) = instruction_at(slots, place) {
-            return Err(DecodeError {
-                slot: place as u32,
-                number,
-            });
+        match instruction_at(slots, place) {
+            Ok(instruction) => instructions.push_reserved(Some(instruction)),
+            Err(number) => {
+                return Err(DecodeError {
+                    slot: place as u32,
+                    number,
+                });
+            }
         }
         is_second = begins_wide(*slot);
     }

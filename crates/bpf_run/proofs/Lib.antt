@@ -11,4 +11,5 @@ pub mod StackBytes
 pub mod Standing
 pub mod StoredBytes
 pub mod Untrapped
+pub mod WithoutStack
 pub mod Writes

@@ -1,2 +1,4 @@
+pub mod Alone
 pub mod Bare
+pub mod Computing
 pub mod Executing

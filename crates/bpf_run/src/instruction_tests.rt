@@ -1,8 +1,8 @@
 //! Single instructions over bare words and memory.
 use crate::calls::call;
-use crate::machine::{Machine, Words};
+use crate::machine::Machine;
 use crate::memory::{BYTES, Memory, copy_context, load, store};
-use crate::step::execute;
+use crate::registers::Words;
 use bpf_flat::Flat;
 use bpf_profile::{Extension, Register, Size};
 use helpers::Record;
@@ -63,8 +63,8 @@ fn a_pointer_is_stored_and_loaded(rt: HostRuntime) {
     );
     // ldxdw r2, [r10-8]
     let load = Flat::LoadDoubleWord(Register::new(2), Register::new(10), 0xfffffffffffffff8);
-    assert!(rt; execute(&store, &[], &mut machine).is_some());
-    assert!(rt; execute(&load, &[], &mut machine).is_some());
+    assert!(rt; machine.execute(&store, &[]).is_some());
+    assert!(rt; machine.execute(&load, &[]).is_some());
     let registers = machine.registers;
     assert_eq!(rt; registers, [0, 0, 640, 0, 0, 0, 0, 0, 0, 0, 640]);
     let memory = machine.memory;
@@ -83,7 +83,7 @@ fn the_context_is_loaded(rt: HostRuntime) {
     };
     // ldxsw r1, [r1+124]
     let load = Flat::LoadSignedWord(Register::new(1), Register::new(1), 124);
-    assert!(rt; execute(&load, &[], &mut machine).is_some());
+    assert!(rt; machine.execute(&load, &[]).is_some());
     let registers = machine.registers;
     assert_eq!(rt;
         registers,
@@ -104,8 +104,8 @@ fn pointers_are_computed_with(rt: HostRuntime) {
     let subtract = Flat::Subtract64Immediate(Register::new(10), 16);
     // add r1, r10
     let add = Flat::Add64Register(Register::new(1), Register::new(10));
-    assert!(rt; execute(&subtract, &[], &mut machine).is_some());
-    assert!(rt; execute(&add, &[], &mut machine).is_some());
+    assert!(rt; machine.execute(&subtract, &[]).is_some());
+    assert!(rt; machine.execute(&add, &[]).is_some());
     let registers = machine.registers;
     assert_eq!(rt; registers, [0, 624, 0, 0, 0, 0, 0, 0, 0, 0, 624]);
 }

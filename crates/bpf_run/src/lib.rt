@@ -1,12 +1,15 @@
 //! Runs verified programs on outcomes' records, and ties what was judged to its program and record.
 #![tactic(auto)]
 
+mod access;
 mod calls;
 mod execution;
 #[cfg(test)]
 mod instruction_tests;
 mod machine;
 mod memory;
+mod registers;
+mod stackless;
 mod step;
 #[cfg(test)]
 mod tests;

@@ -7,7 +7,8 @@ ghost use Rattle.bpf_profile.specs.Meaning.{instruction_at};
 ghost use Rattle.bpf_profile.specs.Flow.{next_of, distance_of, successors, flow_fault};
 ghost use Rattle.flow_check.specs.Routes.{successor_list};
 
-use bpf_profile::{Instruction, Slot, instruction_at};
+use bpf_decode::Decoded;
+use bpf_profile::Instruction;
 use bpf_words::target_of;
 
 /// The slots to which edges lead from a slot of an accepted program, each below 4,096.
@@ -64,7 +65,7 @@ fn narrow(slot: Option<usize>) -> Option<u32>
 }
 
 /// The edges of a slot of an accepted program.
-pub fn successors_of(slots: &[Slot], place: usize) -> Successors
+pub fn successors_of(slots: &Decoded, place: usize) -> Successors
     requires program { IsProgram slots.now }
     requires accepted { flow_fault slots.now ≡ None }
     requires within { place < length slots.now }
@@ -73,7 +74,7 @@ pub fn successors_of(slots: &[Slot], place: usize) -> Successors
     ensures next { result.next ≡ option_and_then (next_of place) (instruction_at slots.now place) }
     ensures target { result.target ≡ option_and_then (λ i. option_map (target_of place) (distance_of i)) (instruction_at slots.now place) }
 {
-    match instruction_at(slots, place) {
+    match slots.at(place) {
         Some(instruction) => Successors {
             next: narrow(next_of(place, &instruction)),
             target: narrow(jump_of(place, &instruction)),

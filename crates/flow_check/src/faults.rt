@@ -7,7 +7,8 @@ ghost use Rattle.flow_check.specs.Refused.{fault_of};
 
 use crate::edges::{distance_of, next_of};
 use crate::error::FlowError;
-use bpf_profile::{Instruction, Slot, instruction_at};
+use bpf_decode::Decoded;
+use bpf_profile::{Instruction, Slot};
 use bpf_words::target_of;
 use refusals::RefusalNumber;
 
@@ -64,21 +65,21 @@ fn edge_fault(slots: &[Slot], place: usize, instruction: &Instruction) -> Option
 }
 
 /// The first fault of the instruction at a slot, in the order in which faults are tried. A tail has none.
-fn fault_at(slots: &[Slot], entered: &[bool], place: usize) -> Option<RefusalNumber>
+fn fault_at(slots: &Decoded, entered: &[bool], place: usize) -> Option<RefusalNumber>
     requires few { length slots.now ≤ most_slots }
     requires entered { AreEntered slots.now (length slots.now) entered.now }
     requires within { place < length slots.now }
     ensures { result ≡ flow_fault_at slots.now place }
 {
-    match instruction_at(slots, place) {
+    match slots.at(place) {
         Some(_) if !entered[place] => Some(RefusalNumber::Unreachable),
-        Some(instruction) => edge_fault(slots, place, &instruction),
+        Some(instruction) => edge_fault(slots.slots(), place, &instruction),
         None => None,
     }
 }
 
 /// The first fault of a program.
-pub fn first_fault(slots: &[Slot], entered: &[bool]) -> Option<FlowError>
+pub fn first_fault(slots: &Decoded, entered: &[bool]) -> Option<FlowError>
     requires few { length slots.now ≤ most_slots }
     requires entered { AreEntered slots.now (length slots.now) entered.now }
     ensures fault { option_map fault_of result ≡ flow_fault slots.now }

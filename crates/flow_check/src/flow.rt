@@ -12,8 +12,8 @@ use crate::edges::{Successors, successors_of};
 use crate::entered::mark_entered;
 use crate::error::FlowError;
 use crate::faults::first_fault;
-use bpf_decode::Program;
-use bpf_profile::{MOST_SLOTS, Slot};
+use bpf_decode::{Decoded, Program};
+use bpf_profile::MOST_SLOTS;
 use std::alloc::{AllocError, Global};
 use std::marker::Model;
 
@@ -78,7 +78,7 @@ fn follow(longest: &mut [u32], successors: Successors, count: u32)
 /// final when the pass comes to the slot.
 fn follow_all(
     longest: &mut [u32],
-    slots: &[Slot],
+    slots: &Decoded,
     edges: &mut Vec<Successors>,
 ) -> Result<u32, AllocError>
     requires program { IsProgram slots.now }
@@ -104,7 +104,7 @@ fn follow_all(
 
 /// The flow of an accepted program of few slots, which needs few counts.
 #[inline(never)]
-fn routes_of_few(alloc: Global, slots: &[Slot]) -> Result<Flow, AllocError>
+fn routes_of_few(alloc: Global, slots: &Decoded) -> Result<Flow, AllocError>
     requires few { length slots.now ≤ 64 }
     requires program { IsProgram slots.now }
     requires accepted { flow_fault slots.now ≡ None }
@@ -121,7 +121,7 @@ fn routes_of_few(alloc: Global, slots: &[Slot]) -> Result<Flow, AllocError>
 
 /// The flow of an accepted program of any number of slots.
 #[inline(never)]
-fn routes_of_many(alloc: Global, slots: &[Slot]) -> Result<Flow, AllocError>
+fn routes_of_many(alloc: Global, slots: &Decoded) -> Result<Flow, AllocError>
     requires program { IsProgram slots.now }
     requires accepted { flow_fault slots.now ≡ None }
     ensures budget { IfOk result (λ flow. IsBudget slots.now flow.budget) }
@@ -136,9 +136,8 @@ fn routes_of_many(alloc: Global, slots: &[Slot]) -> Result<Flow, AllocError>
 }
 
 /// The flow of an accepted program. It takes memory for what it answers alone.
-fn routes_of(alloc: Global, slots: &[Slot]) -> Result<Flow, AllocError>
-    requires program { IsProgram slots.now }
-    requires accepted { flow_fault slots.now ≡ None }
+fn routes_of(alloc: Global, slots: &Decoded) -> Result<Flow, AllocError>
+    requires { flow_fault slots.now ≡ None }
     ensures budget { IfOk result (λ flow. IsBudget slots.now flow.budget) }
     ensures counted { IfOk result (λ flow. length flow.edges ≡ length slots.now) }
     ensures edges { IfOk result (λ flow. flow.edges ≡ map (successors slots.now) (range_with_len 0 (length slots.now))) }
@@ -153,7 +152,7 @@ fn routes_of(alloc: Global, slots: &[Slot]) -> Result<Flow, AllocError>
 
 /// The first fault of a program of few slots, which needs few marks.
 #[inline(never)]
-fn fault_of_few(slots: &[Slot]) -> Option<FlowError>
+fn fault_of_few(slots: &Decoded) -> Option<FlowError>
     requires { length slots.now ≤ 64 }
     ensures fault { option_map fault_of result ≡ flow_fault slots.now }
     ensures slot { IfSome result (λ e. e.slot < most_slots) }
@@ -166,7 +165,7 @@ fn fault_of_few(slots: &[Slot]) -> Option<FlowError>
 
 /// The first fault of a program of any number of slots.
 #[inline(never)]
-fn fault_of_many(slots: &[Slot]) -> Option<FlowError>
+fn fault_of_many(slots: &Decoded) -> Option<FlowError>
     requires { length slots.now ≤ most_slots }
     ensures fault { option_map fault_of result ≡ flow_fault slots.now }
     ensures slot { IfSome result (λ e. e.slot < most_slots) }
@@ -178,8 +177,7 @@ fn fault_of_many(slots: &[Slot]) -> Option<FlowError>
 }
 
 /// The first fault of a program. Of few slots there are few marks, and setting them up takes less time.
-fn fault(slots: &[Slot]) -> Option<FlowError>
-    requires { length slots.now ≤ most_slots }
+fn fault(slots: &Decoded) -> Option<FlowError>
     ensures fault { option_map fault_of result ≡ flow_fault slots.now }
     ensures slot { IfSome result (λ e. e.slot < most_slots) }
 {
@@ -208,9 +206,28 @@ pub fn check(alloc: Global, program: &Program) -> Result<Flow, FlowError>
     // Its slot is one that a program may have.
     ensures slot { IfErr result (λ e. e.slot < most_slots) }
 {
-    let slots = program.slots();
-    if let Some(error) = fault(slots) {
+    let decoded = Decoded::of(alloc, program)?;
+    check_decoded(alloc, &decoded)
+}
+
+/// The same check of a program whose instructions are decoded.
+pub fn check_decoded(alloc: Global, program: &Decoded) -> Result<Flow, FlowError>
+    // What is accepted has no fault.
+    ensures accepted { OnOk result (flow_fault program.now ≡ None) }
+    // A walk as long as the budget exists, and none is longer.
+    ensures budget { IfOk result (λ flow. IsBudget program.now flow.budget) }
+    // The edges of each slot, in the order of the slots.
+    ensures counted { IfOk result (λ flow. length flow.edges ≡ length program.now) }
+    ensures edges { IfOk result (λ flow. flow.edges ≡ map (successors program.now) (range_with_len 0 (length program.now))) }
+    // Which of them leads behind the instruction, and which to the target of its jump.
+    ensures kinds { IfOk result (λ flow. flow.successors ≡ map (successors_at program.now) (range_with_len 0 (length program.now))) }
+    // An error is the first fault, unless memory ran out.
+    ensures refused { IfErr result (λ e. (e ≡ out_of_memory) ⊎ (flow_fault program.now ≡ Some (fault_of e))) }
+    // Its slot is one that a program may have.
+    ensures slot { IfErr result (λ e. e.slot < most_slots) }
+{
+    if let Some(error) = fault(program) {
         return Err(error);
     }
-    Ok(routes_of(alloc, slots)?)
+    Ok(routes_of(alloc, program)?)
 }

@@ -13,4 +13,4 @@ mod tests;
 
 pub use edges::Successors;
 pub use error::FlowError;
-pub use flow::{Flow, check};
+pub use flow::{Flow, check, check_decoded};

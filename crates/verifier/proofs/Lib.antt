@@ -2,7 +2,11 @@ pub mod DefaultAccepted
 pub mod Delivered
 pub mod Edges
 pub mod FirstFault
+pub mod Held
+pub mod JoinedStates
+pub mod JoinOf
 pub mod Known
+pub mod KnownJoin
 pub mod Sound
 pub mod Taken
 pub mod Marked

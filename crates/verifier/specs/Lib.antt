@@ -1,5 +1,7 @@
 pub mod Analysis
+pub mod Awaited
 pub mod DefaultClassifier
+pub mod Joins
 pub mod Kept
 pub mod Memory
 pub mod Passes

@@ -4,6 +4,7 @@ ghost use Rattle.std.specs.List.{range_with_len};
 ghost use Rattle.bpf_profile.specs.Limits.{most_slots, context_size};
 ghost use Rattle.bpf_profile.specs.Flow.{flow_fault, successors, IsBudget};
 ghost use Rattle.bpf_profile.specs.Safety.{IsSafe};
+ghost use Rattle.bpf_profile.specs.Spelling.{IsProgram};
 ghost use Rattle.verifier.specs.Analysis.{analysis_fault, AreKnown};
 ghost use Rattle.verifier.specs.Memory.{StateFits};
 ghost use Rattle.verifier.specs.Passes.{entry_states};
@@ -15,8 +16,7 @@ use crate::passes::pass_all;
 use crate::refusal::Refusal;
 use abs_domain::Domain;
 use abs_states::AbsState;
-use bpf_decode::Program;
-use bpf_profile::Slot;
+use bpf_decode::{Decoded, Program};
 use flow_check::Flow;
 use std::alloc::{AllocError, Global};
 use std::marker::Model;
@@ -52,7 +52,7 @@ impl<D: Domain> States<D> {
 /// The abstract states before the pass: the entry state at slot 0, none elsewhere.
 fn entry_states<D: Domain>(
     alloc: Global,
-    slots: &[Slot],
+    slots: &Decoded,
 ) -> Result<Vec<Option<AbsState<D>>>, AllocError>
     requires { 0 < length slots.now }
     ensures { IfOk result (λ states. states.items ≡ entry_states ⟦<D as Domain>⟧ (length slots.now)) }
@@ -81,19 +81,20 @@ pub fn analyse<D: Domain>(
     ensures refused { IfErr result (λ e. (e ≡ out_of_memory) ⊎ (analysis_fault ⟦<D as Domain>⟧ context_size program.now ≡ Some (fault_of e))) }
     ensures slot { IfErr result (λ e. e.slot < most_slots) }
 {
-    let slots = program.slots();
-    let mut states = entry_states(alloc, slots)?;
-    pass_all(&mut states, slots, flow)?;
+    let slots = Decoded::of(alloc, program)?;
+    let mut states = entry_states(alloc, &slots)?;
+    pass_all(&mut states, &slots, flow)?;
     Ok(States { states })
 }
 
 /// The same check, which holds no more states than it still awaits, and keeps none.
 pub(crate) fn analyse_awaited<D: Domain>(
     alloc: Global,
-    program: &Program,
+    program: &Decoded,
     flow: &Flow,
 ) -> Result<(), Refusal>
     requires fits { StateFits D.row }
+    requires program { IsProgram program.now }
     requires accepted { flow_fault program.now ≡ None }
     requires flow { flow.now.edges ≡ map (successors program.now) (range_with_len 0 (length program.now)) }
     ensures accepted { OnOk result (analysis_fault ⟦<D as Domain>⟧ context_size program.now ≡ None) }
@@ -101,6 +102,6 @@ pub(crate) fn analyse_awaited<D: Domain>(
     ensures refused { IfErr result (λ e. (e ≡ out_of_memory) ⊎ (analysis_fault ⟦<D as Domain>⟧ context_size program.now ≡ Some (fault_of e))) }
     ensures slot { IfErr result (λ e. e.slot < most_slots) }
 {
-    pass_awaited::<D>(alloc, program.slots(), flow)?;
+    pass_awaited::<D>(alloc, program, flow)?;
     Ok(())
 }

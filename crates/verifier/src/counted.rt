@@ -9,8 +9,8 @@ ghost use Rattle.verifier.specs.Width.{IsWidth};
 use crate::refusal::Refusal;
 use crate::verified::{Verified, verify};
 use crate::width::width_of;
-use bpf_decode::Program;
-use flow_check::check;
+use bpf_decode::{Decoded, Program};
+use flow_check::check_decoded;
 use std::alloc::Global;
 
 /// The width of a program that was accepted. The only error is want of memory.
@@ -19,8 +19,9 @@ fn accepted_width(alloc: Global, program: &Program) -> Result<u32, Refusal>
     ensures width { IfOk result (λ width. IsWidth program.now width) }
     ensures refused { IfErr result (λ e. e ≡ out_of_memory) }
 {
-    match check(alloc, program) {
-        Ok(flow) => Ok(width_of(program.slots(), &flow)),
+    let slots = Decoded::of(alloc, program)?;
+    match check_decoded(alloc, &slots) {
+        Ok(flow) => Ok(width_of(&slots, &flow)),
         Err(_) => Err(Refusal::out_of_memory()),
     }
 }

@@ -1,13 +1,16 @@
 //! What the definitions of verifying entail, stated apart from them.
-ghost use Rattle.std.specs.Prelude.{◌≡◌, ◌↔◌, ℕ, List, length, Some, None};
+ghost use Rattle.std.specs.Prelude.{◌≡◌, ◌↔◌, ℕ, List, length, IsPermutation, Option, Some, None};
+ghost use Rattle.abs_states.specs.declared.state.AbsState.{AbsState};
+ghost use Rattle.abs_states.specs.States.{joined_state};
 ghost use Rattle.bpf_profile.specs.declared.slot.Slot.{Slot};
 ghost use Rattle.bpf_profile.specs.Limits.{context_size};
 ghost use Rattle.bpf_profile.specs.Faults.{IsLeastFault, IsFaultless};
 ghost use Rattle.bpf_profile.specs.Flow.{flow_fault, IsBudget};
 ghost use Rattle.bpf_profile.specs.Safety.{IsSafe};
 ghost use Rattle.bpf_profile.specs.Spelling.{IsProgram, Fault};
-ghost use Rattle.verifier.specs.Analysis.{analysis_fault, fault_at};
+ghost use Rattle.verifier.specs.Analysis.{analysis_fault, fault_at, known_at};
 ghost use Rattle.bpf_profile.specs.Programs.{VerifiedProgram};
+ghost use Rattle.verifier.specs.Joins.{sent_to, join_of, AreJoins};
 ghost use Rattle.verifier.specs.Verifying.{IsVerification};
 
 use abs_domain::{Both, Domain};
@@ -32,4 +35,24 @@ pub fn accepted_programs_are_safe()
 pub fn analysis_fault_is_the_least<D: Domain>()
     ensures some { (slots : List Slot) (fault : Fault) → (analysis_fault ⟦<D as Domain>⟧ context_size slots ≡ Some fault) ↔ IsLeastFault (fault_at ⟦<D as Domain>⟧ context_size slots) (length slots) fault }
     ensures none { (slots : List Slot) → (analysis_fault ⟦<D as Domain>⟧ context_size slots ≡ None) ↔ IsFaultless (fault_at ⟦<D as Domain>⟧ context_size slots) (length slots) }
+{}
+
+/// Which of two states is joined into the other makes no difference, nor does it in which order three
+/// are joined, whatever the domain.
+pub fn states_join_in_any_order<D: Domain>()
+    ensures symmetric { (a b : AbsState D) → joined_state ⟦<D as Domain>⟧ a b ≡ joined_state ⟦<D as Domain>⟧ b a }
+    ensures associative { (a b c : AbsState D) → joined_state ⟦<D as Domain>⟧ (joined_state ⟦<D as Domain>⟧ a b) c ≡ joined_state ⟦<D as Domain>⟧ a (joined_state ⟦<D as Domain>⟧ b c) }
+{}
+
+/// In a program with an accepted flow, what is known before a slot is the join of the states that all
+/// edges of the program send there, in any order: the order in which a pass visits the slots leaves no
+/// trace in its answer. A slot to which nothing is sent has no state.
+pub fn known_is_the_join_of_all_that_is_sent<D: Domain>()
+    ensures { (slots : List Slot) (place : ℕ) (states : List (AbsState D)) → IsProgram slots → flow_fault slots ≡ None → IsPermutation (sent_to ⟦<D as Domain>⟧ context_size slots (known_at ⟦<D as Domain>⟧ context_size slots) place) states → known_at ⟦<D as Domain>⟧ context_size slots place ≡ join_of (joined_state ⟦<D as Domain>⟧) states }
+{}
+
+/// Nothing else is: whatever gives each slot the join of what is sent to it by what it gives to the
+/// others, gives what is known.
+pub fn nothing_else_joins_all_that_is_sent<D: Domain>()
+    ensures { (slots : List Slot) (place : ℕ) (known : ℕ → Option (AbsState D)) → IsProgram slots → flow_fault slots ≡ None → AreJoins ⟦<D as Domain>⟧ context_size slots known → known place ≡ known_at ⟦<D as Domain>⟧ context_size slots place }
 {}

@@ -15,7 +15,8 @@ ghost use Rattle.verifier.specs.Verifying.{IsFlowOf, fault_of};
 use crate::refusal::Refusal;
 use abs_domain::Domain;
 use abs_states::AbsState;
-use bpf_profile::{CONTEXT_SIZE, Instruction, Slot, instruction_at};
+use bpf_decode::Decoded;
+use bpf_profile::{CONTEXT_SIZE, Instruction};
 use flow_check::{Flow, Successors};
 use refusals::RefusalNumber;
 
@@ -44,7 +45,7 @@ fn deliver<D: Domain>(states: &mut [Option<AbsState<D>>], to: Option<u32>, state
 }
 
 /// The edges of a slot of an accepted program.
-pub(crate) fn edges_at(flow: &Flow, slots: &[Slot], place: usize) -> Successors
+pub(crate) fn edges_at(flow: &Flow, slots: &Decoded, place: usize) -> Successors
     requires place { place < length slots.now }
     requires program { IsProgram slots.now }
     requires accepted { flow_fault slots.now ≡ None }
@@ -86,7 +87,7 @@ fn copied<D: Domain>(state: &AbsState<D>) -> AbsState<D>
 /// Sends the abstract states after the instruction at a slot along its edges. A tail sends nothing.
 fn pass<D: Domain>(
     states: &mut [Option<AbsState<D>>],
-    slots: &[Slot],
+    slots: &Decoded,
     flow: &Flow,
     place: usize,
 ) -> Result<(), RefusalNumber>
@@ -101,7 +102,7 @@ fn pass<D: Domain>(
     ensures sent { OnOk result (states.new ≡ delivered_all ⟦<D as Domain>⟧ states.old (sent_with ⟦<D as Domain>⟧ context_size place (instruction_at slots.now place) (state_of states.old place))) }
     ensures fault { IfErr result (λ number. fault_with ⟦<D as Domain>⟧ context_size (instruction_at slots.now place) (state_of states.old place) ≡ Some number) }
 {
-    let Some(instruction) = instruction_at(slots, place) else {
+    let Some(instruction) = slots.at(place) else {
         return Ok(());
     };
     let Some(state) = &states[place] else {
@@ -118,7 +119,7 @@ fn pass<D: Domain>(
 /// Passes over all slots in order, up to the first fault.
 pub(crate) fn pass_all<D: Domain>(
     states: &mut [Option<AbsState<D>>],
-    slots: &[Slot],
+    slots: &Decoded,
     flow: &Flow,
 ) -> Result<(), Refusal>
     requires fits { StateFits D.row }

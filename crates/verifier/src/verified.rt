@@ -1,10 +1,11 @@
 //! Verified programs.
-ghost use Rattle.std.specs.Prelude.{◌≡◌, ◌⊎◌, ℕ, ◌<◌, ◌≤◌, List, length, IsOk, Some, None, IfOk, IfErr, OnOk};
+ghost use Rattle.std.specs.Prelude.{◌≡◌, ◌⊎◌, ◌↔◌, ℕ, ◌<◌, ◌≤◌, true, List, length, IsOk, Some, None, IfOk, IfErr, OnOk};
 ghost use Rattle.bpf_profile.specs.declared.slot.Slot.{Slot};
 ghost use Rattle.bpf_profile.specs.Limits.{most_slots, context_size};
 ghost use Rattle.bpf_flat.specs.Flattened.{IsFlattened};
+ghost use Rattle.bpf_flat.specs.StackUse.{IsStackless};
 ghost use Rattle.bpf_profile.specs.Safety.{IsSafe};
-ghost use Rattle.bpf_profile.specs.Spelling.{Spells};
+ghost use Rattle.bpf_profile.specs.Spelling.{IsProgram, Spells};
 ghost use Rattle.bpf_profile.specs.Flow.{flow_fault, IsBudget};
 ghost use Rattle.verifier.specs.Analysis.{analysis_fault};
 ghost use Rattle.verifier.specs.Verifying.{out_of_memory, fault_of, IsAccepted, IsProgramRefused, IsRefused, IsVerification};
@@ -12,9 +13,9 @@ ghost use Rattle.verifier.specs.Verifying.{out_of_memory, fault_of, IsAccepted, 
 use crate::analysis::analyse_awaited;
 use crate::refusal::Refusal;
 use abs_domain::Both;
-use bpf_decode::Program;
-use bpf_flat::{Flat, flattened};
-use flow_check::check;
+use bpf_decode::{Decoded, Program};
+use bpf_flat::{Flat, flattened, is_stackless};
+use flow_check::check_decoded;
 use known_bits::KnownBits;
 use ranges::Range;
 use std::alloc::{AllocError, Global};
@@ -28,6 +29,7 @@ pub struct Verified {
     bytes: Vec<u8>,
     flat: Vec<Flat>,
     budget: u32,
+    stackless: bool,
 }
 
 impl Model for Verified {
@@ -39,7 +41,7 @@ impl Model for Verified {
 
     ghost view = { λ v. record { slots = v.program; budget = v.budget } };
 
-    ghost invariant = { λ v. IsVerified v.program v.bytes.items v.flat.items v.budget };
+    ghost invariant = { λ v. IsVerified v.program v.bytes.items v.flat.items v.budget v.stackless };
 }
 
 impl Verified {
@@ -81,10 +83,19 @@ impl Verified {
     {
         self.flat.as_slice()
     }
+
+    /// Whether no instruction of the program takes the address of the stack out of R10, so that a run of
+    /// it needs no stack: this was found when the program was verified.
+    pub fn is_stackless(&self) -> bool
+        ensures { (result ≡ true) ↔ IsStackless self.now.slots }
+    {
+        self.stackless
+    }
 }
 
 /// The budget of a program that passes flow and analysis, or the first fault.
-fn checked(alloc: Global, program: &Program) -> Result<u32, Refusal>
+fn checked(alloc: Global, program: &Decoded) -> Result<u32, Refusal>
+    requires { IsProgram program.now }
     ensures budget { IfOk result (λ budget. IsBudget program.now budget) }
     ensures some { IfOk result (λ budget. 1 ≤ budget) }
     ensures most { IfOk result (λ budget. budget ≤ most_slots) }
@@ -93,13 +104,13 @@ fn checked(alloc: Global, program: &Program) -> Result<u32, Refusal>
     ensures refused { IfErr result (λ e. (e ≡ out_of_memory) ⊎ IsProgramRefused program.now (fault_of e)) }
     ensures slot { IfErr result (λ e. e.slot < most_slots) }
 {
-    let flow = check(alloc, program)?;
+    let flow = check_decoded(alloc, program)?;
     analyse_awaited::<Both<Range, KnownBits>>(alloc, program, &flow)?;
     Ok(flow.budget())
 }
 
 /// The verified program, made of what was checked.
-fn kept(alloc: Global, program: Program, bytes: &[u8], budget: u32) -> Result<Verified, AllocError>
+fn kept(alloc: Global, program: Decoded, bytes: &[u8], budget: u32) -> Result<Verified, AllocError>
     requires verified { IsVerification bytes.now (record { slots = program; budget = budget }) }
     requires safe { IsSafe context_size program budget }
     requires some { 1 ≤ budget }
@@ -107,13 +118,15 @@ fn kept(alloc: Global, program: Program, bytes: &[u8], budget: u32) -> Result<Ve
     ensures program { IfOk result (λ v. v.slots ≡ program) }
     ensures budget { IfOk result (λ v. v.budget ≡ budget) }
 {
-    let flat = flattened(alloc, program.slots())?;
+    let flat = flattened(alloc, &program)?;
     let bytes = bytes.to_vec(alloc)?;
+    let stackless = is_stackless(&program);
     Ok(Verified {
-        program,
+        program: program.into_program(),
         bytes,
         flat,
         budget,
+        stackless,
     })
 }
 
@@ -132,7 +145,7 @@ pub fn verify(alloc: Global, bytes: &[u8]) -> Result<Verified, Refusal>
     // Its slot is one that a program may have.
     ensures slot { IfErr result (λ e. e.slot < most_slots) }
 {
-    let program = Program::decode(alloc, bytes)?;
+    let program = Decoded::decode(alloc, bytes)?;
     let budget = checked(alloc, &program)?;
     Ok(kept(alloc, program, bytes, budget)?)
 }

@@ -9,7 +9,8 @@ ghost use Rattle.verifier.specs.Verifying.{IsFlowOf};
 ghost use Rattle.verifier.specs.Width.{IsWidth, count_from};
 
 use crate::passes::edges_at;
-use bpf_profile::{MOST_SLOTS, Slot, instruction_at};
+use bpf_decode::Decoded;
+use bpf_profile::MOST_SLOTS;
 use flow_check::Flow;
 
 /// Marks a slot, if there is one, and answers how many marks are new.
@@ -39,7 +40,7 @@ fn behind(marks: &[bool], place: usize, awaited: u32) -> u32
 
 /// Marks the slots to which edges lead from a slot. There are so many marks from this slot on; the answer
 /// is how many there are behind it then.
-fn pass(marks: &mut [bool], slots: &[Slot], flow: &Flow, place: usize, awaited: u32) -> u32
+fn pass(marks: &mut [bool], slots: &Decoded, flow: &Flow, place: usize, awaited: u32) -> u32
     requires place { place < length slots.now }
     requires marks { length marks.old ≡ length slots.now }
     requires awaited { awaited ≡ count_from place marks.old }
@@ -57,18 +58,18 @@ fn pass(marks: &mut [bool], slots: &[Slot], flow: &Flow, place: usize, awaited: 
 }
 
 /// The greater of both numbers at an instruction, the second at a tail.
-fn widened(slots: &[Slot], place: usize, awaited: u32, width: u32) -> u32
+fn widened(slots: &Decoded, place: usize, awaited: u32, width: u32) -> u32
     requires { place < length slots.now }
     ensures { result ≡ option_map_or (λ i. max awaited width) (instruction_at slots.now place) width }
 {
-    match instruction_at(slots, place) {
+    match slots.at(place) {
         Some(_) => awaited.max(width),
         None => width,
     }
 }
 
 /// The most slots that are awaited after an instruction.
-fn most_awaited(marks: &mut [bool], slots: &[Slot], flow: &Flow) -> u32
+fn most_awaited(marks: &mut [bool], slots: &Decoded, flow: &Flow) -> u32
     requires unmarked { marks.old ≡ replicate (length slots.now) false }
     requires program { IsProgram slots.now }
     requires accepted { flow_fault slots.now ≡ None }
@@ -86,7 +87,7 @@ fn most_awaited(marks: &mut [bool], slots: &[Slot], flow: &Flow) -> u32
 
 /// The width of a program: the most different slots, over its instructions, that stand behind one and to
 /// which edges lead from it or from a slot before it.
-pub(crate) fn width_of(slots: &[Slot], flow: &Flow) -> u32
+pub(crate) fn width_of(slots: &Decoded, flow: &Flow) -> u32
     requires program { IsProgram slots.now }
     requires accepted { flow_fault slots.now ≡ None }
     requires flow { IsFlowOf slots.now flow.now.edges }

@@ -6,4 +6,4 @@ pub returns-in-Some : goal.returns-in-Some
 returns-in-Some c = marked_edges _ _ c.in-Some.instruction _ _ _ _ _ (sym c.in-Some.ensures) c.next_of.ensures c.jump_of.ensures c.mark.ensures c.mark-in-Some.ensures
 
 pub returns-in_default : goal.returns-in_default
-returns-in_default c = marked_none _ _ _ (sym c.instruction_at.ensures ∙ c.in_default.is)
+returns-in_default c = marked_none _ _ _ (sym c.at.ensures ∙ c.in_default.is)

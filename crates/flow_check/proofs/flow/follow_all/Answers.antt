@@ -37,7 +37,7 @@ loop-place-preserved c =
 
 pub returns-clause-budget : goal.returns-clause-budget
 returns-clause-budget c =
-    traced_end c.args.slots.now (record { program = c.requires.program; faultless = c.requires.accepted }) c.loop-place.place c.loop-place.budget c.loop-place.longest c.loop-place-test.false c.loop-place.invariant.0
+    traced_end c.args.slots.now (record { program = c.requires.program; faultless = c.requires.accepted }) c.loop-place.place c.loop-place.budget c.loop-place.longest (omega arith) c.loop-place.invariant.0
 
 pub returns-clause-counted : goal.returns-clause-counted
 returns-clause-counted c = ap length c.loop-place.invariant.1 ∙ (length-map-range_with_len (successors c.args.slots.now) 0 c.loop-place.place ∙ omega arith)

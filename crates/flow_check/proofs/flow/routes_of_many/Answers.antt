@@ -1,11 +1,11 @@
-use Rattle.std.proofs.Common.{length}
+use Rattle.std.proofs.Common.{ℕ, ap, ◌∙◌, length, take, replicate}
 use Rattle.std.proofs.lemmas.List.{take-replicate}
 use Rattle.flow_check.proofs.EdgeKinds.{are_few}
 use Rattle.flow_check.proofs.flow.routes_of_many.Goals as goal
 use Rattle.bpf_profile.specs.Limits.{most_slots}
 
 pub follow_all-requires-clause-unfound : goal.follow_all-requires-clause-unfound
-follow_all-requires-clause-unfound c = take-replicate (length c.args.slots.now) most_slots 0 c.requires.program.few
+follow_all-requires-clause-unfound c = ap (λ (n : ℕ). take n (replicate most_slots 0)) c.len-2.ensures.count ∙ take-replicate (length c.args.slots.now) most_slots 0 c.requires.program.few
 
 pub invariant_of-result : goal.invariant_of-result
 invariant_of-result c =

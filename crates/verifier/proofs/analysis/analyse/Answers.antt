@@ -11,14 +11,14 @@ use Rattle.verifier.proofs.analysis.analyse.Goals as goal
 
 pub pass_all-requires : goal.pass_all-requires
 pass_all-requires g c =
-    let all = c.slots-slots.ensures.all in (
+    let all = c.in_ok-slots.ensures.same in (
       c.requires.fits,
       (
         c.requires.fits,
         (
           c.deref_mut.ensures.value ∙ c.in_ok-states.ensures,
           (
-            subst IsProgram (sym all) c.slots-slots.ensures.program,
+            c.in_ok-slots.ensures.program,
             (ap flow_fault all ∙ c.requires.accepted, subst (λ (slots : List Slot). IsFlowOf slots c.args.flow.now.edges) (sym all) (is_flow_of c.args.program.now c.args.flow.now.edges c.requires.flow)),
           ),
         ),
@@ -29,6 +29,6 @@ pass_all-requires g c =
 pub returns-clause-safe : goal.returns-clause-safe
 returns-clause-safe g c = λ budget budgeted.
     sound g.D.Domain (record { registers = record { sound = record { words = g.met.D.Domain.contained_are_words; constants = g.met.D.Domain.words_are_contained; any = g.met.D.Domain.any_contains_all; operations = g.met.D.Domain.operations_are_contained; shifts = g.met.D.Domain.shifts_are_contained; conversions = g.met.D.Domain.conversions_are_contained; bounds = g.met.D.Domain.bounds_hold }; refines = record { bounds = g.met.D.Domain.bounds_hold; first = g.met.D.Domain.refining_keeps_the_first; second = g.met.D.Domain.refining_keeps_the_second }; first = g.met.D.Domain.joins_contain_the_first; second = g.met.D.Domain.joins_contain_the_second }; cells = record { words = g.met.D.Domain.contained_are_words; any = g.met.D.Domain.any_contains_all; first = g.met.D.Domain.joins_contain_the_first; second = g.met.D.Domain.joins_contain_the_second; conversions = g.met.D.Domain.conversions_are_contained; bounds = g.met.D.Domain.bounds_hold; zeros = g.met.D.Domain.low_zeros_hold } })
-    context_size c.args.program.now budget c.slots-slots.ensures.program c.requires.accepted budgeted
-    (subst (λ (slots : List Slot). analysis_fault g.D.Domain context_size slots ≡ None) c.slots-slots.ensures.all c.in_ok-pass_all.ensures.passed)
-    (are_words c.args.program.now c.slots-slots.ensures.program)
+    context_size c.args.program.now budget (subst IsProgram c.in_ok-slots.ensures.same c.in_ok-slots.ensures.program) c.requires.accepted budgeted
+    (subst (λ (slots : List Slot). analysis_fault g.D.Domain context_size slots ≡ None) c.in_ok-slots.ensures.same c.in_ok-pass_all.ensures.passed)
+    (are_words c.args.program.now (subst IsProgram c.in_ok-slots.ensures.same c.in_ok-slots.ensures.program))

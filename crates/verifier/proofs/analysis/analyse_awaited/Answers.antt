@@ -1,28 +1,20 @@
-use Rattle.std.proofs.Common.{◌≡◌, List, None, sym, ap, ◌∙◌, subst}
 use Rattle.bpf_profile.specs.Limits.{context_size}
-use Rattle.bpf_profile.specs.Flow.{flow_fault}
-use Rattle.bpf_profile.specs.Spelling.{IsProgram}
-use Rattle.bpf_profile.specs.declared.slot.Slot.{Slot}
-use Rattle.verifier.specs.Analysis.{analysis_fault}
-use Rattle.verifier.specs.Verifying.{IsFlowOf}
 use Rattle.verifier.proofs.Edges.{is_flow_of}
 use Rattle.verifier.proofs.Sound.{sound, are_words}
 use Rattle.verifier.proofs.analysis.analyse_awaited.Goals as goal
 
 pub pass_awaited-requires : goal.pass_awaited-requires
-pass_awaited-requires g c =
-    let all = c.slots.ensures.all in
-    record {
-      fits = c.requires.fits;
-      program = subst IsProgram (sym all) c.slots.ensures.program;
-      accepted = ap flow_fault all ∙ c.requires.accepted;
-      flow = subst (λ (slots : List Slot). IsFlowOf slots c.args.flow.now.edges) (sym all) (is_flow_of c.args.program.now c.args.flow.now.edges c.requires.flow);
-    }
+pass_awaited-requires g c = record {
+  fits = c.requires.fits;
+  program = c.requires.program;
+  accepted = c.requires.accepted;
+  flow = is_flow_of c.args.program.now c.args.flow.now.edges c.requires.flow;
+}
 
 -- the laws of the domain are all that soundness stands on
 pub returns-clause-safe : goal.returns-clause-safe
 returns-clause-safe g c = λ budget budgeted.
     sound g.D.Domain (record { registers = record { sound = record { words = g.met.D.Domain.contained_are_words; constants = g.met.D.Domain.words_are_contained; any = g.met.D.Domain.any_contains_all; operations = g.met.D.Domain.operations_are_contained; shifts = g.met.D.Domain.shifts_are_contained; conversions = g.met.D.Domain.conversions_are_contained; bounds = g.met.D.Domain.bounds_hold }; refines = record { bounds = g.met.D.Domain.bounds_hold; first = g.met.D.Domain.refining_keeps_the_first; second = g.met.D.Domain.refining_keeps_the_second }; first = g.met.D.Domain.joins_contain_the_first; second = g.met.D.Domain.joins_contain_the_second }; cells = record { words = g.met.D.Domain.contained_are_words; any = g.met.D.Domain.any_contains_all; first = g.met.D.Domain.joins_contain_the_first; second = g.met.D.Domain.joins_contain_the_second; conversions = g.met.D.Domain.conversions_are_contained; bounds = g.met.D.Domain.bounds_hold; zeros = g.met.D.Domain.low_zeros_hold } })
-    context_size c.args.program.now budget c.slots.ensures.program c.requires.accepted budgeted
-    (subst (λ (slots : List Slot). analysis_fault g.D.Domain context_size slots ≡ None) c.slots.ensures.all c.in_ok-pass_awaited.ensures.passed)
-    (are_words c.args.program.now c.slots.ensures.program)
+    context_size c.args.program.now budget c.requires.program c.requires.accepted budgeted
+    c.in_ok-pass_awaited.ensures.passed
+    (are_words c.args.program.now c.requires.program)
