@@ -7,6 +7,8 @@
 
 pub mod arithmetic;
 pub mod branches;
+#[cfg(test)]
+mod checks;
 mod domain;
 mod flat;
 pub mod laws;

@@ -5,6 +5,8 @@
 mod address;
 mod arithmetic;
 mod branches;
+#[cfg(test)]
+mod checks;
 pub mod laws;
 mod operands;
 mod registers;

@@ -3,6 +3,8 @@
 #![tactic(auto)]
 
 mod calls;
+#[cfg(test)]
+mod checks;
 pub mod laws;
 mod state;
 #[cfg(test)]

@@ -4,6 +4,8 @@
 
 mod books;
 mod changes;
+#[cfg(test)]
+mod checks;
 mod cutting;
 #[cfg(test)]
 mod event_tests;

@@ -14,6 +14,8 @@
 
 mod arguments;
 mod assembly;
+#[cfg(test)]
+mod checks;
 mod disassembly;
 mod error;
 pub mod laws;

@@ -1,4 +1,5 @@
 use super::*;
+use crate::checks::{same, same_at};
 use crate::table::INSTRUCTIONS;
 use bpf_decode::Program;
 use refusals::RefusalNumber;
@@ -54,9 +55,9 @@ fn exits(alloc: Global, count: usize, end: &str) -> Result<String, AllocError> {
 fn the_default_classifier(rt: HostRuntime) -> Result<(), Fail> {
     let program = Program::decode(rt.alloc(), &CLASSIFIER)?;
     let text = disassemble(rt.alloc(), &program)?;
-    assert_eq!(rt; text.as_str(), CLASSIFIER_LINES);
+    same(&rt, text.as_str(), CLASSIFIER_LINES);
     let again = assemble(rt.alloc(), CLASSIFIER_LINES)?;
-    assert_eq!(rt; again.encode()?.as_slice(), CLASSIFIER.as_slice());
+    same(&rt, again.encode()?.as_slice(), CLASSIFIER.as_slice());
     Ok(())
 }
 
@@ -74,11 +75,11 @@ fn each_instruction_comes_back(rt: HostRuntime) -> Result<(), Fail> {
     for row in INSTRUCTIONS.lines() {
         let (bytes, line) = row.split_once(' ').ok_or("no blank")?;
         let (encoded, text) = there_and_back(rt.alloc(), line)?;
-        assert_eq!(rt; encoded.as_str(), bytes, "{line}");
-        assert_eq!(rt; text.as_str().trim_end(), line);
+        same_at(&rt, encoded.as_str(), bytes, &line);
+        same(&rt, text.as_str().trim_end(), line);
         count = count.saturating_add(1);
     }
-    assert_eq!(rt; count, 141);
+    same(&rt, count, 141);
     Ok(())
 }
 
@@ -112,10 +113,11 @@ fn lenient_forms(rt: HostRuntime) -> Result<(), Fail> {
     ];
     for (text, lines) in rows {
         let program = assemble(rt.alloc(), text)?;
-        assert_eq!(rt;
+        same_at(
+            &rt,
             disassemble(rt.alloc(), &program)?.as_str(),
             lines,
-            "{text}"
+            &text,
         );
     }
     Ok(())
@@ -140,10 +142,11 @@ fn unknown_words(rt: HostRuntime) {
         ("é", 1),
     ];
     for (text, line) in rows {
-        assert_eq!(rt;
+        same_at(
+            &rt,
             fault(rt.alloc(), text),
             Some((line, RefusalNumber::UnknownWord)),
-            "{text}"
+            &text,
         );
     }
 }
@@ -195,10 +198,11 @@ fn wrong_operands(rt: HostRuntime) {
         ("ja +3 , , , , , , , , , , , , , , , , , , , , , , ,", 1),
     ];
     for (text, line) in rows {
-        assert_eq!(rt;
+        same_at(
+            &rt,
             fault(rt.alloc(), text),
             Some((line, RefusalNumber::BadOperand)),
-            "{text}"
+            &text,
         );
     }
 }
@@ -224,10 +228,11 @@ fn numbers_out_of_range(rt: HostRuntime) {
         ("lddw r1, -9223372036854775809", 1),
     ];
     for (text, line) in rows {
-        assert_eq!(rt;
+        same_at(
+            &rt,
             fault(rt.alloc(), text),
             Some((line, RefusalNumber::BadNumber)),
-            "{text}"
+            &text,
         );
     }
 }
@@ -235,16 +240,16 @@ fn numbers_out_of_range(rt: HostRuntime) {
 #[test]
 fn texts_of_no_program(rt: HostRuntime) -> Result<(), Fail> {
     let none = Some((0, RefusalNumber::BadTextLength));
-    assert_eq!(rt; fault(rt.alloc(), ""), none);
-    assert_eq!(rt; fault(rt.alloc(), "\n ; exit\n"), none);
+    same(&rt, fault(rt.alloc(), ""), none);
+    same(&rt, fault(rt.alloc(), "\n ; exit\n"), none);
     let most = exits(rt.alloc(), 4096, "; done")?;
-    assert_eq!(rt; assemble(rt.alloc(), &most)?.len(), 4096);
+    same(&rt, assemble(rt.alloc(), &most)?.len(), 4096);
     let over = exits(rt.alloc(), 4097, "mvo")?;
     let past = Some((4097, RefusalNumber::BadTextLength));
-    assert_eq!(rt; fault(rt.alloc(), &over), past);
+    same(&rt, fault(rt.alloc(), &over), past);
     let wide = exits(rt.alloc(), 4095, "lddw r0, 1")?;
     let last = Some((4096, RefusalNumber::BadTextLength));
-    assert_eq!(rt; fault(rt.alloc(), &wide), last);
+    same(&rt, fault(rt.alloc(), &wide), last);
     Ok(())
 }
 
@@ -259,13 +264,21 @@ fn texts_of_many_lines(rt: HostRuntime) -> Result<(), Fail> {
     for count in COUNTS {
         let text = exits(rt.alloc(), count, "")?;
         let program = assemble(rt.alloc(), &text)?;
-        assert_eq!(rt; program.len(), count);
-        assert_eq!(rt; disassemble(rt.alloc(), &program)?.as_str(), text.as_str());
+        same(&rt, program.len(), count);
+        same(
+            &rt,
+            disassemble(rt.alloc(), &program)?.as_str(),
+            text.as_str(),
+        );
     }
     let text = exits(rt.alloc(), 4096, "")?;
     let program = assemble(rt.alloc(), &text)?;
-    assert_eq!(rt; program.len(), 4096);
-    assert_eq!(rt; disassemble(rt.alloc(), &program)?.as_str(), text.as_str());
+    same(&rt, program.len(), 4096);
+    same(
+        &rt,
+        disassemble(rt.alloc(), &program)?.as_str(),
+        text.as_str(),
+    );
     Ok(())
 }
 
@@ -274,10 +287,10 @@ fn texts_of_each_length(rt: HostRuntime) -> Result<(), Fail> {
     let mut text = String::from_str(rt.alloc(), "exit")?;
     for length in 5usize..300 {
         text.push(' ')?;
-        assert_eq!(rt; text.len(), length);
+        same(&rt, text.len(), length);
         let program = assemble(rt.alloc(), &text)?;
-        assert_eq!(rt; program.len(), 1, "{length}");
-        assert_eq!(rt; disassemble(rt.alloc(), &program)?.as_str(), "exit\n");
+        same_at(&rt, program.len(), 1, &length);
+        same(&rt, disassemble(rt.alloc(), &program)?.as_str(), "exit\n");
     }
     Ok(())
 }
@@ -291,8 +304,12 @@ fn texts_of_long_lines(rt: HostRuntime) -> Result<(), Fail> {
             text.push_str("jslt32 r7, -2147483648, -32768\n")?;
         }
         let program = assemble(rt.alloc(), &text)?;
-        assert_eq!(rt; program.len(), count);
-        assert_eq!(rt; disassemble(rt.alloc(), &program)?.as_str(), text.as_str());
+        same(&rt, program.len(), count);
+        same(
+            &rt,
+            disassemble(rt.alloc(), &program)?.as_str(),
+            text.as_str(),
+        );
     }
     Ok(())
 }
@@ -328,7 +345,7 @@ fn texts_of_errors(rt: HostRuntime) -> Result<(), Fail> {
     ];
     for (line, kind, text) in rows {
         let e = AsmError { line, kind };
-        assert_eq!(rt; format!(in rt.alloc(); "{e}")?.as_str(), text);
+        same(&rt, format!(in rt.alloc(); "{e}")?.as_str(), text);
     }
     Ok(())
 }

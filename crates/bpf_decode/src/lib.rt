@@ -1,6 +1,8 @@
 //! Programs of the BPF profile as bytes, slots and instructions, both ways, with the laws of both ways.
 #![tactic(auto)]
 
+#[cfg(test)]
+mod checks;
 mod encoding;
 mod error;
 mod instructions;

@@ -1,6 +1,7 @@
 mod instructions;
 
 use super::*;
+use crate::checks::{same, same_at};
 use bpf_profile::{Instruction, Register, Slot};
 use refusals::RefusalNumber;
 use std::alloc::{AllocError, Global};
@@ -46,10 +47,11 @@ fn faults_of_the_first_slot(rt: HostRuntime) {
     ];
     for (first, number) in rows {
         let slots = [first, EXIT];
-        assert_eq!(rt;
+        same_at(
+            &rt,
             fault(rt.alloc(), slots.as_flattened()),
             Some((0, number)),
-            "{first:?}"
+            &first,
         );
     }
 }
@@ -70,10 +72,14 @@ fn faults_of_lengths_and_tails(rt: HostRuntime) -> Result<(), Fail> {
         ),
     ];
     for (bytes, slot, number) in rows {
-        assert_eq!(rt; fault(rt.alloc(), bytes), Some((slot, number)));
+        same(&rt, fault(rt.alloc(), bytes), Some((slot, number)));
     }
     let over = long(rt.alloc(), 4095)?;
-    assert_eq!(rt; fault(rt.alloc(), &over), Some((0, RefusalNumber::Length)));
+    same(
+        &rt,
+        fault(rt.alloc(), &over),
+        Some((0, RefusalNumber::Length)),
+    );
     let most = long(rt.alloc(), 4094)?;
     let program = Program::decode(rt.alloc(), &most)?;
     assert_eq!(rt; program.len(), 4096);
@@ -94,7 +100,7 @@ fn programs_come_back(rt: HostRuntime) -> Result<(), Fail> {
     ];
     for bytes in rows {
         let program = Program::decode(rt.alloc(), bytes)?;
-        assert_eq!(rt; program.encode()?.as_slice(), bytes);
+        same(&rt, program.encode()?.as_slice(), bytes);
     }
     Ok(())
 }
@@ -122,14 +128,16 @@ fn texts(rt: HostRuntime) -> Result<(), Fail> {
         slot: 7,
         number: RefusalNumber::BadField,
     };
-    assert_eq!(rt;
+    same(
+        &rt,
         format!(in rt.alloc(); "{e}")?.as_str(),
-        "refused 3 BadField slot 7"
+        "refused 3 BadField slot 7",
     );
     let memory = DecodeError::from(AllocError);
-    assert_eq!(rt;
+    same(
+        &rt,
         format!(in rt.alloc(); "{memory}")?.as_str(),
-        "refused 23 OutOfMemory"
+        "refused 23 OutOfMemory",
     );
     Ok(())
 }

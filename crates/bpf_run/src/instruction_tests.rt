@@ -1,5 +1,6 @@
 //! Single instructions over bare words and memory.
 use crate::calls::call;
+use crate::checks::{is_true, same};
 use crate::machine::Machine;
 use crate::memory::{BYTES, Memory, copy_context, load, store};
 use crate::registers::Words;
@@ -39,10 +40,10 @@ fn every_size_is_stored_and_loaded(rt: HostRuntime) {
     for (size, bytes, zero, sign) in rows {
         let mut memory = [0xee; BYTES];
         store(&mut memory, size, 400, 0x8182838485868788);
-        assert_eq!(rt; load(&memory, size, Extension::Zero, 400), zero);
-        assert_eq!(rt; load(&memory, size, Extension::Sign, 400), sign);
-        assert_eq!(rt; memory[399], 0xee);
-        assert_eq!(rt; memory[400 + bytes], 0xee);
+        same(&rt, load(&memory, size, Extension::Zero, 400), zero);
+        same(&rt, load(&memory, size, Extension::Sign, 400), sign);
+        same(&rt, memory[399], 0xee);
+        same(&rt, memory[400 + bytes], 0xee);
     }
 }
 
@@ -63,13 +64,13 @@ fn a_pointer_is_stored_and_loaded(rt: HostRuntime) {
     );
     // ldxdw r2, [r10-8]
     let load = Flat::LoadDoubleWord(Register::new(2), Register::new(10), 0xfffffffffffffff8);
-    assert!(rt; machine.execute(&store, &[]).is_some());
-    assert!(rt; machine.execute(&load, &[]).is_some());
+    is_true(&rt, machine.execute(&store, &[]).is_some());
+    is_true(&rt, machine.execute(&load, &[]).is_some());
     let registers = machine.registers;
-    assert_eq!(rt; registers, [0, 0, 640, 0, 0, 0, 0, 0, 0, 0, 640]);
+    same(&rt, registers, [0, 0, 640, 0, 0, 0, 0, 0, 0, 0, 640]);
     let memory = machine.memory;
     let (before, first, second, third) = (memory[631], memory[632], memory[633], memory[634]);
-    assert_eq!(rt; (before, first, second, third), (0xee, 0x80, 2, 0));
+    same(&rt, (before, first, second, third), (0xee, 0x80, 2, 0));
 }
 
 #[test]
@@ -83,11 +84,12 @@ fn the_context_is_loaded(rt: HostRuntime) {
     };
     // ldxsw r1, [r1+124]
     let load = Flat::LoadSignedWord(Register::new(1), Register::new(1), 124);
-    assert!(rt; machine.execute(&load, &[]).is_some());
+    is_true(&rt, machine.execute(&load, &[]).is_some());
     let registers = machine.registers;
-    assert_eq!(rt;
+    same(
+        &rt,
         registers,
-        [0, 0xffffffff807f7e7d, 0, 0, 0, 0, 0, 0, 0, 0, 640]
+        [0, 0xffffffff807f7e7d, 0, 0, 0, 0, 0, 0, 0, 0, 640],
     );
 }
 
@@ -104,10 +106,10 @@ fn pointers_are_computed_with(rt: HostRuntime) {
     let subtract = Flat::Subtract64Immediate(Register::new(10), 16);
     // add r1, r10
     let add = Flat::Add64Register(Register::new(1), Register::new(10));
-    assert!(rt; machine.execute(&subtract, &[]).is_some());
-    assert!(rt; machine.execute(&add, &[]).is_some());
+    is_true(&rt, machine.execute(&subtract, &[]).is_some());
+    is_true(&rt, machine.execute(&add, &[]).is_some());
     let registers = machine.registers;
-    assert_eq!(rt; registers, [0, 624, 0, 0, 0, 0, 0, 0, 0, 0, 624]);
+    same(&rt, registers, [0, 624, 0, 0, 0, 0, 0, 0, 0, 0, 624]);
 }
 
 #[test]
@@ -116,14 +118,15 @@ fn facts_and_the_front_are_read(rt: HostRuntime) {
     let mut memory = memory_of(&outcome);
     let mut registers = [9, 15, 8, 7, 6, 5, 4, 3, 2, 1, 640];
     call(1, &mut registers, &mut memory, &outcome);
-    assert_eq!(rt;
+    same(
+        &rt,
         registers,
-        [0xfedcba9876543210, 15, 8, 7, 6, 5, 4, 3, 2, 1, 640]
+        [0xfedcba9876543210, 15, 8, 7, 6, 5, 4, 3, 2, 1, 640],
     );
     let mut registers = [9, 63, 8, 7, 6, 5, 4, 3, 2, 1, 640];
     call(2, &mut registers, &mut memory, &outcome);
-    assert_eq!(rt; registers, [128, 63, 8, 7, 6, 5, 4, 3, 2, 1, 640]);
-    assert_eq!(rt; memory, memory_of(&outcome));
+    same(&rt, registers, [128, 63, 8, 7, 6, 5, 4, 3, 2, 1, 640]);
+    same(&rt, memory, memory_of(&outcome));
 }
 
 #[test]
@@ -132,10 +135,11 @@ fn the_front_of_a_tag_is_copied(rt: HostRuntime) {
     let mut memory = memory_of(&outcome);
     let mut registers = [9, 632, 3, 7, 6, 5, 4, 3, 2, 1, 640];
     call(3, &mut registers, &mut memory, &outcome);
-    assert_eq!(rt; registers, [2, 632, 3, 7, 6, 5, 4, 3, 2, 1, 640]);
-    assert_eq!(rt;
+    same(&rt, registers, [2, 632, 3, 7, 6, 5, 4, 3, 2, 1, 640]);
+    same(
+        &rt,
         &memory[631..],
-        [0xee, 0x61, 0x62, 0, 0xee, 0xee, 0xee, 0xee, 0xee].as_slice()
+        [0xee, 0x61, 0x62, 0, 0xee, 0xee, 0xee, 0xee, 0xee].as_slice(),
     );
 }
 
@@ -151,6 +155,6 @@ fn the_start_of_a_tag_is_compared(rt: HostRuntime) {
         memory[634] = 0x79;
         let mut registers = [9, 632, 3, 7, 6, 5, 4, 3, 2, 1, 640];
         call(4, &mut registers, &mut memory, &outcome);
-        assert_eq!(rt; registers, [answer, 632, 3, 7, 6, 5, 4, 3, 2, 1, 640]);
+        same(&rt, registers, [answer, 632, 3, 7, 6, 5, 4, 3, 2, 1, 640]);
     }
 }

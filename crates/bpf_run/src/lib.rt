@@ -3,6 +3,8 @@
 
 mod access;
 mod calls;
+#[cfg(test)]
+mod checks;
 mod execution;
 #[cfg(test)]
 mod instruction_tests;

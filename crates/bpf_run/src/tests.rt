@@ -1,4 +1,5 @@
 //! Verdicts and steps of programs on outcomes.
+use crate::checks::{same, same_at};
 use crate::{Verdict, judge, run};
 use helpers::Record;
 use std::alloc::{AllocError, Global};
@@ -36,10 +37,11 @@ fn the_default_classifier_judges(rt: HostRuntime) {
     ];
     for (kind, status, verdict, steps) in rows {
         let outcome = outcome(kind, status).expect(&rt, "an empty tag");
-        assert_eq!(rt;
+        same_at(
+            &rt,
             run(&classifier, &outcome),
             (verdict, steps),
-            "{kind} {status}"
+            (&kind, &status),
         );
     }
 }
@@ -79,10 +81,10 @@ fn judged_work_is_tied(rt: HostRuntime) -> Result<(), Fail> {
     let program = verify(rt.alloc(), &bytes).expect(&rt, "a constant answer");
     let outcome = outcome(0, 500).expect(&rt, "an empty tag");
     let judged = judge(Arc::new(rt.alloc(), program)?, outcome);
-    assert_eq!(rt; judged.verdict(), Verdict::Ignored);
-    assert_eq!(rt; judged.steps(), 2);
-    assert_eq!(rt; *judged.outcome(), outcome);
-    assert_eq!(rt; judged.program().bytes(), bytes.as_slice());
+    same(&rt, judged.verdict(), Verdict::Ignored);
+    same(&rt, judged.steps(), 2);
+    same(&rt, *judged.outcome(), outcome);
+    same(&rt, judged.program().bytes(), bytes.as_slice());
     Ok(())
 }
 
@@ -100,9 +102,9 @@ fn longest(alloc: Global) -> Result<Vec<u8>, AllocError> {
 fn the_longest_program_runs(rt: HostRuntime) -> Result<(), Fail> {
     let bytes = longest(rt.alloc())?;
     let program = verify(rt.alloc(), &bytes).expect(&rt, "4,096 slots");
-    assert_eq!(rt; program.budget(), 4096);
+    same(&rt, program.budget(), 4096);
     let outcome = outcome(0, 0).expect(&rt, "an empty tag");
-    assert_eq!(rt; run(&program, &outcome), (Verdict::Success, 4096));
+    same(&rt, run(&program, &outcome), (Verdict::Success, 4096));
     Ok(())
 }
 
@@ -126,14 +128,14 @@ fn paths_meet(rt: HostRuntime) -> Result<(), Fail> {
     ];
     let bytes = bytes_of(rt.alloc(), &slots)?;
     let program = verify(rt.alloc(), &bytes).expect(&rt, "numbers where paths meet");
-    assert_eq!(rt; program.budget(), 8);
+    same(&rt, program.budget(), 8);
     for (kind, verdict, steps) in [
         (0, Verdict::Success, 8),
         (1, Verdict::Success, 8),
         (2, Verdict::Failure, 7),
     ] {
         let outcome = outcome(kind, 0).expect(&rt, "an empty tag");
-        assert_eq!(rt; run(&program, &outcome), (verdict, steps), "{kind}");
+        same_at(&rt, run(&program, &outcome), (verdict, steps), &kind);
     }
     Ok(())
 }

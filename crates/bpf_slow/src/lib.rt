@@ -5,6 +5,8 @@
 mod arithmetic;
 mod calls;
 mod cells;
+#[cfg(test)]
+mod checks;
 mod ending;
 mod jumps;
 pub mod laws;

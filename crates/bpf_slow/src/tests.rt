@@ -1,5 +1,6 @@
 //! Ends of runs of small programs. A slot is written as a number with its first byte first, in the
 //! words of the assembler beside it.
+use crate::checks::{same, same_at};
 use crate::{End, trace};
 use bpf_decode::Program;
 use bpf_profile::TrapReason;
@@ -98,15 +99,17 @@ fn arithmetic_at_its_edges(rt: HostRuntime) -> Result<(), Fail> {
         &[0xb701000034120000, 0xdc01000010000000, 0xb702000012340000],
     ];
     for first in rows {
-        assert_eq!(rt;
+        same_at(
+            &rt,
             end(rt.alloc(), first, &COMPARE, &outcome, 7)?,
             End::Done(0, 7),
-            "{first:?}"
+            &first,
         );
-        assert_eq!(rt;
+        same_at(
+            &rt,
             end(rt.alloc(), first, &COMPARE, &outcome, 6)?,
             End::OutOfSteps,
-            "{first:?}"
+            &first,
         );
     }
     Ok(())
@@ -316,17 +319,20 @@ fn loads_of_every_size(rt: HostRuntime) -> Result<(), Fail> {
 fn answers(rt: HostRuntime) -> Result<(), Fail> {
     let outcome = outcome_of_kind(0).expect(&rt, "an empty tag");
     // mov r0, 3 / exit
-    assert_eq!(rt;
+    same(
+        &rt,
         end(rt.alloc(), &[0xb700000003000000], &[EXIT], &outcome, 100)?,
-        End::Trap(1, TrapReason::Answer)
+        End::Trap(1, TrapReason::Answer),
     );
-    assert_eq!(rt;
+    same(
+        &rt,
         end(rt.alloc(), &[], &[EXIT], &outcome, 100)?,
-        End::Trap(0, TrapReason::Unset)
+        End::Trap(0, TrapReason::Unset),
     );
-    assert_eq!(rt;
+    same(
+        &rt,
         end(rt.alloc(), &[], &[EXIT], &outcome, 0)?,
-        End::OutOfSteps
+        End::OutOfSteps,
     );
     Ok(())
 }
@@ -337,10 +343,11 @@ fn a_small_kind_is_the_answer(rt: HostRuntime) -> Result<(), Fail> {
     let first = [0x6110000000000000, 0xb500010002000000, 0xb700000002000000];
     for (kind, answer, steps) in [(0, 0, 3), (1, 1, 3), (4, 2, 4)] {
         let outcome = outcome_of_kind(kind).expect(&rt, "an empty tag");
-        assert_eq!(rt;
+        same_at(
+            &rt,
             end(rt.alloc(), &first, &[EXIT], &outcome, 100)?,
             End::Done(answer, steps),
-            "{kind}"
+            &kind,
         );
     }
     Ok(())
@@ -401,10 +408,11 @@ fn wrong_pointers_trap(rt: HostRuntime) -> Result<(), Fail> {
         ),
     ];
     for (first, expected) in rows {
-        assert_eq!(rt;
+        same_at(
+            &rt,
             end(rt.alloc(), first, &[EXIT], &outcome, 100)?,
             expected,
-            "{first:?}"
+            &first,
         );
     }
     Ok(())
@@ -434,10 +442,11 @@ fn facts_are_numbered(rt: HostRuntime) -> Result<(), Fail> {
         ),
     ];
     for (first, expected) in rows {
-        assert_eq!(rt;
+        same_at(
+            &rt,
             end(rt.alloc(), first, &[EXIT], &outcome, 100)?,
             expected,
-            "{first:?}"
+            &first,
         );
     }
     Ok(())
@@ -503,11 +512,20 @@ fn the_start_of_a_tag_is_compared(rt: HostRuntime) -> Result<(), Fail> {
     let rest = [first, second, 0xb702000002000000, 0x8500000004000000, EXIT];
     let pay = outcome_with_tag(&[0x70, 0x61, 0x79]).expect(&rt, "a short tag");
     let p = outcome_with_tag(&[0x70]).expect(&rt, "a short tag");
-    assert_eq!(rt; end(rt.alloc(), &bytes, &rest, &pay, 100)?, End::Done(1, 7));
-    assert_eq!(rt; end(rt.alloc(), &bytes, &rest, &p, 100)?, End::Done(0, 7));
-    assert_eq!(rt;
+    same(
+        &rt,
+        end(rt.alloc(), &bytes, &rest, &pay, 100)?,
+        End::Done(1, 7),
+    );
+    same(
+        &rt,
+        end(rt.alloc(), &bytes, &rest, &p, 100)?,
+        End::Done(0, 7),
+    );
+    same(
+        &rt,
         end(rt.alloc(), &bytes[..1], &rest, &pay, 100)?,
-        End::Trap(4, TrapReason::Argument)
+        End::Trap(4, TrapReason::Argument),
     );
     Ok(())
 }

@@ -3,6 +3,8 @@
 #![tactic(auto)]
 
 mod calls;
+#[cfg(test)]
+mod checks;
 mod counters;
 pub mod laws;
 mod machine;

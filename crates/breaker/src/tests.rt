@@ -1,4 +1,5 @@
 //! A breaker by hand.
+use crate::checks::{is_true, same, same_at};
 use crate::{Breaker, Config, Fate, Metrics, Note, Permission, Standing, State};
 use service_profile::{ConfigParts, SlidingWindowType};
 use std::alloc::Global;
@@ -59,39 +60,40 @@ fn stands(rt: &impl Abort, breaker: &Breaker, state: State, period: u64, since: 
         period,
         since,
     };
-    assert_eq!(rt; breaker.standing(), standing);
-    assert_eq!(rt; breaker.permissions_held(), held);
+    same(rt, breaker.standing(), standing);
+    same(rt, breaker.permissions_held(), held);
 }
 
 #[test]
 fn a_breaker_opens_and_closes_again(rt: HostRuntime) -> Result<(), Fail> {
     let mut b = breaker(&rt, rt.alloc(), PARTS)?;
     stands(&rt, &b, State::Closed, 1, 0, 0);
-    assert_eq!(rt; b.config().parts(), PARTS);
-    assert_eq!(rt; permit(&rt, &mut b, 5), Some(1));
-    assert_eq!(rt; permit(&rt, &mut b, 6), Some(1));
-    assert_eq!(rt; record(&rt, &mut b, 10, 1, true), Fate::Recorded);
+    same(&rt, b.config().parts(), PARTS);
+    same(&rt, permit(&rt, &mut b, 5), Some(1));
+    same(&rt, permit(&rt, &mut b, 6), Some(1));
+    same(&rt, record(&rt, &mut b, 10, 1, true), Fate::Recorded);
     stands(&rt, &b, State::Closed, 1, 0, 1);
-    assert_eq!(rt; record(&rt, &mut b, 20, 1, false), Fate::Recorded);
+    same(&rt, record(&rt, &mut b, 20, 1, false), Fate::Recorded);
     stands(&rt, &b, State::Open, 2, 20, 0);
-    assert_eq!(rt; permit(&rt, &mut b, 1_019), None);
+    same(&rt, permit(&rt, &mut b, 1_019), None);
     stands(&rt, &b, State::Open, 2, 20, 0);
-    assert_eq!(rt; permit(&rt, &mut b, 1_020), Some(3));
+    same(&rt, permit(&rt, &mut b, 1_020), Some(3));
     stands(&rt, &b, State::HalfOpen, 3, 1_020, 1);
-    assert_eq!(rt; permit(&rt, &mut b, 1_021), Some(3));
-    assert_eq!(rt; permit(&rt, &mut b, 1_022), Some(3));
-    assert_eq!(rt; permit(&rt, &mut b, 1_023), None);
+    same(&rt, permit(&rt, &mut b, 1_021), Some(3));
+    same(&rt, permit(&rt, &mut b, 1_022), Some(3));
+    same(&rt, permit(&rt, &mut b, 1_023), None);
     give_back(&rt, &mut b, 3);
     stands(&rt, &b, State::HalfOpen, 3, 1_020, 2);
-    assert_eq!(rt; permit(&rt, &mut b, 1_024), Some(3));
+    same(&rt, permit(&rt, &mut b, 1_024), Some(3));
     for (moment, left) in [(1_030, 2), (1_031, 1)] {
-        assert_eq!(rt;
+        same(
+            &rt,
             record(&rt, &mut b, moment, 3, moment == 1_030),
-            Fate::Recorded
+            Fate::Recorded,
         );
         stands(&rt, &b, State::HalfOpen, 3, 1_020, left);
     }
-    assert_eq!(rt; record(&rt, &mut b, 1_032, 3, false), Fate::Recorded);
+    same(&rt, record(&rt, &mut b, 1_032, 3, false), Fate::Recorded);
     stands(&rt, &b, State::Closed, 4, 1_032, 0);
     Ok(())
 }
@@ -99,17 +101,17 @@ fn a_breaker_opens_and_closes_again(rt: HostRuntime) -> Result<(), Fail> {
 #[test]
 fn a_stale_verdict_changes_nothing(rt: HostRuntime) -> Result<(), Fail> {
     let mut b = breaker(&rt, rt.alloc(), PARTS)?;
-    assert_eq!(rt; permit(&rt, &mut b, 0), Some(1));
+    same(&rt, permit(&rt, &mut b, 0), Some(1));
     move_to(&rt, &mut b, 7, State::HalfOpen);
     stands(&rt, &b, State::HalfOpen, 2, 7, 0);
-    assert_eq!(rt; permit(&rt, &mut b, 8), Some(2));
-    assert_eq!(rt; record(&rt, &mut b, 9, 1, true), Fate::Stale);
+    same(&rt, permit(&rt, &mut b, 8), Some(2));
+    same(&rt, record(&rt, &mut b, 9, 1, true), Fate::Stale);
     give_back(&rt, &mut b, 1);
     stands(&rt, &b, State::HalfOpen, 2, 7, 1);
-    assert_eq!(rt; record(&rt, &mut b, 9, 2, true), Fate::Recorded);
+    same(&rt, record(&rt, &mut b, 9, 2, true), Fate::Recorded);
     move_to(&rt, &mut b, 10, State::HalfOpen);
     stands(&rt, &b, State::HalfOpen, 3, 10, 0);
-    assert_eq!(rt; b.metrics(10).total, 0);
+    same(&rt, b.metrics(10).total, 0);
     Ok(())
 }
 
@@ -122,14 +124,14 @@ fn the_other_states(rt: HostRuntime) -> Result<(), Fail> {
     ] {
         move_to(&rt, &mut b, period, state);
         for _ in 0..3 {
-            assert_eq!(rt; permit(&rt, &mut b, 10), Some(period));
-            assert_eq!(rt; record(&rt, &mut b, 10, period, true), fate);
+            same(&rt, permit(&rt, &mut b, 10), Some(period));
+            same(&rt, record(&rt, &mut b, 10, period, true), fate);
         }
         stands(&rt, &b, state, period, period, 0);
-        assert_eq!(rt; b.metrics(10).failed, total);
+        same(&rt, b.metrics(10).failed, total);
     }
     move_to(&rt, &mut b, 30, State::ForcedOpen);
-    assert_eq!(rt; permit(&rt, &mut b, u64::MAX), None);
+    same(&rt, permit(&rt, &mut b, u64::MAX), None);
     Ok(())
 }
 
@@ -150,23 +152,24 @@ fn metrics_show_rates_from_the_minimum_on(rt: HostRuntime) -> Result<(), Fail> {
         failure_rate: None,
         slow_rate: None,
     };
-    assert_eq!(rt; b.metrics(0), wanted);
+    same(&rt, b.metrics(0), wanted);
     for moment in [1_000, 2_000, 4_999] {
-        assert_eq!(rt; permit(&rt, &mut b, moment), Some(2));
-        assert_eq!(rt;
+        same(&rt, permit(&rt, &mut b, moment), Some(2));
+        same(
+            &rt,
             record(&rt, &mut b, moment, 2, moment == 2_000),
-            Fate::Recorded
+            Fate::Recorded,
         );
     }
     wanted.total = 3;
     wanted.failed = 1;
     wanted.failure_rate = Some(33);
     wanted.slow_rate = Some(0);
-    assert_eq!(rt; b.metrics(4_999), wanted);
+    same(&rt, b.metrics(4_999), wanted);
     wanted.total = 2;
     wanted.failure_rate = None;
     wanted.slow_rate = None;
-    assert_eq!(rt; b.metrics(5_000), wanted);
+    same(&rt, b.metrics(5_000), wanted);
     Ok(())
 }
 
@@ -181,9 +184,9 @@ fn the_minimum_is_capped_by_the_window(rt: HostRuntime) -> Result<(), Fail> {
         (3, State::Closed),
         (4, State::Open),
     ] {
-        assert_eq!(rt; permit(&rt, &mut b, moment), Some(1));
-        assert_eq!(rt; record(&rt, &mut b, moment, 1, true), Fate::Recorded);
-        assert_eq!(rt; b.standing().state, state, "{moment}");
+        same(&rt, permit(&rt, &mut b, moment), Some(1));
+        same(&rt, record(&rt, &mut b, moment, 1, true), Fate::Recorded);
+        same_at(&rt, b.standing().state, state, &moment);
     }
     Ok(())
 }

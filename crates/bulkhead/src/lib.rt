@@ -2,6 +2,8 @@
 //! wait of 0).
 #![tactic(auto)]
 
+#[cfg(test)]
+mod checks;
 mod places;
 #[cfg(test)]
 mod tests;

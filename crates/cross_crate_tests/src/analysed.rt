@@ -1,4 +1,5 @@
 //! What the analysis accepts and refuses, and what accepted programs answer.
+use crate::checks::{same, same_at};
 use crate::told::{assembled, bytes_of, judged, verified};
 use std::alloc::Global;
 use std::process::Abort;
@@ -7,7 +8,7 @@ use std::test::Fail;
 /// That a program in assembler text is verified with this line.
 fn verifies(rt: &impl Abort, alloc: Global, text: &str, printed: &str) -> Result<(), Fail> {
     let program = assembled(rt, alloc, text)?;
-    assert_eq!(rt; verified(alloc, &program)?.as_str(), printed, "{text}");
+    same_at(rt, verified(alloc, &program)?.as_str(), printed, &text);
     Ok(())
 }
 
@@ -21,7 +22,7 @@ fn judges(
 ) -> Result<(), Fail> {
     let program = assembled(rt, alloc, text)?;
     let line = judged(rt, alloc, &program, outcome)?;
-    assert_eq!(rt; line.as_str(), printed, "{text} {outcome}");
+    same_at(rt, line.as_str(), printed, (&text, &outcome));
     Ok(())
 }
 
@@ -61,7 +62,7 @@ fn masks_bound_and_align_pointers(rt: HostRuntime) -> Result<(), Fail> {
         program.push_str(load)?;
         program.push_str("b7000000000000009500000000000000")?;
         let bytes = bytes_of(&rt, rt.alloc(), &program)?;
-        assert_eq!(rt; verified(rt.alloc(), &bytes)?.as_str(), printed);
+        same(&rt, verified(rt.alloc(), &bytes)?.as_str(), printed);
     }
     Ok(())
 }
@@ -204,7 +205,7 @@ fn programs_are_accepted_or_refused(rt: HostRuntime) -> Result<(), Fail> {
         ),
     ] {
         let bytes = bytes_of(&rt, rt.alloc(), program)?;
-        assert_eq!(rt; verified(rt.alloc(), &bytes)?.as_str(), printed);
+        same(&rt, verified(rt.alloc(), &bytes)?.as_str(), printed);
     }
     Ok(())
 }
@@ -222,7 +223,7 @@ fn outcomes_are_judged(rt: HostRuntime) -> Result<(), Fail> {
         ("{\"kind\":\"timeout\"}", "failure steps=4 budget=6\n"),
     ] {
         let line = judged(&rt, rt.alloc(), &program, outcome)?;
-        assert_eq!(rt; line.as_str(), printed, "{outcome}");
+        same_at(&rt, line.as_str(), printed, &outcome);
     }
     Ok(())
 }

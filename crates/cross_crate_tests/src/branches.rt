@@ -1,4 +1,5 @@
 //! What conditional jumps tell of registers that hold ranges.
+use crate::checks::same;
 use abs_domain::{Bounds, Domain};
 use abs_regs::{AbsVal, RegFile};
 use bpf_profile::{Comparison, Operand, Register, Width};
@@ -29,12 +30,13 @@ fn halves_of_immediates_count(rt: HostRuntime) -> Result<(), Fail> {
     let before = (0xffff_fff0, 0xffff_ffff);
     let immediate = Operand::Immediate(0xffff_ffff_ffff_fff8);
     let half = left(&rt, Comparison::Equal, Width::Bits32, before, &immediate);
-    assert_eq!(rt;
+    same(
+        &rt,
         half,
         Bounds {
             low: 0xffff_fff8,
-            high: 0xffff_fff8
-        }
+            high: 0xffff_fff8,
+        },
     );
     Ok(())
 }
@@ -43,7 +45,7 @@ fn halves_of_immediates_count(rt: HostRuntime) -> Result<(), Fail> {
 #[test]
 fn registers_tell_nothing_of_themselves(rt: HostRuntime) -> Result<(), Fail> {
     let itself = Operand::Register(Register::new(2));
-    let same = left(&rt, Comparison::Greater, Width::Bits64, (3, 9), &itself);
-    assert_eq!(rt; same, Bounds { low: 3, high: 9 });
+    let found = left(&rt, Comparison::Greater, Width::Bits64, (3, 9), &itself);
+    same(&rt, found, Bounds { low: 3, high: 9 });
     Ok(())
 }

@@ -1,6 +1,7 @@
 //! The default classifier cut short, and with each byte changed: what is still accepted ends alike in both machines.
 ghost use Rattle.std.specs.Prelude.{◌<◌};
 
+use crate::checks::same_at;
 use crate::told::outcome_of;
 use bpf_run::{Verdict, run};
 use bpf_slow::{End, trace};
@@ -32,7 +33,7 @@ fn both_end_alike(
     for record in records {
         let (verdict, steps) = run(&program, record);
         let end = trace(alloc, program.program(), record, program.budget())?;
-        assert_eq!(rt; end, End::Done(answer(verdict), steps), "{bytes:?}");
+        same_at(rt, end, End::Done(answer(verdict), steps), &bytes);
     }
     Ok(true)
 }
@@ -58,7 +59,7 @@ fn cut_programs_are_refused(rt: HostRuntime) -> Result<(), Fail> {
             _ => (0, 1),
         };
         let refusal = refusal_of(rt.alloc(), &bytes[..length]);
-        assert_eq!(rt; refusal, Some((slot, number)), "{length}");
+        same_at(&rt, refusal, Some((slot, number)), &length);
     }
     Ok(())
 }

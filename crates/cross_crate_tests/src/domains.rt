@@ -1,4 +1,5 @@
 //! The product of ranges and known bits, as an analysis uses it.
+use crate::checks::{same, same_at};
 use crate::programs::EDGES;
 use abs_domain::arithmetic::{arithmetic, converted, moved_signed, negation};
 use abs_domain::branches::refined;
@@ -34,19 +35,21 @@ const SIZES: [Size; 3] = [Size::HalfWord, Size::Word, Size::DoubleWord];
 
 /// That a number is known to be one word.
 fn is_word<D: Domain>(rt: &impl Abort, number: D, word: u64) -> Result<(), Fail> {
-    assert_eq!(rt;
+    same(
+        rt,
         number.bounds(),
         Bounds {
             low: word,
-            high: word
-        }
+            high: word,
+        },
     );
-    assert_eq!(rt;
+    same(
+        rt,
         number.bits(),
         Bits {
             value: word,
-            unknown: 0
-        }
+            unknown: 0,
+        },
     );
     Ok(())
 }
@@ -89,9 +92,9 @@ fn masks_bound_and_align<D: Domain>(rt: &impl Abort) -> Result<(), Fail> {
     for (mask, high, zeros) in [(56, 56, 3), (63, 63, 0), (120, 120, 3)] {
         let mask = D::constant(mask);
         let number = arithmetic(Operation::And, Width::Bits64, D::top(), mask);
-        assert_eq!(rt; number.bounds(), Bounds { low: 0, high });
-        assert_eq!(rt; number.low_zeros(zeros), true);
-        assert_eq!(rt; number.low_zeros(zeros + 1), false);
+        same(rt, number.bounds(), Bounds { low: 0, high });
+        same(rt, number.low_zeros(zeros), true);
+        same(rt, number.low_zeros(zeros + 1), false);
     }
     Ok(())
 }
@@ -100,30 +103,33 @@ fn parts_sharpen<D: Domain>(rt: &impl Abort) -> Result<(), Fail> {
     // From 256 to 271, all bits above the lowest four are known.
     let low_four = arithmetic(Operation::And, Width::Bits64, D::top(), D::constant(15));
     let number = arithmetic(Operation::Add, Width::Bits64, low_four, D::constant(256));
-    assert_eq!(rt;
+    same(
+        rt,
         number.bounds(),
         Bounds {
             low: 256,
-            high: 271
-        }
+            high: 271,
+        },
     );
-    assert_eq!(rt;
+    same(
+        rt,
         number.bits(),
         Bits {
             value: 256,
-            unknown: 15
-        }
+            unknown: 15,
+        },
     );
     // Even words from 0 to 14, and one more: odd words.
     let even = arithmetic(Operation::And, Width::Bits64, D::top(), D::constant(14));
     let odd = arithmetic(Operation::Or, Width::Bits64, even, D::constant(1));
-    assert_eq!(rt; odd.bounds(), Bounds { low: 1, high: 15 });
-    assert_eq!(rt;
+    same(rt, odd.bounds(), Bounds { low: 1, high: 15 });
+    same(
+        rt,
         odd.bits(),
         Bits {
             value: 1,
-            unknown: 14
-        }
+            unknown: 14,
+        },
     );
     Ok(())
 }
@@ -143,22 +149,24 @@ fn comparisons_tell<D: Domain>(rt: &impl Abort) -> Result<(), Fail> {
         (Comparison::SignedLess, Width::Bits64, true, 0, u64::MAX),
     ] {
         let (number, _) = refined(comparison, width, holds, any, two);
-        assert_eq!(rt;
+        same_at(
+            rt,
             number.bounds(),
             Bounds { low, high },
-            "{comparison:?} {width:?} {holds}"
+            (&comparison, &width, &holds),
         );
     }
     // A number of 32 bits is read as it stands.
     let half = any.convert(abs_domain::Conversion::Low, Size::Word);
     let (number, _) = refined(Comparison::LessOrEqual, Width::Bits32, true, half, two);
-    assert_eq!(rt; number.bounds(), Bounds { low: 0, high: 2 });
-    assert_eq!(rt;
+    same(rt, number.bounds(), Bounds { low: 0, high: 2 });
+    same(
+        rt,
         number.bits(),
         Bits {
             value: 0,
-            unknown: 3
-        }
+            unknown: 3,
+        },
     );
     let (number, _) = refined(
         Comparison::BitsSet,
@@ -167,21 +175,22 @@ fn comparisons_tell<D: Domain>(rt: &impl Abort) -> Result<(), Fail> {
         any,
         D::constant(7),
     );
-    assert_eq!(rt; number.low_zeros(3), true);
+    same(rt, number.low_zeros(3), true);
     Ok(())
 }
 
 fn joins_know<D: Domain>(rt: &impl Abort) -> Result<(), Fail> {
     let joined = D::constant(4).join(D::constant(6));
-    assert_eq!(rt; joined.bounds(), Bounds { low: 4, high: 6 });
-    assert_eq!(rt;
+    same(rt, joined.bounds(), Bounds { low: 4, high: 6 });
+    same(
+        rt,
         joined.bits(),
         Bits {
             value: 4,
-            unknown: 2
-        }
+            unknown: 2,
+        },
     );
-    assert_eq!(rt; joined.low_zeros(1), true);
+    same(rt, joined.low_zeros(1), true);
     Ok(())
 }
 

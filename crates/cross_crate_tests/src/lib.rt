@@ -11,6 +11,8 @@ mod branches;
 #[cfg(test)]
 mod changed;
 #[cfg(test)]
+mod checks;
+#[cfg(test)]
 mod comparisons;
 #[cfg(test)]
 mod conversions;

@@ -1,4 +1,5 @@
 //! Programs with pointers, the stack and helper functions, run by both machines.
+use crate::checks::same_at;
 use crate::programs::patterned;
 use bpf_asm::assemble;
 use bpf_run::{Verdict, run};
@@ -28,8 +29,8 @@ fn both_answer(
         Verdict::Success
     };
     let end = trace(alloc, program.program(), outcome, steps)?;
-    assert_eq!(rt; run(&program, outcome), (verdict, steps), "{text}");
-    assert_eq!(rt; end, End::Done(u64::from(answer), steps), "{text}");
+    same_at(rt, run(&program, outcome), (verdict, steps), &text);
+    same_at(rt, end, End::Done(u64::from(answer), steps), &text);
     Ok(())
 }
 

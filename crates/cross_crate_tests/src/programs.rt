@@ -1,4 +1,5 @@
 //! Programs whose answer shows what an instruction computes, run by both machines.
+use crate::checks::same_at;
 use bpf_run::{Verdict, run};
 use bpf_slow::{End, trace};
 use helpers::Record;
@@ -68,8 +69,8 @@ pub(crate) fn both_end(
         Verdict::Success
     };
     let end = trace(alloc, program.program(), outcome, steps)?;
-    assert_eq!(rt; run(&program, outcome), (verdict, steps), "{bytes:?}");
-    assert_eq!(rt; end, End::Done(u64::from(answer), steps), "{bytes:?}");
+    same_at(rt, run(&program, outcome), (verdict, steps), &bytes);
+    same_at(rt, end, End::Done(u64::from(answer), steps), &bytes);
     Ok(())
 }
 

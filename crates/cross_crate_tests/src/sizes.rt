@@ -1,4 +1,5 @@
 //! Programs of many sizes. With ample memory no call may say that memory ran out.
+use crate::checks::same;
 use crate::programs::{patterned, slot};
 use bpf_decode::Program;
 use bpf_run::{Verdict, run};
@@ -33,12 +34,12 @@ fn every_size_is_taken(rt: HostRuntime) -> Result<(), Fail> {
         let program = Program::decode(rt.alloc(), &bytes)?;
         assert_eq!(rt; program.len(), size as usize);
         let flow = check(rt.alloc(), &program)?;
-        assert_eq!(rt; flow.budget(), size);
+        same(&rt, flow.budget(), size);
         let verified = verify(rt.alloc(), &bytes)?;
-        assert_eq!(rt; verified.budget(), size);
+        same(&rt, verified.budget(), size);
         let end = trace(rt.alloc(), &program, &outcome, size)?;
-        assert_eq!(rt; end, End::Done(0, size));
-        assert_eq!(rt; run(&verified, &outcome), (Verdict::Success, size));
+        same(&rt, end, End::Done(0, size));
+        same(&rt, run(&verified, &outcome), (Verdict::Success, size));
     }
     Ok(())
 }
@@ -51,13 +52,13 @@ fn one_slot_is_taken(rt: HostRuntime) -> Result<(), Fail> {
     let program = Program::decode(rt.alloc(), &bytes)?;
     assert_eq!(rt; program.len(), 1);
     let flow = check(rt.alloc(), &program)?;
-    assert_eq!(rt; flow.budget(), 1);
+    same(&rt, flow.budget(), 1);
     let refusal = Refusal {
         slot: 0,
         number: RefusalNumber::UnsetRegister,
     };
-    assert_eq!(rt; verify(rt.alloc(), &bytes).err(), Some(refusal));
+    same(&rt, verify(rt.alloc(), &bytes).err(), Some(refusal));
     let end = trace(rt.alloc(), &program, &outcome, 1)?;
-    assert_eq!(rt; end, End::Trap(0, TrapReason::Unset));
+    same(&rt, end, End::Trap(0, TrapReason::Unset));
     Ok(())
 }

@@ -1,4 +1,5 @@
 //! Programs as bytes and as assembler text.
+use crate::checks::{is_true, same, same_at};
 use crate::told::{assembled, bytes_of, judged, refused_text, verified};
 use bpf_asm::{assemble, disassemble};
 use bpf_decode::Program;
@@ -12,7 +13,7 @@ fn programs_are_disassembled(rt: HostRuntime) -> Result<(), Fail> {
     let bytes = bytes_of(&rt, rt.alloc(), "8500000005000000")?;
     let program = Program::decode(rt.alloc(), &bytes)?;
     let lines = disassemble(rt.alloc(), &program)?;
-    assert_eq!(rt; lines.as_str(), "call 5\n");
+    same(&rt, lines.as_str(), "call 5\n");
     for (hexadecimal, number, slot) in [
         ("b70000000000000018000000", RefusalNumber::Length, 0),
         (
@@ -24,7 +25,7 @@ fn programs_are_disassembled(rt: HostRuntime) -> Result<(), Fail> {
         let bytes = bytes_of(&rt, rt.alloc(), hexadecimal)?;
         let error = Program::decode(rt.alloc(), &bytes).err();
         let found = error.map(|error| (error.number, error.slot));
-        assert_eq!(rt; found, Some((number, slot)));
+        same(&rt, found, Some((number, slot)));
     }
     Ok(())
 }
@@ -33,7 +34,7 @@ fn programs_are_disassembled(rt: HostRuntime) -> Result<(), Fail> {
 fn refuses(rt: &impl Abort, alloc: Global, text: &str, printed: &str) -> Result<(), Fail> {
     let error = assemble(alloc, text).err().expect(rt, "a refused text");
     let line = refused_text(alloc, error)?;
-    assert_eq!(rt; line.as_str(), printed, "{text}");
+    same_at(rt, line.as_str(), printed, &text);
     Ok(())
 }
 
@@ -73,16 +74,19 @@ fn the_longest_program_is_assembled_and_judges(rt: HostRuntime) -> Result<(), Fa
     let alloc = rt.alloc();
     let text = comparing(alloc, 4094)?;
     let program = bytes_of(&rt, alloc, &comparing_bytes(alloc, 4094)?)?;
-    assert!(rt; assembled(&rt, alloc, &text)?.as_slice() == program.as_slice());
+    is_true(
+        &rt,
+        assembled(&rt, alloc, &text)?.as_slice() == program.as_slice(),
+    );
     let accepted = "accepted budget=4096 slots=4096\n";
-    assert_eq!(rt; verified(alloc, &program)?.as_str(), accepted);
+    same(&rt, verified(alloc, &program)?.as_str(), accepted);
     let success = "success steps=4096 budget=4096\n";
-    assert_eq!(rt; judged(&rt, alloc, &program, "{}")?.as_str(), success);
+    same(&rt, judged(&rt, alloc, &program, "{}")?.as_str(), success);
     let longer = comparing(alloc, 4095)?;
     refuses(&rt, alloc, &longer, "refused 44 BadLength line 4097\n")?;
     let longer = bytes_of(&rt, alloc, &comparing_bytes(alloc, 4095)?)?;
     let refused = "refused 1 Length slot 0\n";
-    assert_eq!(rt; verified(alloc, &longer)?.as_str(), refused);
+    same(&rt, verified(alloc, &longer)?.as_str(), refused);
     Ok(())
 }
 
@@ -123,7 +127,7 @@ fn slots_out_of_the_profile_are_refused(rt: HostRuntime) -> Result<(), Fail> {
         ),
     ] {
         let bytes = bytes_of(&rt, rt.alloc(), program)?;
-        assert_eq!(rt; verified(rt.alloc(), &bytes)?.as_str(), printed);
+        same(&rt, verified(rt.alloc(), &bytes)?.as_str(), printed);
     }
     Ok(())
 }

@@ -1,6 +1,7 @@
 //! Reports that other calls overtake between their look and their finish.
 ghost use Rattle.std.specs.Prelude.{◌≡◌};
 
+use crate::checks::{is_true, same};
 use crate::fixtures::{Caller, OpenGate, Wish, ask, is_entry, open_desk, permitted};
 use crate::{Desk, Gate, Seat};
 use book::{Book, ConfigParts, Fate, Reply, State};
@@ -180,7 +181,7 @@ fn hold_and_overtake<
             }
         },
     )?;
-    assert!(rt; gate.overtaken.is_raised());
+    is_true(rt, gate.overtaken.is_raised());
     Ok(in_order(rt, answered))
 }
 
@@ -198,7 +199,7 @@ fn close<L: Ledger, M: Ledger>(
     };
     assert_eq!(rt; books.len(), 1);
     let book = books.pop().expect(rt, "one book");
-    assert_eq!(rt; book.last_number(), count);
+    same(rt, book.last_number(), count);
     Ok(book)
 }
 
@@ -214,8 +215,8 @@ fn check_entry(
 ) {
     let entries = book.entries(number);
     assert!(rt; !entries.is_empty());
-    assert_eq!(rt; entries[0].number(), number);
-    assert!(rt; is_entry(rt, &entries[0], seat, wish, moment, reply));
+    same(rt, entries[0].number(), number);
+    is_true(rt, is_entry(rt, &entries[0], seat, wish, moment, reply));
 }
 
 const RECORDED: Reply = Reply::Finished {
@@ -246,7 +247,7 @@ fn two_seats<L: Ledger, M: Ledger, R: Wait + Abort>(
             Wish::Acquire,
             &OpenGate,
         );
-        assert_eq!(rt; ticket, permitted(1, 1, State::Closed));
+        same(rt, ticket, permitted(1, 1, State::Closed));
     }
     if tickets.1 {
         let ticket = ask(
@@ -259,7 +260,7 @@ fn two_seats<L: Ledger, M: Ledger, R: Wait + Abort>(
             Wish::Acquire,
             &OpenGate,
         );
-        assert_eq!(rt; ticket, permitted(2, 1, State::Closed));
+        same(rt, ticket, permitted(2, 1, State::Closed));
     }
     (first, second)
 }
@@ -279,11 +280,11 @@ fn overtake_another_ticket<
     let seats = two_seats(rt, alloc, &mut desk, (true, true));
     let wishes = (Wish::Report(1, 500), Wish::Report(2, 500));
     let both = hold_and_overtake(rt, alloc, &desk, seats, wishes)?;
-    assert_eq!(rt; (both.first, both.second), (RECORDED, RECORDED));
+    same(rt, (both.first, both.second), (RECORDED, RECORDED));
     let book = close(rt, alloc, desk, both.seats)?;
     check_entry(rt, &book, 3, 2, wishes.1, 2, RECORDED);
     check_entry(rt, &book, 4, 1, wishes.0, 2, RECORDED);
-    assert_eq!(rt; book.last_number(), 4);
+    same(rt, book.last_number(), 4);
     Ok(())
 }
 
@@ -313,11 +314,11 @@ fn overtake_the_same_ticket<
     let wishes = (Wish::Report(1, 500), Wish::Report(1, 500));
     let both = hold_and_overtake(rt, alloc, &desk, seats, wishes)?;
     let spent = Reply::Refused(RefusalNumber::TicketSpent);
-    assert_eq!(rt; (both.first, both.second), (spent, RECORDED));
+    same(rt, (both.first, both.second), (spent, RECORDED));
     let book = close(rt, alloc, desk, both.seats)?;
     check_entry(rt, &book, 2, 2, wishes.1, 2, RECORDED);
     check_entry(rt, &book, 3, 1, wishes.0, 2, spent);
-    assert_eq!(rt; book.last_number(), 3);
+    same(rt, book.last_number(), 3);
     Ok(())
 }
 
@@ -350,13 +351,13 @@ fn overtake_by_a_program<
         version: 2,
         budget: 2,
     };
-    assert_eq!(rt; (both.first, both.second), (RECORDED, installed));
+    same(rt, (both.first, both.second), (RECORDED, installed));
     let book = close(rt, alloc, desk, both.seats)?;
     let ticket = permitted(1, 1, State::Closed);
     check_entry(rt, &book, 1, 1, Wish::Acquire, 0, ticket);
     check_entry(rt, &book, 2, 2, wishes.1, 2, installed);
     check_entry(rt, &book, 3, 1, wishes.0, 2, RECORDED);
-    assert_eq!(rt; book.last_number(), 3);
+    same(rt, book.last_number(), 3);
     Ok(())
 }
 
@@ -403,9 +404,12 @@ fn race<L: Ledger + Send + Sync, M: Ledger + Send + Sync, R: Threads + Wait + Ab
     let both = report_twice(rt, alloc, &desk, seats)?;
     let spent = Reply::Refused(RefusalNumber::TicketSpent);
     let replies = (both.first, both.second);
-    assert!(rt; replies == (RECORDED, spent) || replies == (spent, RECORDED));
+    is_true(
+        rt,
+        replies == (RECORDED, spent) || replies == (spent, RECORDED),
+    );
     let book = close(rt, alloc, desk, both.seats)?;
-    assert!(rt; book.last_number() == 2 || book.last_number() == 3);
+    is_true(rt, book.last_number() == 2 || book.last_number() == 3);
     Ok(())
 }
 

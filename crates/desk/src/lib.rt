@@ -3,6 +3,8 @@
 #![tactic(auto)]
 
 mod calls;
+#[cfg(test)]
+mod checks;
 mod closing;
 mod desks;
 #[cfg(test)]

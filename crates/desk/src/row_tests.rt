@@ -1,5 +1,6 @@
 //! The worked rows through one seat of a fresh desk. After each call that made an entry, the page from the
 //! last number on is just that entry: the desk enters what it was asked, with the reply that it gave.
+use crate::checks::{is_true, same};
 use crate::fixtures::{
     OpenGate, Play, Wish, ask, finished, is_entry, moved, permitted, play_at_a_desk,
 };
@@ -33,11 +34,12 @@ impl Play for Rows<'_> {
         let mut greatest = 0;
         for (moment, wish, reply) in self.calls {
             let count = seat.count();
-            assert_eq!(rt;
+            same(
+                rt,
                 ask(
-                    rt, alloc, &desk, &mut seat, "pay", *moment, *wish, &OpenGate
+                    rt, alloc, &desk, &mut seat, "pay", *moment, *wish, &OpenGate,
                 ),
-                *reply
+                *reply,
             );
             if seat.count() > count {
                 greatest = (*moment).max(greatest);
@@ -46,7 +48,7 @@ impl Play for Rows<'_> {
         }
         let service = desk.find("pay").expect(rt, "a service of the desk");
         for (moment, reading) in self.readings {
-            assert_eq!(rt; desk.read(rt, &mut seat, service, *moment), *reading);
+            same(rt, desk.read(rt, &mut seat, service, *moment), *reading);
         }
         Ok(())
     }
@@ -67,8 +69,11 @@ fn check_last<L: Ledger, M: Ledger, R: Wait + Abort>(
         .page(rt, seat, service, 0, last)
         .expect(rt, "ample memory");
     assert_eq!(rt; page.len(), 1);
-    assert_eq!(rt; page[0].number(), last);
-    assert!(rt; is_entry(rt, &page[0], seat.number(), wish, moment, reply));
+    same(rt, page[0].number(), last);
+    is_true(
+        rt,
+        is_entry(rt, &page[0], seat.number(), wish, moment, reply),
+    );
 }
 
 /// Parts that differ from the defaults in the window's size and the minimum.
@@ -440,9 +445,9 @@ impl Play for Cut {
             Wish::Acquire,
             &OpenGate,
         );
-        assert_eq!(rt; ticket, permitted(1, 1, State::Closed));
+        same(rt, ticket, permitted(1, 1, State::Closed));
         let open = desk.cut(rt, &mut seat, service, 0);
-        assert!(rt; matches!(open, Err(RefusalNumber::TicketsOpen)));
+        is_true(rt, matches!(open, Err(RefusalNumber::TicketsOpen)));
         let recorded = finished(Fate::Recorded, Verdict::Success, State::Closed);
         let reported = ask(
             rt,
@@ -454,13 +459,16 @@ impl Play for Cut {
             Wish::Report(1, 200),
             &OpenGate,
         );
-        assert_eq!(rt; reported, recorded);
+        same(rt, reported, recorded);
         let entries = desk
             .cut(rt, &mut seat, service, 1)
             .expect(rt, "ample memory");
         assert_eq!(rt; entries.len(), 2);
-        assert!(rt; is_entry(rt, &entries[0], 1, Wish::Acquire, 0, ticket));
-        assert!(rt; is_entry(rt, &entries[1], 1, Wish::Report(1, 200), 1, recorded));
+        is_true(rt, is_entry(rt, &entries[0], 1, Wish::Acquire, 0, ticket));
+        is_true(
+            rt,
+            is_entry(rt, &entries[1], 1, Wish::Report(1, 200), 1, recorded),
+        );
         let ticket = ask(
             rt,
             alloc,
@@ -471,13 +479,13 @@ impl Play for Cut {
             Wish::Acquire,
             &OpenGate,
         );
-        assert_eq!(rt; ticket, permitted(2, 1, State::Closed));
+        same(rt, ticket, permitted(2, 1, State::Closed));
         let page = desk
             .page(rt, &mut seat, service, 0, 3)
             .expect(rt, "ample memory");
         assert_eq!(rt; page.len(), 1);
-        assert_eq!(rt; page[0].number(), 3);
-        assert!(rt; is_entry(rt, &page[0], 1, Wish::Acquire, 1, ticket));
+        same(rt, page[0].number(), 3);
+        is_true(rt, is_entry(rt, &page[0], 1, Wish::Acquire, 1, ticket));
         let spent = ask(
             rt,
             alloc,
@@ -488,14 +496,14 @@ impl Play for Cut {
             Wish::Report(1, 200),
             &OpenGate,
         );
-        assert_eq!(rt; spent, Reply::Refused(RefusalNumber::TicketSpent));
-        assert_eq!(rt; seat.count(), 3);
+        same(rt, spent, Reply::Refused(RefusalNumber::TicketSpent));
+        same(rt, seat.count(), 3);
         let seats = Vec::from_array(alloc, [seat])?;
         let Ok(books) = desk.close(alloc, seats) else {
             return Err(Fail::from("all seats are given"));
         };
         assert_eq!(rt; books.len(), 1);
-        assert_eq!(rt; books[0].last_number(), 3);
+        same(rt, books[0].last_number(), 3);
         Ok(())
     }
 }

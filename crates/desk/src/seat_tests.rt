@@ -1,5 +1,6 @@
 //! The seats of a desk: how many there are, and that all are wanted at its end.
 use crate::Desk;
+use crate::checks::{is_true, same};
 use crate::fixtures::{OpenGate, Play, Wish, ask, play_at_a_desk};
 use book::ConfigParts;
 use refusals::RefusalNumber;
@@ -25,10 +26,10 @@ impl Play for AllSeats {
         let mut seats = Vec::new(alloc);
         for number in 1..=128 {
             let seat = desk.sit().expect(rt, "a seat that is left");
-            assert_eq!(rt; (seat.number(), seat.count()), (number, 0));
+            same(rt, (seat.number(), seat.count()), (number, 0));
             seats.push(seat)?;
         }
-        assert!(rt; matches!(desk.sit(), Err(RefusalNumber::SeatsFull)));
+        is_true(rt, matches!(desk.sit(), Err(RefusalNumber::SeatsFull)));
         assert!(rt; desk.find("ship").is_none());
         assert!(rt; desk.close(alloc, seats).is_ok());
         Ok(())
@@ -91,7 +92,7 @@ impl Play for FourSeats {
         let Err(unclosed) = desk.close(alloc, seats) else {
             return Err(Fail::from("a seat is missing"));
         };
-        assert_eq!(rt; unclosed.number, RefusalNumber::SeatsMissing);
+        same(rt, unclosed.number, RefusalNumber::SeatsMissing);
         let crate::Unclosed {
             desk,
             mut seats,
@@ -102,8 +103,8 @@ impl Play for FourSeats {
             return Err(Fail::from("all seats are given"));
         };
         assert_eq!(rt; books.len(), 2);
-        assert_eq!(rt; books[0].last_number(), 3);
-        assert_eq!(rt; books[1].last_number(), 4);
+        same(rt, books[0].last_number(), 3);
+        same(rt, books[1].last_number(), 4);
         Ok(())
     }
 }

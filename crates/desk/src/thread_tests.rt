@@ -2,6 +2,7 @@
 //! as they were made and answered.
 ghost use Rattle.std.specs.Prelude.{◌≡◌};
 
+use crate::checks::{is_true, same};
 use crate::fixtures::{Caller, OpenGate, Wish, ask, is_entry, open_desk};
 use crate::{Desk, Seat};
 use book::{Book, ConfigParts, Reply};
@@ -110,12 +111,12 @@ fn check_calls(rt: &impl Abort, book: &Book, seat: u32, made: &[Made]) {
             assert!(rt; next < made.len());
             let call = made[next];
             let raised = call.moment.max(greatest);
-            assert!(rt; is_entry(rt, entry, seat, call.wish, raised, call.reply));
+            is_true(rt, is_entry(rt, entry, seat, call.wish, raised, call.reply));
             next += 1;
         }
         greatest = entry.moment();
     }
-    assert_eq!(rt; next, made.len());
+    same(rt, next, made.len());
 }
 
 /// The journals of both services have the calls of a seat.
@@ -172,14 +173,14 @@ fn call_from_four_threads<
     } = worked.pop().expect(rt, "a first");
     for (name, entries) in [("pay", 800), ("ship", 400)] {
         let service = desk.find(name).expect(rt, "a service of the desk");
-        assert_eq!(rt; desk.read(rt, &mut seat_a, service, 0).entries, entries);
+        same(rt, desk.read(rt, &mut seat_a, service, 0).entries, entries);
     }
-    assert_eq!(rt; seat_a.count(), 300);
+    same(rt, seat_a.count(), 300);
     let three = Vec::from_array(alloc, [seat_a, seat_b, seat_c])?;
     let Err(unclosed) = desk.close(alloc, three) else {
         return Err(Fail::from("a seat is missing"));
     };
-    assert_eq!(rt; unclosed.number, RefusalNumber::SeatsMissing);
+    same(rt, unclosed.number, RefusalNumber::SeatsMissing);
     let crate::Unclosed {
         desk,
         mut seats,
@@ -191,8 +192,8 @@ fn call_from_four_threads<
         return Err(Fail::from("all seats are given"));
     };
     assert_eq!(rt; books.len(), 2);
-    assert_eq!(rt; books[0].last_number(), 800);
-    assert_eq!(rt; books[1].last_number(), 400);
+    same(rt, books[0].last_number(), 800);
+    same(rt, books[1].last_number(), 400);
     check_seat(rt, &books, 1, &pay_a, &ship_a);
     check_seat(rt, &books, 2, &pay_b, &ship_b);
     check_seat(rt, &books, 3, &pay_c, &ship_c);

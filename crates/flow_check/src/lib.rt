@@ -3,6 +3,8 @@
 //! and not RFC 9669's.
 #![tactic(auto)]
 
+#[cfg(test)]
+mod checks;
 mod edges;
 mod entered;
 mod error;

@@ -1,5 +1,6 @@
 //! Programs with the answers that are expected of them.
 use super::{FlowError, Successors, check};
+use crate::checks::{same, same_at};
 use bpf_decode::Program;
 use refusals::RefusalNumber;
 use std::alloc::{AllocError, Global};
@@ -80,10 +81,11 @@ fn answers(rt: HostRuntime) {
         (&BY_STATUS, Ok(6)),
     ];
     for (slots, wanted) in rows {
-        assert_eq!(rt;
+        same_at(
+            &rt,
             answer(rt.alloc(), slots.as_flattened()),
             Some(wanted),
-            "{slots:?}"
+            &slots,
         );
     }
 }
@@ -101,7 +103,7 @@ fn long(alloc: Global, branches: usize) -> Result<Vec<u8>, AllocError> {
 #[test]
 fn longest_program(rt: HostRuntime) -> Result<(), Fail> {
     let bytes = long(rt.alloc(), 4_094)?;
-    assert_eq!(rt; answer(rt.alloc(), &bytes), Some(Ok(4_096)));
+    same(&rt, answer(rt.alloc(), &bytes), Some(Ok(4_096)));
     Ok(())
 }
 
@@ -118,7 +120,7 @@ fn edges(rt: HostRuntime) -> Result<(), Fail> {
     ];
     for (slot, next, target) in rows {
         assert!(rt; slot < program.len());
-        assert_eq!(rt; flow.successors(slot), Successors { next, target });
+        same(&rt, flow.successors(slot), Successors { next, target });
     }
     Ok(())
 }
@@ -138,7 +140,7 @@ fn edges_of_jumps(rt: HostRuntime) -> Result<(), Fail> {
     ];
     for (slot, next, target) in rows {
         assert!(rt; slot < program.len());
-        assert_eq!(rt; flow.successors(slot), Successors { next, target });
+        same(&rt, flow.successors(slot), Successors { next, target });
     }
     Ok(())
 }
@@ -150,9 +152,9 @@ fn refusal_in_words(rt: HostRuntime) -> Result<(), Fail> {
         number: RefusalNumber::JumpOut,
     };
     let text = format!(in rt.alloc(); "{error}")?;
-    assert_eq!(rt; text.as_str(), "refused 8 JumpOut slot 3");
+    same(&rt, text.as_str(), "refused 8 JumpOut slot 3");
     let memory = FlowError::from(AllocError);
     let text = format!(in rt.alloc(); "{memory}")?;
-    assert_eq!(rt; text.as_str(), "refused 23 OutOfMemory");
+    same(&rt, text.as_str(), "refused 23 OutOfMemory");
     Ok(())
 }

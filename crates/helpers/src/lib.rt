@@ -3,6 +3,8 @@
 #![tactic(auto)]
 
 mod bytes;
+#[cfg(test)]
+mod checks;
 mod fields;
 mod hexadecimal;
 mod reading;

@@ -1,4 +1,5 @@
 //! Records as they are read from JSON, and what the helper functions answer of them.
+use crate::checks::{is_true, same, same_at};
 use crate::{BadField, Record};
 use bpf_profile::Size;
 use refusals::RefusalNumber;
@@ -17,8 +18,8 @@ fn read(alloc: Global, text: &str) -> Result<Record, Fail> {
 #[test]
 fn an_empty_object_is_a_response(rt: HostRuntime) -> Result<(), Fail> {
     let outcome = read(rt.alloc(), "{}")?;
-    assert_eq!(rt; *outcome.context(), [0; 128]);
-    assert_eq!(rt; *outcome.facts(), [0; 16]);
+    same(&rt, *outcome.context(), [0; 128]);
+    same(&rt, *outcome.facts(), [0; 16]);
     assert!(rt; outcome.tag().is_empty());
     Ok(())
 }
@@ -29,33 +30,33 @@ fn numbers_stand_at_their_offsets(rt: HostRuntime) -> Result<(), Fail> {
         rt.alloc(),
         "{\"kind\":\"timeout\",\"status\":500,\"duration_ms\":101}",
     )?;
-    assert_eq!(rt; outcome.word_at(0, Size::Word), 1);
-    assert_eq!(rt; outcome.word_at(4, Size::Word), 500);
-    assert_eq!(rt; outcome.duration(), 101);
+    same(&rt, outcome.word_at(0, Size::Word), 1);
+    same(&rt, outcome.word_at(4, Size::Word), 500);
+    same(&rt, outcome.duration(), 101);
     Ok(())
 }
 
 #[test]
 fn every_key_is_read(rt: HostRuntime) -> Result<(), Fail> {
     let outcome = read(rt.alloc(), WHOLE)?;
-    assert_eq!(rt; outcome.word_at(0, Size::Word), 4);
-    assert_eq!(rt; outcome.word_at(4, Size::Word), 503);
-    assert_eq!(rt; outcome.word_at(8, Size::DoubleWord), 250);
-    assert_eq!(rt; outcome.word_at(16, Size::DoubleWord), 1024);
-    assert_eq!(rt; outcome.word_at(24, Size::DoubleWord), 4096);
-    assert_eq!(rt; outcome.word_at(32, Size::Word), 3);
-    assert_eq!(rt; outcome.word_at(36, Size::Word), 9);
-    assert_eq!(rt; outcome.word_at(40, Size::DoubleWord), 9);
-    assert_eq!(rt; outcome.word_at(48, Size::DoubleWord), 70000);
-    assert_eq!(rt; outcome.word_at(56, Size::DoubleWord), 0);
-    assert_eq!(rt; outcome.word_at(64, Size::HalfWord), 0x0a7b);
-    assert_eq!(rt; outcome.word_at(65, Size::Byte), 10);
-    assert_eq!(rt; outcome.word_at(66, Size::Byte), 0);
-    assert_eq!(rt; outcome.front_byte(0), 0x7b);
-    assert_eq!(rt; outcome.fact(0), 5);
-    assert_eq!(rt; outcome.fact(1), 18446744073709551615);
-    assert_eq!(rt; outcome.fact(15), 0);
-    assert_eq!(rt; outcome.tag(), b"pay".as_slice());
+    same(&rt, outcome.word_at(0, Size::Word), 4);
+    same(&rt, outcome.word_at(4, Size::Word), 503);
+    same(&rt, outcome.word_at(8, Size::DoubleWord), 250);
+    same(&rt, outcome.word_at(16, Size::DoubleWord), 1024);
+    same(&rt, outcome.word_at(24, Size::DoubleWord), 4096);
+    same(&rt, outcome.word_at(32, Size::Word), 3);
+    same(&rt, outcome.word_at(36, Size::Word), 9);
+    same(&rt, outcome.word_at(40, Size::DoubleWord), 9);
+    same(&rt, outcome.word_at(48, Size::DoubleWord), 70000);
+    same(&rt, outcome.word_at(56, Size::DoubleWord), 0);
+    same(&rt, outcome.word_at(64, Size::HalfWord), 0x0a7b);
+    same(&rt, outcome.word_at(65, Size::Byte), 10);
+    same(&rt, outcome.word_at(66, Size::Byte), 0);
+    same(&rt, outcome.front_byte(0), 0x7b);
+    same(&rt, outcome.fact(0), 5);
+    same(&rt, outcome.fact(1), 18446744073709551615);
+    same(&rt, outcome.fact(15), 0);
+    same(&rt, outcome.tag(), b"pay".as_slice());
     Ok(())
 }
 
@@ -93,7 +94,7 @@ fn a_refusal_in_words(rt: HostRuntime) -> Result<(), Fail> {
         number: RefusalNumber::BadValue,
     };
     let text = format!(in rt.alloc(); "{refused}")?;
-    assert_eq!(rt; text.as_str(), "refused 59 BadField");
+    same(&rt, text.as_str(), "refused 59 BadField");
     Ok(())
 }
 
@@ -106,33 +107,39 @@ fn the_widest_values_are_read(rt: HostRuntime) -> Result<(), Fail> {
         "{\"tag\":\"0000000000000000000000000000000000000000000000000000000000000000\"}",
     ] {
         let outcome = read(rt.alloc(), text)?;
-        assert_eq!(rt; outcome.word_at(36, Size::Word), 0, "{text}");
+        same_at(&rt, outcome.word_at(36, Size::Word), 0, &text);
     }
     Ok(())
 }
 
 #[test]
 fn a_tag_has_at_most_32_bytes(rt: HostRuntime) {
-    assert!(rt; Record::from_parts([0; 128], [0; 16], &[7; 33]).is_none());
-    assert!(rt; Record::from_parts([0; 128], [0; 16], &[7; 32]).is_some());
+    is_true(
+        &rt,
+        Record::from_parts([0; 128], [0; 16], &[7; 33]).is_none(),
+    );
+    is_true(
+        &rt,
+        Record::from_parts([0; 128], [0; 16], &[7; 32]).is_some(),
+    );
 }
 
 #[test]
 fn a_copied_tag_ends_in_zeros(rt: HostRuntime) -> Result<(), Fail> {
     let outcome = read(rt.alloc(), "{\"tag\":\"6162\"}")?;
     let mut to = [9; 3];
-    assert_eq!(rt; outcome.copy_tag(&mut to), 2);
-    assert_eq!(rt; to, [0x61, 0x62, 0]);
+    same(&rt, outcome.copy_tag(&mut to), 2);
+    same(&rt, to, [0x61, 0x62, 0]);
     Ok(())
 }
 
 #[test]
 fn a_tag_starts_with_its_front(rt: HostRuntime) -> Result<(), Fail> {
     let pay = read(rt.alloc(), "{\"tag\":\"706179\"}")?;
-    assert!(rt; pay.tag_starts(b"p"));
-    assert!(rt; pay.tag_starts(b"pay"));
-    assert!(rt; !pay.tag_starts(b"a"));
+    is_true(&rt, pay.tag_starts(b"p"));
+    is_true(&rt, pay.tag_starts(b"pay"));
+    is_true(&rt, !pay.tag_starts(b"a"));
     let p = read(rt.alloc(), "{\"tag\":\"70\"}")?;
-    assert!(rt; !p.tag_starts(b"pa"));
+    is_true(&rt, !p.tag_starts(b"pa"));
     Ok(())
 }

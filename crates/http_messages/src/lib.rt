@@ -2,6 +2,8 @@
 //! body is, what is refused, and whether more is to be read behind.
 #![tactic(auto)]
 
+#[cfg(test)]
+mod checks;
 mod fields;
 mod front;
 pub mod laws;

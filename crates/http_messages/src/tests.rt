@@ -1,4 +1,5 @@
 //! Heads, and what their fields say.
+use crate::checks::{is_true, same, same_at};
 use crate::{Fault, Front, Head, HeadParser};
 use refusals::RefusalNumber;
 use std::alloc::{AllocError, Global};
@@ -50,15 +51,16 @@ fn long_head(alloc: Global, size: usize, fields: usize) -> Result<String, AllocE
 fn parts_of_a_head_are_found(rt: HostRuntime) {
     let text = "POST /v1/services/pay/acquire?x HTTP/1.1\r\nHost: a\r\n\r\nbody";
     let found = head(&rt, rt.alloc(), text).expect(&rt, "a head");
-    assert_eq!(rt;
+    same(
+        &rt,
         text.get(found.method.start..found.method.end),
-        Some("POST")
+        Some("POST"),
     );
     let target = text.get(found.target.start..found.target.end);
-    assert_eq!(rt; target, Some("/v1/services/pay/acquire?x"));
-    assert_eq!(rt; found.size, 53);
-    assert_eq!(rt; found.body, 0);
-    assert!(rt; !found.closes);
+    same(&rt, target, Some("/v1/services/pay/acquire?x"));
+    same(&rt, found.size, 53);
+    same(&rt, found.body, 0);
+    is_true(&rt, !found.closes);
 }
 
 #[test]
@@ -66,14 +68,14 @@ fn heads_come_in_parts(rt: HostRuntime) -> Result<(), Fail> {
     let text = b"\r\n\nGET / HTTP/1.1\nHost:\n\nx".as_slice();
     let mut parser = HeadParser::new(rt.alloc())?;
     for count in 0..25 {
-        assert_eq!(rt; parser.front(&text[..count]), Front::Part, "{count}");
+        same_at(&rt, parser.front(&text[..count]), Front::Part, &count);
     }
     for count in 25..27 {
         let size = match parser.front(&text[..count]) {
             Front::Whole(head) => head.size,
             _ => 0,
         };
-        assert_eq!(rt; size, 25);
+        same(&rt, size, 25);
     }
     Ok(())
 }
@@ -89,17 +91,19 @@ fn what_is_no_head_is_refused(rt: HostRuntime) {
         "GET / HTTP/1.1\r\n Host: a\r\n\r\n",
         "GET / HTTP/1.1\r\nHost: a\rb\r\n\r\n",
     ] {
-        assert_eq!(rt;
+        same_at(
+            &rt,
             front(&rt, rt.alloc(), text.as_bytes()),
             refused(RefusalNumber::BadHead),
-            "{text}"
+            &text,
         );
     }
     // A target that is no UTF-8 is seen where it ends.
     let target = b"GET /\xff HTTP/1.1\r\n\r\n".as_slice();
-    assert_eq!(rt;
+    same(
+        &rt,
         front(&rt, rt.alloc(), target),
-        refused(RefusalNumber::BadHead)
+        refused(RefusalNumber::BadHead),
     );
 }
 
@@ -108,18 +112,19 @@ fn heads_have_at_most_8192_bytes(rt: HostRuntime) -> Result<(), Fail> {
     let alloc = rt.alloc();
     for fields in [1, 32] {
         let long = long_head(alloc, 8_192, fields)?;
-        assert_eq!(rt; long.len(), 8_192);
+        same(&rt, long.len(), 8_192);
         let found = head(&rt, alloc, long.as_str()).expect(&rt, "a head");
-        assert_eq!(rt; found.size, 8_192);
+        same(&rt, found.size, 8_192);
         let cut = long.get(..8_191).expect(&rt, "bytes");
-        assert_eq!(rt; front(&rt, alloc, cut.as_bytes()), Front::Part);
+        same(&rt, front(&rt, alloc, cut.as_bytes()), Front::Part);
     }
     let longer = long_head(alloc, 8_193, 32)?;
     for count in 8_192..8_194 {
         let cut = longer.get(..count).expect(&rt, "bytes");
-        assert_eq!(rt;
+        same(
+            &rt,
             front(&rt, alloc, cut.as_bytes()),
-            refused(RefusalNumber::HeadTooLarge)
+            refused(RefusalNumber::HeadTooLarge),
         );
     }
     Ok(())
@@ -129,12 +134,13 @@ fn heads_have_at_most_8192_bytes(rt: HostRuntime) -> Result<(), Fail> {
 fn heads_have_at_most_32_fields(rt: HostRuntime) -> Result<(), Fail> {
     let alloc = rt.alloc();
     let most = long_head(alloc, 0, 32)?;
-    assert!(rt; head(&rt, alloc, most.as_str()).is_some());
+    is_true(&rt, head(&rt, alloc, most.as_str()).is_some());
     for fields in [33, 1_000] {
         let more = long_head(alloc, 0, fields)?;
-        assert_eq!(rt;
+        same(
+            &rt,
             front(&rt, alloc, more.as_bytes()),
-            refused(RefusalNumber::HeadTooLarge)
+            refused(RefusalNumber::HeadTooLarge),
         );
     }
     Ok(())
@@ -167,10 +173,11 @@ fn fields_are_refused_in_order(rt: HostRuntime) -> Result<(), Fail> {
         ),
     ] {
         let text = with_fields(alloc, fields)?;
-        assert_eq!(rt;
+        same_at(
+            &rt,
             front(&rt, alloc, text.as_bytes()),
             refused(number),
-            "{fields}"
+            &fields,
         );
     }
     Ok(())
@@ -189,7 +196,7 @@ fn lengths_are_read(rt: HostRuntime) -> Result<(), Fail> {
     ] {
         let text = with_fields(alloc, fields)?;
         let found = head(&rt, alloc, text.as_str()).expect(&rt, "a head");
-        assert_eq!(rt; found.body, size, "{fields}");
+        same_at(&rt, found.body, size, &fields);
     }
     Ok(())
 }
@@ -208,10 +215,10 @@ fn connections_end_where_they_are_asked_to(rt: HostRuntime) -> Result<(), Fail> 
     ] {
         let text = with_fields(alloc, fields)?;
         let found = head(&rt, alloc, text.as_str()).expect(&rt, "a head");
-        assert_eq!(rt; found.closes, closes, "{fields}");
+        same_at(&rt, found.closes, closes, &fields);
     }
     let old = "GET / HTTP/1.0\r\nConnection: keep-alive\r\n\r\n";
-    assert!(rt; head(&rt, alloc, old).expect(&rt, "a head").closes);
+    is_true(&rt, head(&rt, alloc, old).expect(&rt, "a head").closes);
     Ok(())
 }
 
@@ -222,9 +229,10 @@ fn answers_to_head_have_no_body(rt: HostRuntime) {
         ("head / HTTP/1.1\r\nTransfer-Encoding: x\r\n\r\n", false),
     ] {
         let number = RefusalNumber::TransferCoding;
-        assert_eq!(rt;
+        same(
+            &rt,
             front(&rt, rt.alloc(), text.as_bytes()),
-            Front::Refused(Fault { number, to_head })
+            Front::Refused(Fault { number, to_head }),
         );
     }
 }

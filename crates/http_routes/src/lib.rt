@@ -2,6 +2,8 @@
 //! which method.
 #![tactic(auto)]
 
+#[cfg(test)]
+mod checks;
 pub mod laws;
 mod matching;
 mod numbers;

@@ -1,4 +1,5 @@
 //! Paths with the routes that they find, row by row, and texts that are numbers of entries or none.
+use crate::checks::{same, same_at};
 use crate::{Route, Routes, entry_number};
 use refusals::RefusalNumber;
 use std::test::Fail;
@@ -42,11 +43,11 @@ fn each_word_names_its_route(rt: HostRuntime) -> Result<(), Fail> {
         (b"/v1/services/pay/state", Route::State, b"state", b"GET"),
     ] {
         let found = routes.find(target).expect(&rt, "a route");
-        assert_eq!(rt; found.route, route);
-        assert_eq!(rt; found.service, "pay");
-        assert_eq!(rt; found.number, None);
-        assert_eq!(rt; route.word().as_bytes(), word);
-        assert_eq!(rt; route.method().as_bytes(), method);
+        same(&rt, found.route, route);
+        same(&rt, found.service, "pay");
+        same(&rt, found.number, None);
+        same(&rt, route.word().as_bytes(), word);
+        same(&rt, route.method().as_bytes(), method);
     }
     Ok(())
 }
@@ -66,12 +67,12 @@ fn journal_has_a_number(rt: HostRuntime) -> Result<(), Fail> {
         (b"/v1/services/pay/journal/%37", "%37"),
     ] {
         let found = routes.find(target).expect(&rt, "a route");
-        assert_eq!(rt; found.route, Route::Journal);
-        assert_eq!(rt; found.service, "pay");
-        assert_eq!(rt; found.number, Some(number));
+        same(&rt, found.route, Route::Journal);
+        same(&rt, found.service, "pay");
+        same(&rt, found.number, Some(number));
     }
-    assert_eq!(rt; Route::Journal.word(), "journal");
-    assert_eq!(rt; Route::Journal.method(), "GET");
+    same(&rt, Route::Journal.word(), "journal");
+    same(&rt, Route::Journal.method(), "GET");
     Ok(())
 }
 
@@ -101,9 +102,9 @@ fn services_are_one_segment(rt: HostRuntime) -> Result<(), Fail> {
         (b"/v1/services/\xc3\xa9/cut", Route::Cut, b"\xc3\xa9"),
     ] {
         let found = routes.find(target).expect(&rt, "a route");
-        assert_eq!(rt; found.route, route);
-        assert_eq!(rt; found.service.as_bytes(), service);
-        assert_eq!(rt; found.number, None);
+        same(&rt, found.route, route);
+        same(&rt, found.service.as_bytes(), service);
+        same(&rt, found.number, None);
     }
     Ok(())
 }
@@ -177,10 +178,10 @@ fn routes_take_one_method(rt: HostRuntime) {
         (b"POSTS", false, false, false),
         (b"", false, false, false),
     ] {
-        assert_eq!(rt; Route::Acquire.takes(method), acquires);
-        assert_eq!(rt; Route::Program.takes(method), installs);
-        assert_eq!(rt; Route::State.takes(method), shows);
-        assert_eq!(rt; Route::Journal.takes(method), shows);
+        same(&rt, Route::Acquire.takes(method), acquires);
+        same(&rt, Route::Program.takes(method), installs);
+        same(&rt, Route::State.takes(method), shows);
+        same(&rt, Route::Journal.takes(method), shows);
     }
 }
 
@@ -210,8 +211,8 @@ fn numbers_are_digits(rt: HostRuntime) {
         ("é", None),
     ] {
         match number {
-            Some(number) => assert_eq!(rt; entry_number(text), Ok(number), "{text}"),
-            None => assert_eq!(rt; entry_number(text), Err(RefusalNumber::BadValue), "{text}"),
+            Some(number) => same_at(&rt, entry_number(text), Ok(number), &text),
+            None => same_at(&rt, entry_number(text), Err(RefusalNumber::BadValue), &text),
         }
     }
 }

@@ -6,6 +6,8 @@
 #![tactic(auto)]
 
 mod bitwise;
+#[cfg(test)]
+mod checks;
 mod domain;
 mod known;
 #[cfg(test)]

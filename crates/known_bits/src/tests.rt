@@ -1,5 +1,6 @@
 //! Values with the answers that are worked out by hand from the table.
 use super::KnownBits;
+use crate::checks::same;
 use abs_domain::{Binary, Bits, Bounds, Conversion, Domain, Relation, Shift};
 use bpf_profile::Size;
 use std::test::*;
@@ -17,18 +18,20 @@ fn seen<D: Domain>(value: D) -> (u64, u64) {
 
 #[test]
 fn single_words_and_joins(rt: HostRuntime) -> Result<(), Fail> {
-    assert_eq!(rt; seen(KnownBits::constant(5)), (5, 0));
-    assert_eq!(rt; seen(KnownBits::top()), (0, u64::MAX));
+    same(&rt, seen(KnownBits::constant(5)), (5, 0));
+    same(&rt, seen(KnownBits::top()), (0, u64::MAX));
     let twelve_or_ten = KnownBits::constant(0b1100).join(KnownBits::constant(0b1010));
-    assert_eq!(rt; twelve_or_ten.value(), 0b1000);
-    assert_eq!(rt; twelve_or_ten.unknown(), 0b0110);
-    assert_eq!(rt;
+    same(&rt, twelve_or_ten.value(), 0b1000);
+    same(&rt, twelve_or_ten.unknown(), 0b0110);
+    same(
+        &rt,
         seen(known(0b1000, 0b0001).join(KnownBits::constant(0b1010))),
-        (0b1000, 0b0011)
+        (0b1000, 0b0011),
     );
-    assert_eq!(rt;
+    same(
+        &rt,
         seen(known(0b1000, 0b0001).join(KnownBits::constant(0b1001))),
-        (0b1000, 0b0001)
+        (0b1000, 0b0001),
     );
     Ok(())
 }
@@ -37,22 +40,25 @@ fn single_words_and_joins(rt: HostRuntime) -> Result<(), Fail> {
 fn low_bits_of_arithmetic(rt: HostRuntime) -> Result<(), Fail> {
     let a = known(0b0011, 0b1000);
     let six = KnownBits::constant(6);
-    assert_eq!(rt; seen(a.operate(Binary::Add, six)), (0b001, !0b111));
-    assert_eq!(rt; seen(a.operate(Binary::Subtract, six)), (0b101, !0b111));
-    assert_eq!(rt; seen(a.operate(Binary::Multiply, six)), (0b010, !0b111));
-    assert_eq!(rt; seen(six.operate(Binary::Add, a)), (0b001, !0b111));
-    assert_eq!(rt;
+    same(&rt, seen(a.operate(Binary::Add, six)), (0b001, !0b111));
+    same(&rt, seen(a.operate(Binary::Subtract, six)), (0b101, !0b111));
+    same(&rt, seen(a.operate(Binary::Multiply, six)), (0b010, !0b111));
+    same(&rt, seen(six.operate(Binary::Add, a)), (0b001, !0b111));
+    same(
+        &rt,
         seen(known(0, 1).operate(Binary::Multiply, six)),
-        (0, u64::MAX)
+        (0, u64::MAX),
     );
     let one = KnownBits::constant(1);
-    assert_eq!(rt;
+    same(
+        &rt,
         seen(KnownBits::constant(u64::MAX).operate(Binary::Add, one)),
-        (0, 0)
+        (0, 0),
     );
-    assert_eq!(rt;
+    same(
+        &rt,
         seen(KnownBits::constant(0).operate(Binary::Subtract, one)),
-        (u64::MAX, 0)
+        (u64::MAX, 0),
     );
     Ok(())
 }
@@ -70,9 +76,9 @@ fn quotients_of_known_words(rt: HostRuntime) -> Result<(), Fail> {
     ];
     for (operation, a, b, answer) in rows {
         let (a, b) = (KnownBits::constant(a), KnownBits::constant(b));
-        assert_eq!(rt; seen(a.operate(operation, b)), (answer, 0));
-        assert_eq!(rt; seen(known(16, 1).operate(operation, b)), (0, u64::MAX));
-        assert_eq!(rt; seen(a.operate(operation, known(4, 1))), (0, u64::MAX));
+        same(&rt, seen(a.operate(operation, b)), (answer, 0));
+        same(&rt, seen(known(16, 1).operate(operation, b)), (0, u64::MAX));
+        same(&rt, seen(a.operate(operation, known(4, 1))), (0, u64::MAX));
     }
     Ok(())
 }
@@ -81,28 +87,38 @@ fn quotients_of_known_words(rt: HostRuntime) -> Result<(), Fail> {
 fn bit_by_bit(rt: HostRuntime) -> Result<(), Fail> {
     let a = known(0b0011, 0b0100);
     let b = known(0b0101, 0b0010);
-    assert_eq!(rt; seen(a.operate(Binary::And, b)), (0b0001, 0b0110));
-    assert_eq!(rt; seen(a.operate(Binary::Or, b)), (0b0111, 0));
-    assert_eq!(rt; seen(a.operate(Binary::Xor, b)), (0, 0b0110));
+    same(&rt, seen(a.operate(Binary::And, b)), (0b0001, 0b0110));
+    same(&rt, seen(a.operate(Binary::Or, b)), (0b0111, 0));
+    same(&rt, seen(a.operate(Binary::Xor, b)), (0, 0b0110));
     Ok(())
 }
 
 #[test]
 fn shifts(rt: HostRuntime) -> Result<(), Fail> {
     let a = known(0b0011, 0b0100);
-    assert_eq!(rt; seen(a.shift(Shift::Left, 2)), (0b1100, 0b1_0000));
-    assert_eq!(rt; seen(a.shift(Shift::Left, 62)), (0xc000_0000_0000_0000, 0));
-    assert_eq!(rt; seen(a.shift(Shift::Right, 1)), (0b0001, 0b0010));
-    assert_eq!(rt; seen(a.shift(Shift::ArithmeticRight, 1)), (0b0001, 0b0010));
+    same(&rt, seen(a.shift(Shift::Left, 2)), (0b1100, 0b1_0000));
+    same(
+        &rt,
+        seen(a.shift(Shift::Left, 62)),
+        (0xc000_0000_0000_0000, 0),
+    );
+    same(&rt, seen(a.shift(Shift::Right, 1)), (0b0001, 0b0010));
+    same(
+        &rt,
+        seen(a.shift(Shift::ArithmeticRight, 1)),
+        (0b0001, 0b0010),
+    );
     let negative = known(0x8000_0000_0000_0000, 0x4000_0000_0000_0000);
-    assert_eq!(rt;
+    same(
+        &rt,
         seen(negative.shift(Shift::ArithmeticRight, 1)),
-        (0xc000_0000_0000_0000, 0x2000_0000_0000_0000)
+        (0xc000_0000_0000_0000, 0x2000_0000_0000_0000),
     );
     let either = known(0, 0x8000_0000_0000_0000);
-    assert_eq!(rt;
+    same(
+        &rt,
         seen(either.shift(Shift::ArithmeticRight, 63)),
-        (0, u64::MAX)
+        (0, u64::MAX),
     );
     Ok(())
 }
@@ -110,22 +126,26 @@ fn shifts(rt: HostRuntime) -> Result<(), Fail> {
 #[test]
 fn conversions(rt: HostRuntime) -> Result<(), Fail> {
     let a = known(0x0102_0304, 0xf0);
-    assert_eq!(rt;
+    same(
+        &rt,
         seen(a.convert(Conversion::Low, Size::HalfWord)),
-        (0x0304, 0xf0)
+        (0x0304, 0xf0),
     );
-    assert_eq!(rt;
+    same(
+        &rt,
         seen(a.convert(Conversion::Swapped, Size::Word)),
-        (0x0403_0201, 0xf000_0000)
+        (0x0403_0201, 0xf000_0000),
     );
-    assert_eq!(rt;
+    same(
+        &rt,
         seen(a.convert(Conversion::SignExtended, Size::Byte)),
-        (0x04, 0xffff_ffff_ffff_fff0)
+        (0x04, 0xffff_ffff_ffff_fff0),
     );
     let negative = known(0x80, 0x01);
-    assert_eq!(rt;
+    same(
+        &rt,
         seen(negative.convert(Conversion::SignExtended, Size::Byte)),
-        (0xffff_ffff_ffff_ff80, 0x01)
+        (0xffff_ffff_ffff_ff80, 0x01),
     );
     Ok(())
 }
@@ -133,24 +153,26 @@ fn conversions(rt: HostRuntime) -> Result<(), Fail> {
 #[test]
 fn what_is_known_of_all_words(rt: HostRuntime) -> Result<(), Fail> {
     let a = known(0b1000, 0b0100);
-    assert_eq!(rt;
+    same(
+        &rt,
         a.bounds(),
         Bounds {
             low: 0b1000,
-            high: 0b1100
-        }
+            high: 0b1100,
+        },
     );
-    assert_eq!(rt;
+    same(
+        &rt,
         a.bits(),
         Bits {
             value: 0b1000,
-            unknown: 0b0100
-        }
+            unknown: 0b0100,
+        },
     );
-    assert_eq!(rt; a.low_zeros(2), true);
-    assert_eq!(rt; a.low_zeros(3), false);
-    assert_eq!(rt; known(0b1000, 0).low_zeros(4), false);
-    assert_eq!(rt; KnownBits::top().low_zeros(0), true);
+    same(&rt, a.low_zeros(2), true);
+    same(&rt, a.low_zeros(3), false);
+    same(&rt, known(0b1000, 0).low_zeros(4), false);
+    same(&rt, KnownBits::top().low_zeros(0), true);
     Ok(())
 }
 
@@ -159,25 +181,26 @@ fn comparisons(rt: HostRuntime) -> Result<(), Fail> {
     let a = known(0b0011, 0b0100);
     let b = known(0b0101, 0b0010);
     let seven = KnownBits::constant(0b0111);
-    assert_eq!(rt; a.refine(Relation::Equal, b), (seven, seven));
+    same(&rt, a.refine(Relation::Equal, b), (seven, seven));
     let odd = KnownBits::constant(1);
     let even = known(0, 0b10);
-    assert_eq!(rt; odd.refine(Relation::Equal, even), (odd, even));
+    same(&rt, odd.refine(Relation::Equal, even), (odd, even));
     let two = KnownBits::constant(0b0010);
     let wide = known(0b0001, 0b0110);
-    assert_eq!(rt;
+    same(
+        &rt,
         wide.refine(Relation::Disjoint, two),
-        (known(0b0001, 0b0100), two)
+        (known(0b0001, 0b0100), two),
     );
-    assert_eq!(rt; wide.refine(Relation::Disjoint, odd), (wide, odd));
-    assert_eq!(rt; wide.refine(Relation::Disjoint, even), (wide, even));
+    same(&rt, wide.refine(Relation::Disjoint, odd), (wide, odd));
+    same(&rt, wide.refine(Relation::Disjoint, even), (wide, even));
     for relation in [
         Relation::NotEqual,
         Relation::Greater,
         Relation::GreaterOrEqual,
         Relation::Overlapping,
     ] {
-        assert_eq!(rt; a.refine(relation, b), (a, b));
+        same(&rt, a.refine(relation, b), (a, b));
     }
     Ok(())
 }
@@ -185,20 +208,22 @@ fn comparisons(rt: HostRuntime) -> Result<(), Fail> {
 #[test]
 fn what_is_known_besides(rt: HostRuntime) -> Result<(), Fail> {
     let a = known(0b0001, 0b0110);
-    assert_eq!(rt; a.clamp(Bounds { low: 2, high: 3 }), a);
-    assert_eq!(rt;
+    same(&rt, a.clamp(Bounds { low: 2, high: 3 }), a);
+    same(
+        &rt,
         seen(a.fix(Bits {
             value: 0b0011,
-            unknown: 0b0100
+            unknown: 0b0100,
         })),
-        (0b0011, 0b0100)
+        (0b0011, 0b0100),
     );
-    assert_eq!(rt;
+    same(
+        &rt,
         seen(a.fix(Bits {
             value: 0,
-            unknown: u64::MAX
+            unknown: u64::MAX,
         })),
-        (0b0001, 0b0110)
+        (0b0001, 0b0110),
     );
     Ok(())
 }

@@ -1,5 +1,6 @@
 //! Results that the table gives, computed by hand.
 use super::Range;
+use crate::checks::{is_true, same, same_at};
 use abs_domain::{Binary, Bits, Bounds, Conversion, Domain, Relation, Shift};
 use bpf_profile::Size;
 use std::process::Abort;
@@ -14,18 +15,22 @@ const TWO_TO_32: u64 = 0x1_0000_0000;
 #[test]
 fn words_and_bounds(rt: HostRuntime) -> Result<(), Fail> {
     let range = Range::new(3, 9);
-    assert_eq!(rt; (range.low(), range.high()), (3, 9));
-    assert_eq!(rt; range.bounds(), Bounds { low: 3, high: 9 });
-    assert_eq!(rt; Range::constant(7), Range::new(7, 7));
-    assert_eq!(rt; Range::top(), Range::new(0, MAX));
-    assert_eq!(rt; range.join(Range::new(5, 20)), Range::new(3, 20));
-    assert_eq!(rt; Range::new(5, 20).join(range), Range::new(3, 20));
-    assert_eq!(rt; range.clamp(Bounds { low: 4, high: 5 }), Range::new(4, 5));
+    same(&rt, (range.low(), range.high()), (3, 9));
+    same(&rt, range.bounds(), Bounds { low: 3, high: 9 });
+    same(&rt, Range::constant(7), Range::new(7, 7));
+    same(&rt, Range::top(), Range::new(0, MAX));
+    same(&rt, range.join(Range::new(5, 20)), Range::new(3, 20));
+    same(&rt, Range::new(5, 20).join(range), Range::new(3, 20));
+    same(
+        &rt,
+        range.clamp(Bounds { low: 4, high: 5 }),
+        Range::new(4, 5),
+    );
     let odd = Bits {
         value: 1,
         unknown: MAX - 1,
     };
-    assert_eq!(rt; range.fix(odd), range);
+    same(&rt, range.fix(odd), range);
     Ok(())
 }
 
@@ -39,13 +44,13 @@ fn known_bits(rt: HostRuntime) -> Result<(), Fail> {
         value: 0,
         unknown: MAX,
     };
-    assert_eq!(rt; Range::new(7, 7).bits(), one);
-    assert_eq!(rt; Range::new(7, 8).bits(), any);
-    assert!(rt; Range::new(8, 8).low_zeros(3));
-    assert!(rt; !Range::new(8, 8).low_zeros(4));
-    assert!(rt; !Range::new(8, 16).low_zeros(3));
-    assert!(rt; Range::new(7, 7).low_zeros(0));
-    assert!(rt; Range::new(0, 0).low_zeros(63));
+    same(&rt, Range::new(7, 7).bits(), one);
+    same(&rt, Range::new(7, 8).bits(), any);
+    is_true(&rt, Range::new(8, 8).low_zeros(3));
+    is_true(&rt, !Range::new(8, 8).low_zeros(4));
+    is_true(&rt, !Range::new(8, 16).low_zeros(3));
+    is_true(&rt, Range::new(7, 7).low_zeros(0));
+    is_true(&rt, Range::new(0, 0).low_zeros(63));
     Ok(())
 }
 
@@ -102,11 +107,7 @@ fn sums_and_differences(rt: HostRuntime) -> Result<(), Fail> {
         ),
     ];
     for (operation, a, b, wanted) in rows {
-        assert_eq!(rt;
-            a.operate(operation, b),
-            wanted,
-            "{operation:?} {a:?} {b:?}"
-        );
+        same_at(&rt, a.operate(operation, b), wanted, (&operation, &a, &b));
     }
     Ok(())
 }
@@ -188,11 +189,7 @@ fn products_and_quotients(rt: HostRuntime) -> Result<(), Fail> {
         ),
     ];
     for (operation, a, b, wanted) in rows {
-        assert_eq!(rt;
-            a.operate(operation, b),
-            wanted,
-            "{operation:?} {a:?} {b:?}"
-        );
+        same_at(&rt, a.operate(operation, b), wanted, (&operation, &a, &b));
     }
     Ok(())
 }
@@ -244,11 +241,7 @@ fn bitwise_operations(rt: HostRuntime) -> Result<(), Fail> {
         ),
     ];
     for (operation, a, b, wanted) in rows {
-        assert_eq!(rt;
-            a.operate(operation, b),
-            wanted,
-            "{operation:?} {a:?} {b:?}"
-        );
+        same_at(&rt, a.operate(operation, b), wanted, (&operation, &a, &b));
     }
     Ok(())
 }
@@ -296,8 +289,8 @@ fn shifts(rt: HostRuntime) -> Result<(), Fail> {
         ),
     ];
     for (shift, a, count, wanted) in rows {
-        assert!(rt; count < 64);
-        assert_eq!(rt; a.shift(shift, count), wanted, "{shift:?} {a:?} {count}");
+        is_true(&rt, count < 64);
+        same_at(&rt, a.shift(shift, count), wanted, (&shift, &a, &count));
     }
     Ok(())
 }
@@ -361,10 +354,11 @@ fn conversions(rt: HostRuntime) -> Result<(), Fail> {
         ),
     ];
     for (conversion, size, a, wanted) in rows {
-        assert_eq!(rt;
+        same_at(
+            &rt,
             a.convert(conversion, size),
             wanted,
-            "{conversion:?} {size:?} {a:?}"
+            (&conversion, &size, &a),
         );
     }
     Ok(())
@@ -372,10 +366,11 @@ fn conversions(rt: HostRuntime) -> Result<(), Fail> {
 
 /// What a comparison tells of two ranges, each before and after.
 fn told(rt: &impl Abort, relation: Relation, before: (Range, Range), after: (Range, Range)) {
-    assert_eq!(rt;
+    same_at(
+        rt,
         before.0.refine(relation, before.1),
         after,
-        "{relation:?} {before:?}"
+        (&relation, &before),
     );
 }
 
@@ -487,6 +482,6 @@ fn twice<D: Domain>(value: D) -> Bounds {
 
 #[test]
 fn through_the_trait(rt: HostRuntime) -> Result<(), Fail> {
-    assert_eq!(rt; twice(Range::new(3, 9)), Bounds { low: 6, high: 18 });
+    same(&rt, twice(Range::new(3, 9)), Bounds { low: 6, high: 18 });
     Ok(())
 }

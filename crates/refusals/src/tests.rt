@@ -1,5 +1,6 @@
 //! Rows of the table as answers print them.
 use super::RefusalNumber;
+use crate::checks::same;
 
 #[test]
 fn rows_are_those_of_answers(rt: HostRuntime) {
@@ -35,9 +36,9 @@ fn rows_are_those_of_answers(rt: HostRuntime) {
         (RefusalNumber::SeatsMissing, 73, "SeatsMissing", 500, false),
     ];
     for (refusal, number, name, status, is_answered) in rows {
-        assert_eq!(rt; refusal.number(), number);
-        assert_eq!(rt; refusal.name(), name);
-        assert_eq!(rt; refusal.status(), status);
-        assert_eq!(rt; refusal.is_answered(), is_answered);
+        same(&rt, refusal.number(), number);
+        same(&rt, refusal.name(), name);
+        same(&rt, refusal.status(), status);
+        same(&rt, refusal.is_answered(), is_answered);
     }
 }

@@ -2,6 +2,8 @@
 //! Each call takes constant time, or time that grows with the logarithm of the number of open tickets.
 #![tactic(auto)]
 
+#[cfg(test)]
+mod checks;
 mod holdings;
 mod installing;
 mod issuing;

@@ -2,6 +2,7 @@
 ghost use Rattle.std.specs.Prelude.{◌≤◌};
 
 use crate::Registry;
+use crate::checks::{is_true, same};
 use refusals::RefusalNumber;
 use service_profile::OpenTicket;
 use std::alloc::Global;
@@ -87,6 +88,16 @@ fn kept<R: Abort>(rt: &R, registry: &mut Registry) {
     registry.keep_current();
 }
 
+/// Ends a ticket, and says nothing of it, so that the proof of a test stays short.
+fn ended(registry: &mut Registry, ticket: u64) -> Result<OpenTicket, RefusalNumber> {
+    registry.end(ticket)
+}
+
+/// How many tickets are open.
+fn open_count(registry: &Registry) -> usize {
+    registry.open_count()
+}
+
 /// A value that may go to another thread.
 fn sent<T: Send>(value: T) -> T {
     value
@@ -95,43 +106,47 @@ fn sent<T: Send>(value: T) -> T {
 #[test]
 fn a_new_registry_holds_one_program(rt: HostRuntime) -> Result<(), Fail> {
     let registry = sent(Registry::new(rt.alloc(), classifier(&rt, rt.alloc())?, 7, 40)?);
-    assert_eq!(rt; registry.version_count(), 1);
-    assert_eq!(rt; registry.current_version(), 7);
-    assert_eq!(rt; registry.next_version(), 8);
-    assert_eq!(rt; registry.current_budget(), 6);
-    assert_eq!(rt; registry.current_program().budget(), 6);
-    assert_eq!(rt; budget(&registry, 6), 0);
-    assert_eq!(rt; budget(&registry, 7), 6);
-    assert_eq!(rt; budget(&registry, 8), 0);
-    assert_eq!(rt; registry.next_ticket(), 40);
-    assert_eq!(rt; registry.open_count(), 0);
-    assert!(rt; registry.is_issued(1));
-    assert!(rt; registry.is_issued(39));
-    assert!(rt; !registry.is_issued(0));
-    assert!(rt; !registry.is_issued(40));
+    same(&rt, registry.version_count(), 1);
+    same(&rt, registry.current_version(), 7);
+    same(&rt, registry.next_version(), 8);
+    same(&rt, registry.current_budget(), 6);
+    same(&rt, registry.current_program().budget(), 6);
+    same(&rt, budget(&registry, 6), 0);
+    same(&rt, budget(&registry, 7), 6);
+    same(&rt, budget(&registry, 8), 0);
+    same(&rt, registry.next_ticket(), 40);
+    same(&rt, open_count(&registry), 0);
+    is_true(&rt, registry.is_issued(1));
+    is_true(&rt, registry.is_issued(39));
+    is_true(&rt, !registry.is_issued(0));
+    is_true(&rt, !registry.is_issued(40));
     Ok(())
 }
 
 #[test]
 fn a_ticket_is_open_until_it_ends(rt: HostRuntime) -> Result<(), Fail> {
     let mut registry = registry(&rt, rt.alloc())?;
-    assert_eq!(rt; registry.end(1), Err(RefusalNumber::NoTicket));
-    assert_eq!(rt; issued(&rt, &mut registry, 3)?, ticket(1, 1, 3));
-    assert_eq!(rt; issued(&rt, &mut registry, 4)?, ticket(2, 1, 4));
-    assert_eq!(rt; registry.next_ticket(), 3);
-    assert_eq!(rt; registry.open_count(), 2);
-    assert_eq!(rt; registry.open_ticket(1), Some(ticket(1, 1, 3)));
-    assert!(rt; registry.is_open(1));
-    assert_eq!(rt; registry.end(1), Ok(ticket(1, 1, 3)));
-    assert_eq!(rt; registry.end(1), Err(RefusalNumber::TicketSpent));
-    assert_eq!(rt; registry.end(0), Err(RefusalNumber::NoTicket));
-    assert_eq!(rt; registry.end(3), Err(RefusalNumber::NoTicket));
-    assert_eq!(rt; registry.open_ticket(1), None);
-    assert!(rt; !registry.is_open(1));
-    assert!(rt; registry.is_issued(1));
-    assert_eq!(rt; registry.open_ticket(2), Some(ticket(2, 1, 4)));
-    assert_eq!(rt; registry.open_count(), 1);
-    assert_eq!(rt; issued(&rt, &mut registry, 4)?, ticket(3, 1, 4));
+    same(&rt, ended(&mut registry, 1), Err(RefusalNumber::NoTicket));
+    same(&rt, issued(&rt, &mut registry, 3)?, ticket(1, 1, 3));
+    same(&rt, issued(&rt, &mut registry, 4)?, ticket(2, 1, 4));
+    same(&rt, registry.next_ticket(), 3);
+    same(&rt, open_count(&registry), 2);
+    same(&rt, registry.open_ticket(1), Some(ticket(1, 1, 3)));
+    is_true(&rt, registry.is_open(1));
+    same(&rt, ended(&mut registry, 1), Ok(ticket(1, 1, 3)));
+    same(
+        &rt,
+        ended(&mut registry, 1),
+        Err(RefusalNumber::TicketSpent),
+    );
+    same(&rt, ended(&mut registry, 0), Err(RefusalNumber::NoTicket));
+    same(&rt, ended(&mut registry, 3), Err(RefusalNumber::NoTicket));
+    same(&rt, registry.open_ticket(1), None);
+    is_true(&rt, !registry.is_open(1));
+    is_true(&rt, registry.is_issued(1));
+    same(&rt, registry.open_ticket(2), Some(ticket(2, 1, 4)));
+    same(&rt, open_count(&registry), 1);
+    same(&rt, issued(&rt, &mut registry, 4)?, ticket(3, 1, 4));
     Ok(())
 }
 
@@ -140,21 +155,21 @@ fn a_ticket_is_judged_by_its_version(rt: HostRuntime) -> Result<(), Fail> {
     let mut registry = registry(&rt, rt.alloc())?;
     issued(&rt, &mut registry, 1)?;
     let second = constant(&rt, rt.alloc(), 2)?;
-    assert_eq!(rt; installed(&rt, &mut registry, second), Ok(2));
-    assert_eq!(rt; issued(&rt, &mut registry, 1)?, ticket(2, 2, 1));
-    assert_eq!(rt; registry.current_version(), 2);
-    assert_eq!(rt; registry.current_budget(), 2);
-    assert_eq!(rt; looked(&registry, 1), Ok(6));
-    assert_eq!(rt; looked(&registry, 2), Ok(2));
-    assert_eq!(rt; looked(&registry, 0), Err(RefusalNumber::NoTicket));
-    assert_eq!(rt; looked(&registry, 3), Err(RefusalNumber::NoTicket));
-    assert_eq!(rt; owned(&registry, 1), Ok(6));
-    assert_eq!(rt; owned(&registry, 2), Ok(2));
-    assert_eq!(rt; owned(&registry, 3), Err(RefusalNumber::NoTicket));
-    registry.end(1).expect(&rt, "an open ticket");
-    assert_eq!(rt; looked(&registry, 1), Err(RefusalNumber::TicketSpent));
-    assert_eq!(rt; owned(&registry, 1), Err(RefusalNumber::TicketSpent));
-    assert_eq!(rt; looked(&registry, 2), Ok(2));
+    same(&rt, installed(&rt, &mut registry, second), Ok(2));
+    same(&rt, issued(&rt, &mut registry, 1)?, ticket(2, 2, 1));
+    same(&rt, registry.current_version(), 2);
+    same(&rt, registry.current_budget(), 2);
+    same(&rt, looked(&registry, 1), Ok(6));
+    same(&rt, looked(&registry, 2), Ok(2));
+    same(&rt, looked(&registry, 0), Err(RefusalNumber::NoTicket));
+    same(&rt, looked(&registry, 3), Err(RefusalNumber::NoTicket));
+    same(&rt, owned(&registry, 1), Ok(6));
+    same(&rt, owned(&registry, 2), Ok(2));
+    same(&rt, owned(&registry, 3), Err(RefusalNumber::NoTicket));
+    ended(&mut registry, 1).expect(&rt, "an open ticket");
+    same(&rt, looked(&registry, 1), Err(RefusalNumber::TicketSpent));
+    same(&rt, owned(&registry, 1), Err(RefusalNumber::TicketSpent));
+    same(&rt, looked(&registry, 2), Ok(2));
     Ok(())
 }
 
@@ -162,21 +177,21 @@ fn a_ticket_is_judged_by_its_version(rt: HostRuntime) -> Result<(), Fail> {
 fn the_current_program_is_kept_under_its_version(rt: HostRuntime) -> Result<(), Fail> {
     let mut registry = registry(&rt, rt.alloc())?;
     let second = constant(&rt, rt.alloc(), 0)?;
-    assert_eq!(rt; held(&rt, &mut registry, second)?, 2);
+    same(&rt, held(&rt, &mut registry, second)?, 2);
     let third = constant(&rt, rt.alloc(), 1)?;
-    assert_eq!(rt; held(&rt, &mut registry, third)?, 3);
+    same(&rt, held(&rt, &mut registry, third)?, 3);
     kept(&rt, &mut registry);
-    assert_eq!(rt; registry.version_count(), 1);
-    assert_eq!(rt; registry.current_version(), 3);
-    assert_eq!(rt; budget(&registry, 1), 0);
-    assert_eq!(rt; budget(&registry, 2), 0);
-    assert_eq!(rt; budget(&registry, 3), 2);
+    same(&rt, registry.version_count(), 1);
+    same(&rt, registry.current_version(), 3);
+    same(&rt, budget(&registry, 1), 0);
+    same(&rt, budget(&registry, 2), 0);
+    same(&rt, budget(&registry, 3), 2);
     kept(&rt, &mut registry);
-    assert_eq!(rt; registry.current_version(), 3);
-    assert_eq!(rt; registry.next_ticket(), 1);
+    same(&rt, registry.current_version(), 3);
+    same(&rt, registry.next_ticket(), 1);
     let fourth = classifier(&rt, rt.alloc())?;
-    assert_eq!(rt; installed(&rt, &mut registry, fourth), Ok(4));
-    assert_eq!(rt; registry.current_budget(), 6);
+    same(&rt, installed(&rt, &mut registry, fourth), Ok(4));
+    same(&rt, registry.current_budget(), 6);
     Ok(())
 }
 
@@ -186,19 +201,19 @@ fn at_most_256_versions_are_held(rt: HostRuntime) -> Result<(), Fail> {
     let program = constant(&rt, rt.alloc(), 1)?;
     for version in 2..257u64 {
         let owner = Arc::try_clone(&program)?;
-        assert_eq!(rt; installed(&rt, &mut registry, owner), Ok(version));
+        same(&rt, installed(&rt, &mut registry, owner), Ok(version));
     }
-    assert_eq!(rt; registry.version_count(), 256);
+    same(&rt, registry.version_count(), 256);
     let owner = Arc::try_clone(&program)?;
     let refused = installed(&rt, &mut registry, owner);
-    assert_eq!(rt; refused, Err(RefusalNumber::VersionsFull));
-    assert_eq!(rt; registry.version_count(), 256);
-    assert_eq!(rt; registry.current_version(), 256);
-    assert_eq!(rt; budget(&registry, 1), 6);
-    assert_eq!(rt; budget(&registry, 256), 2);
-    assert_eq!(rt; budget(&registry, 257), 0);
+    same(&rt, refused, Err(RefusalNumber::VersionsFull));
+    same(&rt, registry.version_count(), 256);
+    same(&rt, registry.current_version(), 256);
+    same(&rt, budget(&registry, 1), 6);
+    same(&rt, budget(&registry, 256), 2);
+    same(&rt, budget(&registry, 257), 0);
     kept(&rt, &mut registry);
-    assert_eq!(rt; installed(&rt, &mut registry, program), Ok(257));
+    same(&rt, installed(&rt, &mut registry, program), Ok(257));
     Ok(())
 }
 
@@ -214,18 +229,27 @@ fn shuffled(n: u64) -> u64
 fn tickets_end_in_another_order(rt: HostRuntime) -> Result<(), Fail> {
     let mut registry = registry(&rt, rt.alloc())?;
     for number in 1..10_001u64 {
-        assert_eq!(rt;
+        same(
+            &rt,
             issued(&rt, &mut registry, number % 5)?,
-            ticket(number, 1, number % 5)
+            ticket(number, 1, number % 5),
         );
     }
-    assert_eq!(rt; registry.open_count(), 10_000);
+    same(&rt, open_count(&registry), 10_000);
     for n in 0..10_000u64 {
         let number = shuffled(n);
-        assert_eq!(rt; registry.end(number), Ok(ticket(number, 1, number % 5)));
-        assert_eq!(rt; registry.end(number), Err(RefusalNumber::TicketSpent));
+        same(
+            &rt,
+            ended(&mut registry, number),
+            Ok(ticket(number, 1, number % 5)),
+        );
+        same(
+            &rt,
+            ended(&mut registry, number),
+            Err(RefusalNumber::TicketSpent),
+        );
     }
-    assert_eq!(rt; registry.open_count(), 0);
-    assert_eq!(rt; issued(&rt, &mut registry, 9)?, ticket(10_001, 1, 9));
+    same(&rt, open_count(&registry), 0);
+    same(&rt, issued(&rt, &mut registry, 9)?, ticket(10_001, 1, 9));
     Ok(())
 }

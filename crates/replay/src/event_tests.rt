@@ -1,4 +1,5 @@
 //! What is answered, event by event.
+use crate::checks::{same, same_at};
 use crate::{Ended, ReplayError, replay};
 use counted_io::Counted;
 use std::alloc::Global;
@@ -43,8 +44,8 @@ pub(crate) fn replays(
     for line in printed {
         wanted.extend_from_slice(line.as_bytes())?;
     }
-    assert_eq!(rt; out.inner.as_slice(), wanted.as_slice());
-    assert_eq!(rt; found, ended);
+    same(rt, out.inner.as_slice(), wanted.as_slice());
+    same(rt, found, ended);
     Ok(())
 }
 
@@ -269,8 +270,12 @@ fn long_lines_are_read(rt: HostRuntime) -> Result<(), Fail> {
     }
     let mut reader = Counted::new(input.as_slice());
     let mut out = Counted::new(Vec::new(alloc));
-    assert_eq!(rt; replay(alloc, &mut reader, &mut out)?, Ended::Done);
-    assert_eq!(rt; out.inner.len(), ACQUIRED.len() + 2000 * BAD_VALUE.len());
+    same(&rt, replay(alloc, &mut reader, &mut out)?, Ended::Done);
+    same(
+        &rt,
+        out.inner.len(),
+        ACQUIRED.len() + 2000 * BAD_VALUE.len(),
+    );
     Ok(())
 }
 
@@ -330,8 +335,8 @@ fn a_failing_reader_ends_a_replay(rt: HostRuntime) -> Result<(), Fail> {
         };
         let first = if left >= 27 { ACQUIRED.len() } else { 0 };
         let second = if left >= 51 { ACQUIRED_AGAIN.len() } else { 0 };
-        assert_eq!(rt; found, wanted, "{left}");
-        assert_eq!(rt; out.inner.len(), first + second, "{left}");
+        same_at(&rt, found, wanted, &left);
+        same_at(&rt, out.inner.len(), first + second, &left);
     }
     Ok(())
 }
@@ -352,8 +357,8 @@ fn a_failing_writer_ends_a_replay(rt: HostRuntime) -> Result<(), Fail> {
         } else {
             Err(ReplayError::WriteFailed)
         };
-        assert_eq!(rt; found, wanted, "{left}");
-        assert_eq!(rt; out.inner.inner.len() as u64, left);
+        same_at(&rt, found, wanted, &left);
+        same(&rt, out.inner.inner.len() as u64, left);
     }
     Ok(())
 }

@@ -3,6 +3,8 @@
 
 mod answering;
 mod asking;
+#[cfg(test)]
+mod checks;
 mod error;
 #[cfg(test)]
 mod event_tests;

@@ -1,4 +1,5 @@
 //! That a replay succeeds with ample memory, however long its input is.
+use crate::checks::{is_true, is_true_at, same, same_at};
 use crate::{Ended, ReplayError, replay};
 use counted_io::Counted;
 use std::alloc::Global;
@@ -27,8 +28,8 @@ fn events_are_answered(rt: HostRuntime) -> Result<(), Fail> {
     ] {
         let mut reader = Counted::new(input.as_bytes());
         let mut out = Counted::new(Vec::new(alloc));
-        assert_eq!(rt; replay(alloc, &mut reader, &mut out)?, ended);
-        assert_eq!(rt; out.inner.as_slice(), printed.as_bytes());
+        same(&rt, replay(alloc, &mut reader, &mut out)?, ended);
+        same(&rt, out.inner.as_slice(), printed.as_bytes());
     }
     Ok(())
 }
@@ -37,9 +38,9 @@ fn events_are_answered(rt: HostRuntime) -> Result<(), Fail> {
 fn answered(rt: &impl Abort, alloc: Global, input: &[u8]) -> Result<Vec<u8>, Fail> {
     let mut reader = Counted::new(input);
     let mut out = Counted::new(Vec::new(alloc));
-    assert_eq!(rt; replay(alloc, &mut reader, &mut out)?, Ended::Done);
-    assert_eq!(rt; reader.failures, 0);
-    assert_eq!(rt; out.failures, 0);
+    same(rt, replay(alloc, &mut reader, &mut out)?, Ended::Done);
+    same(rt, reader.failures, 0);
+    same(rt, out.failures, 0);
     let Counted { inner, .. } = out;
     Ok(inner)
 }
@@ -73,7 +74,7 @@ fn very_many_events_are_answered(rt: HostRuntime) -> Result<(), Fail> {
     let input = input_of(alloc, b"{}\n", &events, ACQUIRE)?;
     let refused = b"422 {\"error\":59,\"name\":\"BadField\"}\n".as_slice();
     let printed = input_of(alloc, &repeated(alloc, refused, 65_536)?, ACQUIRED, b"")?;
-    assert!(rt; answered(&rt, alloc, &input)? == printed);
+    is_true(&rt, answered(&rt, alloc, &input)? == printed);
     Ok(())
 }
 
@@ -83,10 +84,11 @@ fn blank_lines_in_a_row_are_passed_over(rt: HostRuntime) -> Result<(), Fail> {
     for times in [4, 100, 65_536] {
         let blanks = repeated(alloc, b" \n\n", times)?;
         let input = input_of(alloc, b"{}\n", &blanks, ACQUIRE)?;
-        assert_eq!(rt;
+        same_at(
+            &rt,
             answered(&rt, alloc, &input)?.as_slice(),
             ACQUIRED,
-            "{times}"
+            &times,
         );
     }
     Ok(())
@@ -102,7 +104,7 @@ fn journals_grow_to_any_power_of_two(rt: HostRuntime) -> Result<(), Fail> {
         let input = input_of(alloc, b"{}\n", &resets, b"{\"at\":1,\"do\":\"cut\"}\n")?;
         let text = answered(&rt, alloc, &input)?;
         let cut = format!(in alloc; "\n200 {{\"entries\":{count}}}\n")?;
-        assert!(rt; text.ends_with(cut.as_bytes()), "{count}");
+        is_true_at(&rt, text.ends_with(cut.as_bytes()), &count);
     }
     Ok(())
 }
@@ -128,12 +130,13 @@ fn answers_go_out_byte_by_byte(rt: HostRuntime) -> Result<(), Fail> {
     let input = input_of(alloc, b"{}\n", ACQUIRE, b"{}")?;
     let mut reader = Counted::new(input.as_slice());
     let mut out = Counted::new(Slow(Vec::new(alloc)));
-    assert_eq!(rt; replay(alloc, &mut reader, &mut out)?, Ended::Done);
-    assert_eq!(rt;
+    same(&rt, replay(alloc, &mut reader, &mut out)?, Ended::Done);
+    same(
+        &rt,
         out.inner.0.as_slice(),
-        answered(&rt, alloc, &input)?.as_slice()
+        answered(&rt, alloc, &input)?.as_slice(),
     );
-    assert!(rt; out.inner.0.starts_with(ACQUIRED));
+    is_true(&rt, out.inner.0.starts_with(ACQUIRED));
     Ok(())
 }
 
@@ -144,11 +147,11 @@ fn long_lines_are_answered(rt: HostRuntime) -> Result<(), Fail> {
     let event = b"{\"at\":1,\"do\":\"acquire\",\"note\":\"";
     let first = input_of(alloc, b"{}\n", event, &letters)?;
     let input = input_of(alloc, &first, b"\"}\n", b"")?;
-    assert_eq!(rt; answered(&rt, alloc, &input)?.as_slice(), ACQUIRED);
+    same(&rt, answered(&rt, alloc, &input)?.as_slice(), ACQUIRED);
     let blanks = repeated(alloc, b" ", 1 << 20)?;
     let config = input_of(alloc, b"{", &blanks, b"}\n")?;
     let input = input_of(alloc, &config, ACQUIRE, b"")?;
-    assert_eq!(rt; answered(&rt, alloc, &input)?.as_slice(), ACQUIRED);
+    same(&rt, answered(&rt, alloc, &input)?.as_slice(), ACQUIRED);
     Ok(())
 }
 
@@ -165,7 +168,7 @@ fn outcomes_may_have_many_unknown_keys(rt: HostRuntime) -> Result<(), Fail> {
     let recorded =
         b"200 {\"fate\":\"recorded\",\"state\":\"CLOSED\",\"steps\":4,\"verdict\":\"failure\",\"version\":1}\n";
     let printed = input_of(alloc, ACQUIRED, recorded, b"")?;
-    assert!(rt; answered(&rt, alloc, &input)? == printed);
+    is_true(&rt, answered(&rt, alloc, &input)? == printed);
     Ok(())
 }
 
@@ -176,8 +179,8 @@ fn failures_are_told_apart(rt: HostRuntime) -> Result<(), Fail> {
     let mut room = [0; 3];
     let mut out = Counted::new(room.as_mut_slice());
     let found = replay(alloc, &mut reader, &mut out);
-    assert_eq!(rt; found, Err(ReplayError::WriteFailed));
-    assert_eq!(rt; reader.failures, 0);
-    assert_eq!(rt; out.failures, 1);
+    same(&rt, found, Err(ReplayError::WriteFailed));
+    same(&rt, reader.failures, 0);
+    same(&rt, out.failures, 1);
     Ok(())
 }

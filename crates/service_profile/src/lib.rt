@@ -3,6 +3,8 @@
 //! (CircuitBreaker and Bulkhead in the Resilience4j documentation).
 #![tactic(auto)]
 
+#[cfg(test)]
+mod checks;
 mod configuration;
 mod decisions;
 pub mod laws;

@@ -1,4 +1,5 @@
 //! Configurations by hand.
+use crate::checks::same;
 use crate::{Config, ConfigField, ConfigParts, SlidingWindowType};
 use std::test::Fail;
 
@@ -28,7 +29,7 @@ fn fields_out_of_range_are_named(rt: HostRuntime) {
             Ok(_) => None,
             Err(bad) => Some(bad.field),
         };
-        assert_eq!(rt; refused, field);
+        same(&rt, refused, field);
     }
 }
 
@@ -40,7 +41,7 @@ fn text_of_a_bad_configuration(rt: HostRuntime) -> Result<(), Fail> {
         Ok(_) => assert!(rt; false, "a window of no calls"),
         Err(bad) => {
             let text = format!(in rt.alloc(); "{bad}")?;
-            assert_eq!(rt; text.as_str(), "refused 47 BadConfig SlidingWindowSize");
+            same(&rt, text.as_str(), "refused 47 BadConfig SlidingWindowSize");
         }
     }
     Ok(())

@@ -4,6 +4,8 @@
 
 mod accesses;
 mod cell;
+#[cfg(test)]
+mod checks;
 pub mod laws;
 mod masks;
 mod stack;

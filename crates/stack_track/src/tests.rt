@@ -1,4 +1,5 @@
 //! Stacks by hand, over any domain, with the flat domain in its place.
+use crate::checks::{is_true, same, same_at};
 use crate::{Cell, StackState};
 use abs_domain::{Domain, Flat};
 use abs_regs::{AbsVal, Address};
@@ -75,7 +76,7 @@ fn numbers_load_in_each_size(rt: HostRuntime) -> Result<(), Fail> {
             Size::DoubleWord => Ok(number(7)),
             _ => Err(RefusalNumber::UnsetStack),
         };
-        assert_eq!(rt; load(&state, 16, Size::DoubleWord), whole, "{size:?}");
+        same_at(&rt, load(&state, 16, Size::DoubleWord), whole, &size);
         for read in SIZES {
             let found = load(&state, 16, read);
             let expected = if read.bytes() > size.bytes() {
@@ -85,12 +86,17 @@ fn numbers_load_in_each_size(rt: HostRuntime) -> Result<(), Fail> {
             } else {
                 Ok(ANY)
             };
-            assert_eq!(rt; found, expected, "{size:?} {read:?}");
+            same_at(&rt, found, expected, (&size, &read));
         }
-        assert_eq!(rt; load(&state, 8, Size::Byte), Err(RefusalNumber::UnsetStack));
-        assert_eq!(rt;
+        same(
+            &rt,
+            load(&state, 8, Size::Byte),
+            Err(RefusalNumber::UnsetStack),
+        );
+        same(
+            &rt,
             load(&state, 17, Size::Byte),
-            Err(RefusalNumber::UnsetStack)
+            Err(RefusalNumber::UnsetStack),
         );
     }
     Ok(())
@@ -100,7 +106,7 @@ fn numbers_load_in_each_size(rt: HostRuntime) -> Result<(), Fail> {
 fn pointers_load_whole(rt: HostRuntime) -> Result<(), Fail> {
     for pointer in [AbsVal::Stack(before(24)), AbsVal::Context(Flat::One(4))] {
         let state = store(StackState::entry(), 8, pointer, Size::DoubleWord);
-        assert_eq!(rt; load(&state, 8, Size::DoubleWord), Ok(pointer));
+        same(&rt, load(&state, 8, Size::DoubleWord), Ok(pointer));
         for (bytes_before, size) in [
             (8, Size::Word),
             (4, Size::Word),
@@ -108,10 +114,10 @@ fn pointers_load_whole(rt: HostRuntime) -> Result<(), Fail> {
             (1, Size::Byte),
         ] {
             let found = load(&state, bytes_before, size);
-            assert_eq!(rt; found, Err(RefusalNumber::PointerUsed), "{size:?}");
+            same_at(&rt, found, Err(RefusalNumber::PointerUsed), &size);
             let offset = Address::Stack(before(bytes_before));
             let refused = refusal_of_store(&state, offset, pointer, size);
-            assert_eq!(rt; refused, Some(RefusalNumber::PointerUsed), "{size:?}");
+            same_at(&rt, refused, Some(RefusalNumber::PointerUsed), &size);
         }
     }
     Ok(())
@@ -136,14 +142,14 @@ fn offsets_are_aligned_and_inside(rt: HostRuntime) -> Result<(), Fail> {
         for (size, expected) in SIZES.into_iter().zip(refusals) {
             let state = StackState::<Flat>::entry();
             let found = state.load(CONTEXT, Address::Stack(offset), Extension::Zero, size);
-            assert_eq!(rt; found, Err(expected), "{offset} {size:?}");
+            same_at(&rt, found, Err(expected), (&offset, &size));
             let refused = refusal_of_store(&state, Address::Stack(offset), number(1), size);
             let stored = if expected == unset {
                 None
             } else {
                 Some(expected)
             };
-            assert_eq!(rt; refused, stored, "{offset} {size:?}");
+            same_at(&rt, refused, stored, (&offset, &size));
         }
     }
     Ok(())
@@ -170,11 +176,11 @@ fn the_context_is_aligned_inside_and_read_only(rt: HostRuntime) -> Result<(), Fa
         (u64::MAX, Flat::One(u64::MAX), Size::Byte, outside),
     ] {
         let found = load_context(&state, context_size, offset, size);
-        assert_eq!(rt; found, expected, "{context_size} {offset:?} {size:?}");
+        same_at(&rt, found, expected, (&context_size, &offset, &size));
     }
     let offset = Address::Context(Flat::One(1));
     let written = refusal_of_store(&state, offset, AbsVal::Unset, Size::Word);
-    assert_eq!(rt; written, Some(RefusalNumber::ContextWrite));
+    same(&rt, written, Some(RefusalNumber::ContextWrite));
     Ok(())
 }
 
@@ -183,9 +189,9 @@ fn unset_values_are_not_stored(rt: HostRuntime) -> Result<(), Fail> {
     let state = StackState::<Flat>::entry();
     for size in SIZES {
         let inside = refusal_of_store(&state, Address::Stack(before(8)), AbsVal::Unset, size);
-        assert_eq!(rt; inside, Some(RefusalNumber::UnsetRegister));
+        same(&rt, inside, Some(RefusalNumber::UnsetRegister));
         let outside = refusal_of_store(&state, Address::Stack(8), AbsVal::Unset, size);
-        assert_eq!(rt; outside, Some(RefusalNumber::OutOfBounds));
+        same(&rt, outside, Some(RefusalNumber::OutOfBounds));
     }
     Ok(())
 }
@@ -199,8 +205,8 @@ fn parts_keep_the_bytes_that_were_set(rt: HostRuntime) -> Result<(), Fail> {
     ] {
         let kept = store(StackState::entry(), 8, old, Size::DoubleWord);
         let state = store(kept, 6, number(1), Size::Byte);
-        assert_eq!(rt; state.cell(63), Cell::Bytes(mask), "{old:?}");
-        assert_eq!(rt; state.cell(62), Cell::Bytes(0));
+        same_at(&rt, state.cell(63), Cell::Bytes(mask), &old);
+        same(&rt, state.cell(62), Cell::Bytes(0));
     }
     let mut state = StackState::<Flat>::entry();
     for (bytes_before, size, mask) in [
@@ -210,12 +216,13 @@ fn parts_keep_the_bytes_that_were_set(rt: HostRuntime) -> Result<(), Fail> {
         (7, Size::Byte, 0xff),
     ] {
         state = store(state, bytes_before, number(0), size);
-        assert_eq!(rt; state.cell(63), Cell::Bytes(mask), "{size:?}");
+        same_at(&rt, state.cell(63), Cell::Bytes(mask), &size);
     }
-    assert_eq!(rt; load(&state, 8, Size::DoubleWord), Ok(ANY));
-    assert_eq!(rt;
+    same(&rt, load(&state, 8, Size::DoubleWord), Ok(ANY));
+    same(
+        &rt,
         store(state, 8, number(9), Size::DoubleWord).cell(63),
-        Cell::Kept(number(9))
+        Cell::Kept(number(9)),
     );
     Ok(())
 }
@@ -245,8 +252,8 @@ fn cells_are_joined_by_kind(rt: HostRuntime) -> Result<(), Fail> {
             Cell::Kept(AbsVal::Context(Flat::Any)),
         ),
     ] {
-        assert_eq!(rt; a.join(b), joined, "{a:?} {b:?}");
-        assert_eq!(rt; b.join(a), joined, "{b:?} {a:?}");
+        same_at(&rt, a.join(b), joined, (&a, &b));
+        same_at(&rt, b.join(a), joined, (&b, &a));
     }
     Ok(())
 }
@@ -257,12 +264,12 @@ fn stacks_are_joined_cell_by_cell(rt: HostRuntime) -> Result<(), Fail> {
     let both = store(copy(&one), 512, number(2), Size::Word);
     let mut joined = copy(&both);
     joined.join(&one);
-    assert_eq!(rt; joined.cell(63), Cell::Kept(number(1)));
-    assert_eq!(rt; joined.cell(0), Cell::Bytes(0));
+    same(&rt, joined.cell(63), Cell::Kept(number(1)));
+    same(&rt, joined.cell(0), Cell::Bytes(0));
     let mut again = both;
     again.join(&store(one, 510, number(3), Size::HalfWord));
-    assert_eq!(rt; again.cell(0), Cell::Bytes(12));
-    assert_eq!(rt; again.cell(1), Cell::Bytes(0));
+    same(&rt, again.cell(0), Cell::Bytes(12));
+    same(&rt, again.cell(1), Cell::Bytes(0));
     Ok(())
 }
 
@@ -276,9 +283,9 @@ fn stretches_cross_cells(rt: HostRuntime) -> Result<(), Fail> {
     );
     let mut written = copy(&state);
     written.write_stretch(6, 13);
-    assert_eq!(rt; written.cell(0), Cell::Bytes(0xc0));
-    assert_eq!(rt; written.cell(1), Cell::Bytes(0xff));
-    assert_eq!(rt; written.cell(2), Cell::Bytes(0x07));
+    same(&rt, written.cell(0), Cell::Bytes(0xc0));
+    same(&rt, written.cell(1), Cell::Bytes(0xff));
+    same(&rt, written.cell(2), Cell::Bytes(0x07));
     for (place, count, set) in [
         (6, 13, true),
         (5, 1, false),
@@ -289,15 +296,16 @@ fn stretches_cross_cells(rt: HostRuntime) -> Result<(), Fail> {
         (5, 0, true),
         (511, 1, false),
     ] {
-        assert_eq!(rt;
+        same_at(
+            &rt,
             written.stretch_is_set(place, count),
             set,
-            "{place} {count}"
+            (&place, &count),
         );
     }
-    assert!(rt; state.stretch_is_set(8, 8));
+    is_true(&rt, state.stretch_is_set(8, 8));
     let mut all = state;
     all.write_stretch(0, 512);
-    assert!(rt; all.stretch_is_set(0, 512));
+    is_true(&rt, all.stretch_is_set(0, 512));
     Ok(())
 }

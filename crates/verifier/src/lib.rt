@@ -4,6 +4,8 @@
 
 mod analysis;
 mod awaited;
+#[cfg(test)]
+mod checks;
 mod classifier;
 mod counted;
 pub mod laws;

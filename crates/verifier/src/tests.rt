@@ -1,6 +1,7 @@
 //! Programs that are accepted, with their budgets, and programs that are refused.
 mod widths;
 
+use crate::checks::{is_true, same, same_at};
 use crate::{Refusal, analyse, default_classifier, verify};
 use abs_domain::Flat;
 use abs_regs::AbsVal;
@@ -36,11 +37,11 @@ const EXIT: u64 = 0x9500000000000000;
 fn programs_are_accepted(rt: HostRuntime) -> Result<(), Fail> {
     let bytes = bytes_of(rt.alloc(), &[0xb700000001000000, EXIT])?;
     let one = verify(rt.alloc(), &bytes).expect(&rt, "a constant answer");
-    assert_eq!(rt; one.budget(), 2);
-    assert_eq!(rt; one.bytes(), bytes.as_slice());
+    same(&rt, one.budget(), 2);
+    same(&rt, one.bytes(), bytes.as_slice());
     let classifier = default_classifier(rt.alloc()).expect(&rt, "the default classifier");
-    assert_eq!(rt; classifier.budget(), 6);
-    assert_eq!(rt; classifier.program().len(), 8);
+    same(&rt, classifier.budget(), 6);
+    same(&rt, classifier.program().len(), 8);
     Ok(())
 }
 
@@ -70,9 +71,10 @@ fn registers_and_loads_are_refused(rt: HostRuntime) {
         );
     }
     let number = [0xb702000000000000, 0x7120000000000000, EXIT];
-    assert_eq!(rt;
+    same(
+        &rt,
         refusal_of(rt.alloc(), &number),
-        Some((RefusalNumber::NotPointer, 1))
+        Some((RefusalNumber::NotPointer, 1)),
     );
 }
 
@@ -95,9 +97,10 @@ fn slots_are_refused(rt: HostRuntime) {
         );
     }
     let no_tail = [0xb700000000000000, 0x1800000000000000];
-    assert_eq!(rt;
+    same(
+        &rt,
         refusal_of(rt.alloc(), &no_tail),
-        Some((RefusalNumber::BadTail, 1))
+        Some((RefusalNumber::BadTail, 1)),
     );
 }
 
@@ -160,9 +163,10 @@ fn stores_are_refused(rt: HostRuntime) {
     }
     // mov r2, 0 / stb [r2+0], 1
     let number = [0xb702000000000000, 0x7202000001000000, EXIT];
-    assert_eq!(rt;
+    same(
+        &rt,
         refusal_of(rt.alloc(), &number),
-        Some((RefusalNumber::NotPointer, 1))
+        Some((RefusalNumber::NotPointer, 1)),
     );
 }
 
@@ -191,10 +195,11 @@ fn answers_are_refused(rt: HostRuntime) {
         for i in 0..first.len() {
             program[i] = first[i];
         }
-        assert_eq!(rt;
+        same_at(
+            &rt,
             refusal_of(rt.alloc(), &program[..first.len() + 1]),
             Some((number, slot)),
-            "{first:?}"
+            &first,
         );
     }
 }
@@ -222,7 +227,7 @@ fn moved_values_are_followed(rt: HostRuntime) -> Result<(), Fail> {
     for (slots, budget) in rows {
         let bytes = bytes_of(rt.alloc(), slots)?;
         let program = verify(rt.alloc(), &bytes).expect(&rt, "an answer of at most 2");
-        assert_eq!(rt; program.budget(), budget, "{slots:?}");
+        same_at(&rt, program.budget(), budget, &slots);
     }
     Ok(())
 }
@@ -252,13 +257,14 @@ fn states_are_known(rt: HostRuntime) -> Result<(), Fail> {
     ];
     for (slot, register, value) in rows {
         let state = states.at(slot).expect(&rt, "an instruction");
-        assert_eq!(rt;
+        same_at(
+            &rt,
             state.registers.get(Register::new(register)),
             value,
-            "r{register} at {slot}"
+            (&register, &slot),
         );
     }
-    assert!(rt; states.at(3).is_none());
+    is_true(&rt, states.at(3).is_none());
     Ok(())
 }
 
@@ -268,7 +274,7 @@ fn flat_words_are_too_little(rt: HostRuntime) -> Result<(), Fail> {
     let classifier = default_classifier(rt.alloc()).expect(&rt, "the default classifier");
     let program = classifier.program();
     let flow = check(rt.alloc(), program).expect(&rt, "an accepted program");
-    assert!(rt; analyse::<Flat>(rt.alloc(), program, &flow).is_ok());
+    is_true(&rt, analyse::<Flat>(rt.alloc(), program, &flow).is_ok());
     let slots = [
         // lddw r1, 0x8000000000000000 / sdiv r1, -1 / lddw r2, 0x8000000000000000
         0x1801000000000000,
@@ -283,50 +289,57 @@ fn flat_words_are_too_little(rt: HostRuntime) -> Result<(), Fail> {
         EXIT,
     ];
     let bytes = bytes_of(rt.alloc(), &slots)?;
-    assert!(rt; verify(rt.alloc(), &bytes).is_ok());
+    is_true(&rt, verify(rt.alloc(), &bytes).is_ok());
     let program = Program::decode(rt.alloc(), &bytes).expect(&rt, "slots of the profile");
     let flow = check(rt.alloc(), &program).expect(&rt, "forward jumps");
     let refused = match analyse::<Flat>(rt.alloc(), &program, &flow) {
         Ok(_) => None,
         Err(Refusal { slot, number }) => Some((number, slot)),
     };
-    assert_eq!(rt; refused, Some((RefusalNumber::AnswerRange, 8)));
+    same(&rt, refused, Some((RefusalNumber::AnswerRange, 8)));
     Ok(())
 }
 
 #[test]
 fn flows_are_refused(rt: HostRuntime) {
-    assert_eq!(rt;
+    same(
+        &rt,
         refusal_of(rt.alloc(), &[]),
-        Some((RefusalNumber::Length, 0))
+        Some((RefusalNumber::Length, 0)),
     );
-    assert_eq!(rt;
+    same(
+        &rt,
         refusal_of(rt.alloc(), &[EXIT]),
-        Some((RefusalNumber::UnsetRegister, 0))
+        Some((RefusalNumber::UnsetRegister, 0)),
     );
-    assert_eq!(rt;
+    same(
+        &rt,
         refusal_of(rt.alloc(), &[EXIT, EXIT]),
-        Some((RefusalNumber::Unreachable, 1))
+        Some((RefusalNumber::Unreachable, 1)),
     );
     let back = [0x0500ffff00000000, EXIT];
-    assert_eq!(rt;
+    same(
+        &rt,
         refusal_of(rt.alloc(), &back),
-        Some((RefusalNumber::BackJump, 0))
+        Some((RefusalNumber::BackJump, 0)),
     );
     let tail = [0x1500010000000000, 0x1800000000000000, 0, EXIT];
-    assert_eq!(rt;
+    same(
+        &rt,
         refusal_of(rt.alloc(), &tail),
-        Some((RefusalNumber::IntoTail, 0))
+        Some((RefusalNumber::IntoTail, 0)),
     );
     let out = [0x0500050000000000, EXIT];
-    assert_eq!(rt;
+    same(
+        &rt,
         refusal_of(rt.alloc(), &out),
-        Some((RefusalNumber::JumpOut, 0))
+        Some((RefusalNumber::JumpOut, 0)),
     );
     let falls = [0xb700000000000000];
-    assert_eq!(rt;
+    same(
+        &rt,
         refusal_of(rt.alloc(), &falls),
-        Some((RefusalNumber::FallsOff, 0))
+        Some((RefusalNumber::FallsOff, 0)),
     );
 }
 
@@ -337,9 +350,9 @@ fn refusals_in_words(rt: HostRuntime) -> Result<(), Fail> {
         number: RefusalNumber::AnswerRange,
     };
     let text = format!(in rt.alloc(); "{refusal}")?;
-    assert_eq!(rt; text.as_str(), "refused 22 AnswerRange slot 1");
+    same(&rt, text.as_str(), "refused 22 AnswerRange slot 1");
     let memory = Refusal::from(AllocError);
     let text = format!(in rt.alloc(); "{memory}")?;
-    assert_eq!(rt; text.as_str(), "refused 23 OutOfMemory");
+    same(&rt, text.as_str(), "refused 23 OutOfMemory");
     Ok(())
 }

@@ -3,6 +3,8 @@
 #![tactic(auto)]
 
 mod buckets;
+#[cfg(test)]
+mod checks;
 mod count;
 mod outcomes;
 mod sums;

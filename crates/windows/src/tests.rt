@@ -1,4 +1,5 @@
 //! Windows by hand, and beside the plain filter over all notes.
+use crate::checks::{same, same_at};
 use crate::{CountWindow, Note, TimeWindow, Totals, Window};
 use std::alloc::Global;
 use std::process::Abort;
@@ -17,21 +18,21 @@ fn note<W: Window>(rt: &impl Abort, window: &mut W, moment: u64, failed: bool, s
     assert!(rt; window.has_room_for_note());
     let foretold = window.totals_with(moment, failed, slow);
     window.record(moment, failed, slow);
-    assert_eq!(rt; window.totals(moment), foretold, "{moment}");
+    same_at(rt, window.totals(moment), foretold, &moment);
 }
 
 #[test]
 fn the_last_notes_count(rt: HostRuntime) -> Result<(), Fail> {
     let mut window = CountWindow::new(rt.alloc(), 2)?;
-    assert_eq!(rt; window.totals(0), totals(0, 0, 0));
+    same(&rt, window.totals(0), totals(0, 0, 0));
     note(&rt, &mut window, 1, true, false);
-    assert_eq!(rt; window.totals(1), totals(1, 1, 0));
+    same(&rt, window.totals(1), totals(1, 1, 0));
     note(&rt, &mut window, 1, false, true);
-    assert_eq!(rt; window.totals(9), totals(2, 1, 1));
+    same(&rt, window.totals(9), totals(2, 1, 1));
     note(&rt, &mut window, 2, true, true);
-    assert_eq!(rt; window.totals(u64::MAX), totals(2, 1, 2));
+    same(&rt, window.totals(u64::MAX), totals(2, 1, 2));
     window.clear();
-    assert_eq!(rt; window.totals(2), totals(0, 0, 0));
+    same(&rt, window.totals(2), totals(0, 0, 0));
     Ok(())
 }
 
@@ -48,10 +49,10 @@ fn the_last_seconds_count(rt: HostRuntime) -> Result<(), Fail> {
         (4000, totals(1, 0, 1)),
         (5000, totals(0, 0, 0)),
     ] {
-        assert_eq!(rt; window.totals(moment), counted, "{moment}");
+        same_at(&rt, window.totals(moment), counted, &moment);
     }
     window.clear();
-    assert_eq!(rt; window.totals(2000), totals(0, 0, 0));
+    same(&rt, window.totals(2000), totals(0, 0, 0));
     Ok(())
 }
 
@@ -60,7 +61,7 @@ fn the_last_moment_counts(rt: HostRuntime) -> Result<(), Fail> {
     let mut window = TimeWindow::new(rt.alloc(), 3600)?;
     note(&rt, &mut window, 0, false, false);
     note(&rt, &mut window, u64::MAX, false, false);
-    assert_eq!(rt; window.totals(u64::MAX), totals(1, 0, 0));
+    same(&rt, window.totals(u64::MAX), totals(1, 0, 0));
     Ok(())
 }
 
@@ -111,10 +112,11 @@ fn a_count_window_is_the_last_notes(rt: HostRuntime) -> Result<(), Fail> {
         note(&rt, &mut window, noted.moment, noted.failed, noted.slow);
         let so_far = &notes[..index + 1];
         let first = so_far.len().saturating_sub(17);
-        assert_eq!(rt;
+        same_at(
+            &rt,
             window.totals(noted.moment),
             counted(so_far, first, 0),
-            "{index}"
+            &index,
         );
     }
     Ok(())
@@ -130,7 +132,7 @@ fn a_time_window_is_the_notes_of_its_seconds(rt: HostRuntime) -> Result<(), Fail
         for later in [0, 900, 5_000, 16_000, 100_000] {
             let moment = noted.moment.saturating_add(later);
             let wanted = counted(so_far, 0, first_second(17, moment));
-            assert_eq!(rt; window.totals(moment), wanted, "{index} {later}");
+            same_at(&rt, window.totals(moment), wanted, (&index, &later));
         }
     }
     Ok(())

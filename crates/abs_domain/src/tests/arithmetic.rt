@@ -2,6 +2,7 @@
 use crate::Flat;
 use crate::arithmetic::{arithmetic, converted, moved_signed, negation};
 use crate::branches::refined;
+use crate::checks::{same, same_at};
 use bpf_profile::{ByteOrder, Comparison, Operation, Size, Width};
 use std::test::*;
 
@@ -36,7 +37,7 @@ fn halves_are_computed_apart(rt: HostRuntime) -> Result<(), Fail> {
         ),
     ] {
         let found = arithmetic(operation, Width::Bits32, Flat::One(a), Flat::One(b));
-        assert_eq!(rt; found, Flat::One(result), "{operation:?}");
+        same_at(&rt, found, Flat::One(result), &operation);
     }
     Ok(())
 }
@@ -53,15 +54,17 @@ fn whole_words_are_computed(rt: HostRuntime) -> Result<(), Fail> {
         (Operation::ArithmeticShiftRight, high, 63, u64::MAX),
     ] {
         let found = arithmetic(operation, Width::Bits64, Flat::One(a), Flat::One(b));
-        assert_eq!(rt; found, Flat::One(result), "{operation:?}");
+        same_at(&rt, found, Flat::One(result), &operation);
     }
-    assert_eq!(rt;
+    same(
+        &rt,
         arithmetic(Operation::ShiftLeft, Width::Bits64, Flat::One(0), ANY),
-        ANY
+        ANY,
     );
-    assert_eq!(rt;
+    same(
+        &rt,
         arithmetic(Operation::Move, Width::Bits64, ANY, Flat::One(7)),
-        Flat::One(7)
+        Flat::One(7),
     );
     Ok(())
 }
@@ -69,30 +72,35 @@ fn whole_words_are_computed(rt: HostRuntime) -> Result<(), Fail> {
 #[test]
 fn single_words_are_negated_and_converted(rt: HostRuntime) -> Result<(), Fail> {
     let seven = Flat::One(7);
-    assert_eq!(rt; negation(Width::Bits64, seven), Flat::One(u64::MAX - 6));
-    assert_eq!(rt; negation(Width::Bits32, seven), Flat::One(0xffff_fff9));
+    same(&rt, negation(Width::Bits64, seven), Flat::One(u64::MAX - 6));
+    same(&rt, negation(Width::Bits32, seven), Flat::One(0xffff_fff9));
     let odd = Flat::One(0x1234_8091);
-    assert_eq!(rt;
+    same(
+        &rt,
         moved_signed(Width::Bits64, Size::Byte, odd),
-        Flat::One(0xffff_ffff_ffff_ff91)
+        Flat::One(0xffff_ffff_ffff_ff91),
     );
-    assert_eq!(rt;
+    same(
+        &rt,
         moved_signed(Width::Bits32, Size::HalfWord, odd),
-        Flat::One(0xffff_8091)
+        Flat::One(0xffff_8091),
     );
-    assert_eq!(rt;
+    same(
+        &rt,
         converted(ByteOrder::Little, Size::HalfWord, odd),
-        Flat::One(0x8091)
+        Flat::One(0x8091),
     );
-    assert_eq!(rt;
+    same(
+        &rt,
         converted(ByteOrder::Big, Size::HalfWord, odd),
-        Flat::One(0x9180)
+        Flat::One(0x9180),
     );
-    assert_eq!(rt;
+    same(
+        &rt,
         converted(ByteOrder::Swap, Size::Word, odd),
-        Flat::One(0x9180_3412)
+        Flat::One(0x9180_3412),
     );
-    assert_eq!(rt; negation(Width::Bits64, ANY), ANY);
+    same(&rt, negation(Width::Bits64, ANY), ANY);
     Ok(())
 }
 
@@ -112,7 +120,7 @@ fn equal_words_become_one(rt: HostRuntime) -> Result<(), Fail> {
         (Comparison::BitsSet, Width::Bits64, true, none),
     ] {
         let found = refined(comparison, width, holds, ANY, five);
-        assert_eq!(rt; found, result, "{comparison:?} {width:?} {holds}");
+        same_at(&rt, found, result, (&comparison, &width, &holds));
     }
     Ok(())
 }

@@ -1,4 +1,5 @@
 //! What the flat domain makes of words.
+use crate::checks::{same, same_at};
 use crate::{Binary, Bits, Bounds, Conversion, Domain, Flat, Relation, Shift};
 use bpf_profile::Size;
 use std::process::Abort;
@@ -21,9 +22,9 @@ fn one_word_goes_through_each_operation(rt: HostRuntime) -> Result<(), Fail> {
         (Binary::Xor, 0b1100, 0b1010, 0b0110),
     ] {
         let found = Flat::constant(a).operate(operation, Flat::constant(b));
-        assert_eq!(rt; found, Flat::One(result), "{operation:?}");
-        assert_eq!(rt; Flat::One(a).operate(operation, ANY), ANY, "{operation:?}");
-        assert_eq!(rt; ANY.operate(operation, Flat::One(b)), ANY, "{operation:?}");
+        same_at(&rt, found, Flat::One(result), &operation);
+        same_at(&rt, Flat::One(a).operate(operation, ANY), ANY, &operation);
+        same_at(&rt, ANY.operate(operation, Flat::One(b)), ANY, &operation);
     }
     Ok(())
 }
@@ -40,12 +41,13 @@ fn one_word_is_shifted_and_converted(rt: HostRuntime) -> Result<(), Fail> {
         } else {
             0xff << 56
         };
-        assert_eq!(rt;
+        same_at(
+            &rt,
             Flat::One(word).shift(shift, 8),
             Flat::One(result),
-            "{shift:?}"
+            &shift,
         );
-        assert_eq!(rt; ANY.shift(shift, 8), ANY, "{shift:?}");
+        same_at(&rt, ANY.shift(shift, 8), ANY, &shift);
     }
     for (conversion, size, result) in [
         (Conversion::Low, Size::HalfWord, 0x89ab),
@@ -58,11 +60,12 @@ fn one_word_is_shifted_and_converted(rt: HostRuntime) -> Result<(), Fail> {
         (Conversion::Swapped, Size::DoubleWord, 0xab89_6745_2301_0000),
     ] {
         let found = Flat::One(0x0123_4567_89ab).convert(conversion, size);
-        assert_eq!(rt; found, Flat::One(result), "{conversion:?} {size:?}");
-        assert_eq!(rt;
+        same_at(&rt, found, Flat::One(result), (&conversion, &size));
+        same_at(
+            &rt,
             ANY.convert(conversion, size),
             ANY,
-            "{conversion:?} {size:?}"
+            (&conversion, &size),
         );
     }
     Ok(())
@@ -70,51 +73,55 @@ fn one_word_is_shifted_and_converted(rt: HostRuntime) -> Result<(), Fail> {
 
 #[test]
 fn a_join_keeps_a_word_that_both_have(rt: HostRuntime) -> Result<(), Fail> {
-    assert_eq!(rt; Flat::One(3).join(Flat::One(3)), Flat::One(3));
-    assert_eq!(rt; Flat::One(3).join(Flat::One(4)), ANY);
-    assert_eq!(rt; Flat::One(3).join(ANY), ANY);
-    assert_eq!(rt; ANY.join(Flat::One(3)), ANY);
+    same(&rt, Flat::One(3).join(Flat::One(3)), Flat::One(3));
+    same(&rt, Flat::One(3).join(Flat::One(4)), ANY);
+    same(&rt, Flat::One(3).join(ANY), ANY);
+    same(&rt, ANY.join(Flat::One(3)), ANY);
     Ok(())
 }
 
 #[test]
 fn bounds_and_bits_are_those_of_the_word(rt: HostRuntime) -> Result<(), Fail> {
-    assert_eq!(rt; Flat::One(12).bounds(), Bounds { low: 12, high: 12 });
-    assert_eq!(rt;
+    same(&rt, Flat::One(12).bounds(), Bounds { low: 12, high: 12 });
+    same(
+        &rt,
         Flat::top().bounds(),
         Bounds {
             low: 0,
-            high: u64::MAX
-        }
+            high: u64::MAX,
+        },
     );
-    assert_eq!(rt;
+    same(
+        &rt,
         Flat::One(12).bits(),
         Bits {
             value: 12,
-            unknown: 0
-        }
+            unknown: 0,
+        },
     );
-    assert_eq!(rt;
+    same(
+        &rt,
         ANY.bits(),
         Bits {
             value: 0,
-            unknown: u64::MAX
-        }
+            unknown: u64::MAX,
+        },
     );
-    assert_eq!(rt; Flat::One(12).low_zeros(2), true);
-    assert_eq!(rt; Flat::One(12).low_zeros(3), false);
-    assert_eq!(rt; ANY.low_zeros(0), false);
+    same(&rt, Flat::One(12).low_zeros(2), true);
+    same(&rt, Flat::One(12).low_zeros(3), false);
+    same(&rt, ANY.low_zeros(0), false);
     Ok(())
 }
 
 #[test]
 fn equality_alone_refines(rt: HostRuntime) -> Result<(), Fail> {
     let five = Flat::One(5);
-    assert_eq!(rt; ANY.refine(Relation::Equal, five), (five, five));
-    assert_eq!(rt; five.refine(Relation::Equal, ANY), (five, five));
-    assert_eq!(rt;
+    same(&rt, ANY.refine(Relation::Equal, five), (five, five));
+    same(&rt, five.refine(Relation::Equal, ANY), (five, five));
+    same(
+        &rt,
         five.refine(Relation::Equal, Flat::One(6)),
-        (five, Flat::One(6))
+        (five, Flat::One(6)),
     );
     for relation in [
         Relation::NotEqual,
@@ -123,17 +130,18 @@ fn equality_alone_refines(rt: HostRuntime) -> Result<(), Fail> {
         Relation::Disjoint,
         Relation::Overlapping,
     ] {
-        assert_eq!(rt; ANY.refine(relation, five), (ANY, five), "{relation:?}");
-        assert_eq!(rt; five.refine(relation, ANY), (five, ANY), "{relation:?}");
+        same_at(&rt, ANY.refine(relation, five), (ANY, five), &relation);
+        same_at(&rt, five.refine(relation, ANY), (five, ANY), &relation);
     }
     let none = Bounds { low: 7, high: 9 };
-    assert_eq!(rt; five.clamp(none), five);
-    assert_eq!(rt;
+    same(&rt, five.clamp(none), five);
+    same(
+        &rt,
         ANY.fix(Bits {
             value: 1,
-            unknown: 0
+            unknown: 0,
         }),
-        ANY
+        ANY,
     );
     Ok(())
 }

@@ -1,4 +1,5 @@
 //! What two domains imply for each other.
+use crate::checks::{same, same_at};
 use crate::reduction::{is_consistent, leading, narrow};
 use crate::{Binary, Bits, Both, Bounds, Conversion, Domain, Flat, Relation, Shift};
 use bpf_profile::Size;
@@ -39,10 +40,11 @@ fn bits_narrow_bounds(rt: HostRuntime) -> Result<(), Fail> {
             13,
         ),
     ] {
-        assert_eq!(rt;
+        same_at(
+            &rt,
             narrow(bounds, bits),
             Bounds { low, high },
-            "{bounds:?} {bits:?}"
+            (&bounds, &bits),
         );
     }
     Ok(())
@@ -59,13 +61,14 @@ fn bounds_have_leading_bits(rt: HostRuntime) -> Result<(), Fail> {
         (1 << 63, u64::MAX, u64::MAX / 2),
     ] {
         let found = leading(Bounds { low, high });
-        assert_eq!(rt;
+        same_at(
+            &rt,
             found,
             Bits {
                 value: low,
-                unknown
+                unknown,
             },
-            "{low} {high}"
+            (&low, &high),
         );
     }
     Ok(())
@@ -81,10 +84,10 @@ fn what_no_word_has_is_inconsistent(rt: HostRuntime) -> Result<(), Fail> {
         value: 64,
         unknown: 1,
     };
-    assert_eq!(rt; is_consistent(EIGHT_TO_THIRTEEN, EVEN), true);
-    assert_eq!(rt; is_consistent(EIGHT_TO_THIRTEEN, apart), false);
-    assert_eq!(rt; is_consistent(Bounds { low: 12, high: 12 }, EVEN), true);
-    assert_eq!(rt; is_consistent(Bounds { low: 12, high: 12 }, odd), false);
+    same(&rt, is_consistent(EIGHT_TO_THIRTEEN, EVEN), true);
+    same(&rt, is_consistent(EIGHT_TO_THIRTEEN, apart), false);
+    same(&rt, is_consistent(Bounds { low: 12, high: 12 }, EVEN), true);
+    same(&rt, is_consistent(Bounds { low: 12, high: 12 }, odd), false);
     Ok(())
 }
 
@@ -94,60 +97,71 @@ fn each_part_takes_its_own_step(rt: HostRuntime) -> Result<(), Fail> {
     let a = both(Flat::One(6), ANY);
     let b = both(Flat::One(6), Flat::One(3));
     let c = both(ANY, Flat::One(3));
-    assert_eq!(rt; a.join(b), both(Flat::One(6), ANY));
-    assert_eq!(rt; c.join(b), both(ANY, Flat::One(3)));
-    assert_eq!(rt;
+    same(&rt, a.join(b), both(Flat::One(6), ANY));
+    same(&rt, c.join(b), both(ANY, Flat::One(3)));
+    same(
+        &rt,
         b.operate(Binary::Add, b),
-        both(Flat::One(12), Flat::One(6))
+        both(Flat::One(12), Flat::One(6)),
     );
-    assert_eq!(rt; a.operate(Binary::Add, b), both(Flat::One(12), ANY));
-    assert_eq!(rt; b.shift(Shift::Left, 2), both(Flat::One(24), Flat::One(12)));
-    assert_eq!(rt;
+    same(&rt, a.operate(Binary::Add, b), both(Flat::One(12), ANY));
+    same(
+        &rt,
+        b.shift(Shift::Left, 2),
+        both(Flat::One(24), Flat::One(12)),
+    );
+    same(
+        &rt,
         c.convert(Conversion::Swapped, Size::HalfWord),
-        both(ANY, Flat::One(0x300))
+        both(ANY, Flat::One(0x300)),
     );
-    assert_eq!(rt;
+    same(
+        &rt,
         c.refine(Relation::Equal, a),
         (
             both(Flat::One(6), Flat::One(3)),
-            both(Flat::One(6), Flat::One(3))
-        )
+            both(Flat::One(6), Flat::One(3)),
+        ),
     );
     assert_eq!(rt;
         Both::<Flat, Flat>::constant(7),
         both(Flat::One(7), Flat::One(7))
     );
     assert_eq!(rt; Both::<Flat, Flat>::top(), both(ANY, ANY));
-    assert_eq!(rt; a.clamp(EIGHT_TO_THIRTEEN), a);
-    assert_eq!(rt; a.fix(EVEN), a);
+    same(&rt, a.clamp(EIGHT_TO_THIRTEEN), a);
+    same(&rt, a.fix(EVEN), a);
     Ok(())
 }
 
 #[test]
 fn either_part_answers(rt: HostRuntime) -> Result<(), Fail> {
     let both = |first: Flat, second: Flat| -> Both<Flat, Flat> { Both { first, second } };
-    assert_eq!(rt;
+    same(
+        &rt,
         both(ANY, Flat::One(3)).bounds(),
-        Bounds { low: 3, high: 3 }
+        Bounds { low: 3, high: 3 },
     );
-    assert_eq!(rt;
+    same(
+        &rt,
         both(Flat::One(6), ANY).bounds(),
-        Bounds { low: 6, high: 6 }
+        Bounds { low: 6, high: 6 },
     );
     // Where they cross, it is the first.
-    assert_eq!(rt;
+    same(
+        &rt,
         both(Flat::One(6), Flat::One(3)).bounds(),
-        Bounds { low: 6, high: 6 }
+        Bounds { low: 6, high: 6 },
     );
-    assert_eq!(rt;
+    same(
+        &rt,
         both(Flat::One(6), Flat::One(3)).bits(),
         Bits {
             value: 3,
-            unknown: 0
-        }
+            unknown: 0,
+        },
     );
-    assert_eq!(rt; both(Flat::One(6), ANY).low_zeros(1), true);
-    assert_eq!(rt; both(ANY, Flat::One(6)).low_zeros(1), true);
-    assert_eq!(rt; both(ANY, Flat::One(6)).low_zeros(2), false);
+    same(&rt, both(Flat::One(6), ANY).low_zeros(1), true);
+    same(&rt, both(ANY, Flat::One(6)).low_zeros(1), true);
+    same(&rt, both(ANY, Flat::One(6)).low_zeros(2), false);
     Ok(())
 }

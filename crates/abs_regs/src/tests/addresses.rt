@@ -1,5 +1,6 @@
 //! Addresses of loads and stores (RFC 9669, section 5).
 use super::{ANY, CONTEXT, EIGHT, MINUS_8, MINUS_16, STACK, UNSET};
+use crate::checks::same_at;
 use crate::{AbsVal, Address};
 use abs_domain::Flat;
 use refusals::RefusalNumber;
@@ -24,10 +25,11 @@ fn pointers_are_moved_by_the_offset(rt: HostRuntime) -> Result<(), Fail> {
         ),
         (AbsVal::Context(Flat::Any), 8, Address::Context(Flat::Any)),
     ] {
-        assert_eq!(rt;
+        same_at(
+            &rt,
             value.address(distance),
             Ok(address),
-            "{value:?} {distance}"
+            (&value, &distance),
         );
     }
     Ok(())
@@ -41,10 +43,11 @@ fn other_values_are_no_addresses(rt: HostRuntime) -> Result<(), Fail> {
             (EIGHT, RefusalNumber::NotPointer),
             (ANY, RefusalNumber::NotPointer),
         ] {
-            assert_eq!(rt;
+            same_at(
+                &rt,
                 value.address(distance),
                 Err(refusal),
-                "{value:?} {distance}"
+                (&value, &distance),
             );
         }
     }

@@ -1,6 +1,7 @@
 //! Arithmetic on numbers and pointers (RFC 9669, sections 4.1 and 4.2).
 use super::{ANY, CONTEXT, EIGHT, MINUS_8, MINUS_16, STACK, UNSET, number};
 use crate::AbsVal;
+use crate::checks::{same, same_at};
 use abs_domain::{Domain, Flat};
 use bpf_profile::{ByteOrder, Operation, Size, Width};
 use refusals::RefusalNumber;
@@ -43,9 +44,9 @@ fn unset_values_are_refused_first(rt: HostRuntime) -> Result<(), Fail> {
         for width in WIDTHS {
             for value in [UNSET, EIGHT, ANY, STACK, CONTEXT] {
                 let left = refusal(operation, width, UNSET, value);
-                assert_eq!(rt; left, unset, "{operation:?} {width:?} {value:?}");
+                same_at(&rt, left, unset, (&operation, &width, &value));
                 let right = refusal(operation, width, value, UNSET);
-                assert_eq!(rt; right, unset, "{operation:?} {width:?} {value:?}");
+                same_at(&rt, right, unset, (&operation, &width, &value));
             }
         }
     }
@@ -61,9 +62,9 @@ fn pointers_take_part_in_no_other_operation(rt: HostRuntime) -> Result<(), Fail>
             for number in [EIGHT, ANY] {
                 for pointer in [STACK, CONTEXT] {
                     let left = refusal(operation, width, pointer, number);
-                    assert_eq!(rt; left, used, "{operation:?} {width:?} {pointer:?}");
+                    same_at(&rt, left, used, (&operation, &width, &pointer));
                     let right = refusal(operation, width, number, pointer);
-                    assert_eq!(rt; right, used, "{operation:?} {width:?} {pointer:?}");
+                    same_at(&rt, right, used, (&operation, &width, &pointer));
                 }
             }
         }
@@ -78,9 +79,9 @@ fn sums_of_32_bits_take_no_pointer(rt: HostRuntime) -> Result<(), Fail> {
         for number in [EIGHT, ANY] {
             for pointer in [STACK, CONTEXT] {
                 let left = refusal(operation, Width::Bits32, pointer, number);
-                assert_eq!(rt; left, used, "{operation:?} {pointer:?} {number:?}");
+                same_at(&rt, left, used, (&operation, &pointer, &number));
                 let right = refusal(operation, Width::Bits32, number, pointer);
-                assert_eq!(rt; right, used, "{operation:?} {number:?} {pointer:?}");
+                same_at(&rt, right, used, (&operation, &number, &pointer));
             }
         }
     }
@@ -93,13 +94,13 @@ fn differences_of_two_pointers_or_from_a_number_are_refused(rt: HostRuntime) -> 
     for pointer in [STACK, CONTEXT] {
         for number in [EIGHT, ANY] {
             let found = refusal(Operation::Subtract, Width::Bits64, number, pointer);
-            assert_eq!(rt; found, used, "{number:?} {pointer:?}");
+            same_at(&rt, found, used, (&number, &pointer));
         }
         for other in [STACK, CONTEXT] {
             for operation in [Operation::Add, Operation::Subtract, Operation::Xor] {
                 for width in WIDTHS {
                     let found = refusal(operation, width, pointer, other);
-                    assert_eq!(rt; found, used, "{operation:?} {pointer:?} {other:?}");
+                    same_at(&rt, found, used, (&operation, &pointer, &other));
                 }
             }
         }
@@ -115,10 +116,11 @@ fn unknown_numbers_move_no_stack_pointer(rt: HostRuntime) -> Result<(), Fail> {
         (Operation::Subtract, STACK, ANY),
         (Operation::Add, ANY, STACK),
     ] {
-        assert_eq!(rt;
+        same_at(
+            &rt,
             refusal(operation, Width::Bits64, a, b),
             bad,
-            "{operation:?} {a:?}"
+            (&operation, &a),
         );
     }
     Ok(())
@@ -174,7 +176,7 @@ fn numbers_move_pointers(rt: HostRuntime) -> Result<(), Fail> {
         (Operation::Subtract, CONTEXT, ANY, any_of_context),
     ] {
         let found = a.arithmetic(operation, Width::Bits64, b);
-        assert_eq!(rt; found, Ok(moved), "{operation:?} {a:?} {b:?}");
+        same_at(&rt, found, Ok(moved), (&operation, &a, &b));
     }
     Ok(())
 }
@@ -191,13 +193,9 @@ fn numbers_are_computed(rt: HostRuntime) -> Result<(), Fail> {
         (Operation::Modulo, Width::Bits64, 8, 0, 8),
     ] {
         let found = number(a).arithmetic(operation, width, number(b));
-        assert_eq!(rt;
-            found,
-            Ok(number(result)),
-            "{operation:?} {width:?} {a} {b}"
-        );
+        same_at(&rt, found, Ok(number(result)), (&operation, &width, &a, &b));
         let unknown = number(a).arithmetic(operation, width, ANY);
-        assert_eq!(rt; unknown, Ok(ANY), "{operation:?} {width:?} {a}");
+        same_at(&rt, unknown, Ok(ANY), (&operation, &width, &a));
     }
     Ok(())
 }
@@ -220,7 +218,7 @@ fn moves_read_the_operand_alone(rt: HostRuntime) -> Result<(), Fail> {
             (Width::Bits32, CONTEXT, used),
         ] {
             let found = destination.arithmetic(Operation::Move, width, operand);
-            assert_eq!(rt; found, moved, "{width:?} {destination:?} {operand:?}");
+            same_at(&rt, found, moved, (&width, &destination, &operand));
         }
     }
     Ok(())
@@ -228,8 +226,8 @@ fn moves_read_the_operand_alone(rt: HostRuntime) -> Result<(), Fail> {
 
 #[test]
 fn numbers_are_negated_extended_and_reordered(rt: HostRuntime) -> Result<(), Fail> {
-    assert_eq!(rt; EIGHT.negated(Width::Bits64), Ok(number(MINUS_8)));
-    assert_eq!(rt; EIGHT.negated(Width::Bits32), Ok(number(0xffff_fff8)));
+    same(&rt, EIGHT.negated(Width::Bits64), Ok(number(MINUS_8)));
+    same(&rt, EIGHT.negated(Width::Bits32), Ok(number(0xffff_fff8)));
     let odd = number(0x1234_8091);
     for (width, size, result) in [
         (Width::Bits64, Size::Byte, 0xffff_ffff_ffff_ff91),
@@ -239,7 +237,7 @@ fn numbers_are_negated_extended_and_reordered(rt: HostRuntime) -> Result<(), Fai
         (Width::Bits32, Size::HalfWord, 0xffff_8091),
     ] {
         let found = odd.moved_signed(width, size);
-        assert_eq!(rt; found, Ok(number(result)), "{width:?} {size:?}");
+        same_at(&rt, found, Ok(number(result)), (&width, &size));
     }
     for (order, size, result) in [
         (ByteOrder::Little, Size::HalfWord, 0x8091),
@@ -250,11 +248,11 @@ fn numbers_are_negated_extended_and_reordered(rt: HostRuntime) -> Result<(), Fai
         (ByteOrder::Swap, Size::DoubleWord, 0x9180_3412_0000_0000),
     ] {
         let found = odd.converted(order, size);
-        assert_eq!(rt; found, Ok(number(result)), "{order:?} {size:?}");
+        same_at(&rt, found, Ok(number(result)), (&order, &size));
     }
-    assert_eq!(rt; ANY.negated(Width::Bits32), Ok(ANY));
-    assert_eq!(rt; ANY.moved_signed(Width::Bits32, Size::Byte), Ok(ANY));
-    assert_eq!(rt; ANY.converted(ByteOrder::Big, Size::Word), Ok(ANY));
+    same(&rt, ANY.negated(Width::Bits32), Ok(ANY));
+    same(&rt, ANY.moved_signed(Width::Bits32, Size::Byte), Ok(ANY));
+    same(&rt, ANY.converted(ByteOrder::Big, Size::Word), Ok(ANY));
     Ok(())
 }
 
@@ -266,13 +264,13 @@ fn pointers_are_neither_negated_extended_nor_reordered(rt: HostRuntime) -> Resul
         (CONTEXT, RefusalNumber::PointerUsed),
     ] {
         for width in WIDTHS {
-            assert_eq!(rt; value.negated(width), Err(refusal), "{value:?}");
+            same_at(&rt, value.negated(width), Err(refusal), &value);
             let extended = value.moved_signed(width, Size::HalfWord);
-            assert_eq!(rt; extended, Err(refusal), "{value:?}");
+            same_at(&rt, extended, Err(refusal), &value);
         }
         for order in [ByteOrder::Little, ByteOrder::Big, ByteOrder::Swap] {
             let reordered = value.converted(order, Size::DoubleWord);
-            assert_eq!(rt; reordered, Err(refusal), "{order:?} {value:?}");
+            same_at(&rt, reordered, Err(refusal), (&order, &value));
         }
     }
     Ok(())

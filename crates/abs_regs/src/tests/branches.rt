@@ -2,6 +2,7 @@
 ghost use Rattle.std.specs.Prelude.{◌<◌};
 
 use super::{ANY, CONTEXT, EIGHT, STACK, UNSET, number};
+use crate::checks::{is_true_at, same_at};
 use crate::{AbsVal, RegFile};
 use abs_domain::Flat;
 use bpf_profile::{Comparison, Operand, Register, Width};
@@ -66,10 +67,11 @@ fn equal_registers_become_one_number(rt: HostRuntime) -> Result<(), Fail> {
         (Comparison::Equal, Width::Bits32, true, none, none),
     ] {
         let found = branched(comparison, width, holds, before, &register(3));
-        assert_eq!(rt;
+        same_at(
+            &rt,
             found,
             Ok(after),
-            "{comparison:?} {width:?} {holds} {before:?}"
+            (&comparison, &width, &holds, &before),
         );
     }
     Ok(())
@@ -88,9 +90,9 @@ fn a_register_equal_to_a_word_becomes_it(rt: HostRuntime) -> Result<(), Fail> {
         let right = &Operand::Immediate(word);
         // R3 is compared with nothing.
         let found = branched(comparison, Width::Bits64, holds, (ANY, ANY), right);
-        assert_eq!(rt; found, Ok((after, ANY)), "{comparison:?} {holds} {word}");
+        same_at(&rt, found, Ok((after, ANY)), (&comparison, &holds, &word));
         let found = branched(comparison, Width::Bits64, holds, (ANY, STACK), right);
-        assert_eq!(rt; found, Ok((after, STACK)), "{comparison:?} {holds} {word}");
+        same_at(&rt, found, Ok((after, STACK)), (&comparison, &holds, &word));
     }
     Ok(())
 }
@@ -102,7 +104,7 @@ fn of_a_register_and_itself_nothing_is_learnt(rt: HostRuntime) -> Result<(), Fai
             for holds in [true, false] {
                 for comparison in [Comparison::Equal, Comparison::Less, Comparison::BitsSet] {
                     let found = branched(comparison, width, holds, before, &register(2));
-                    assert_eq!(rt; found, Ok(before), "{comparison:?} {width:?} {before:?}");
+                    same_at(&rt, found, Ok(before), (&comparison, &width, &before));
                 }
             }
         }
@@ -121,10 +123,10 @@ fn other_registers_stay(rt: HostRuntime) -> Result<(), Fail> {
             for number in [0, 1, 4, 5, 6, 7, 8, 9, 10] {
                 assert!(rt; number < 11);
                 let other = Register::new(number);
-                assert_eq!(rt; after.get(other), registers.get(other), "R{number}");
+                same_at(&rt, after.get(other), registers.get(other), &number);
             }
         }
-        Err(refusal) => assert!(rt; false, "{refusal:?}"),
+        Err(refusal) => is_true_at(&rt, false, &refusal),
     }
     Ok(())
 }
@@ -152,7 +154,7 @@ fn comparisons_take_numbers_alone(rt: HostRuntime) -> Result<(), Fail> {
             for holds in [true, false] {
                 for comparison in [Comparison::Equal, Comparison::SignedLess] {
                     let found = branched(comparison, width, holds, before, &register(3));
-                    assert_eq!(rt; found, Err(refusal), "{comparison:?} {width:?} {before:?}");
+                    same_at(&rt, found, Err(refusal), (&comparison, &width, &before));
                 }
             }
         }
@@ -167,9 +169,9 @@ fn comparisons_take_numbers_alone(rt: HostRuntime) -> Result<(), Fail> {
                 before,
                 &Operand::Immediate(0),
             );
-            assert_eq!(rt; found, Err(refusal), "{width:?} {value:?}");
+            same_at(&rt, found, Err(refusal), (&width, &value));
             let found = branched(Comparison::Equal, width, true, before, &register(2));
-            assert_eq!(rt; found, Err(refusal), "{width:?} {value:?}");
+            same_at(&rt, found, Err(refusal), (&width, &value));
         }
     }
     Ok(())

@@ -1,5 +1,6 @@
 //! What is known of eleven registers.
 use super::{ANY, CONTEXT, EIGHT, STACK, UNSET, number};
+use crate::checks::{same, same_at};
 use crate::{AbsVal, RegFile};
 use abs_domain::{Domain, Flat};
 use bpf_profile::{Operand, Register};
@@ -21,7 +22,7 @@ fn at_the_entry_two_pointers_are_known(rt: HostRuntime) -> Result<(), Fail> {
             10 => AbsVal::Stack(0),
             _ => UNSET,
         };
-        assert_eq!(rt; known(&rt, entry, number), wanted, "R{number}");
+        same_at(&rt, known(&rt, entry, number), wanted, &number);
     }
     Ok(())
 }
@@ -38,7 +39,7 @@ fn one_register_is_set(rt: HostRuntime) -> Result<(), Fail> {
             } else {
                 known(&rt, entry, number)
             };
-            assert_eq!(rt; known(&rt, registers, number), wanted, "R{set} R{number}");
+            same_at(&rt, known(&rt, registers, number), wanted, (&set, &number));
         }
     }
     Ok(())
@@ -79,8 +80,8 @@ fn registers_are_joined_each_with_its_own(rt: HostRuntime) -> Result<(), Fail> {
         (9, UNSET),
         (10, UNSET),
     ] {
-        assert_eq!(rt; known(&rt, joined(one, other), number), wanted, "R{number}");
-        assert_eq!(rt; known(&rt, joined(other, one), number), wanted, "R{number}");
+        same_at(&rt, known(&rt, joined(one, other), number), wanted, &number);
+        same_at(&rt, known(&rt, joined(other, one), number), wanted, &number);
     }
     Ok(())
 }
@@ -89,13 +90,14 @@ fn registers_are_joined_each_with_its_own(rt: HostRuntime) -> Result<(), Fail> {
 fn operands_are_registers_or_words(rt: HostRuntime) -> Result<(), Fail> {
     let registers = RegFile::entry().with(Register::new(2), STACK);
     let two = Operand::Register(Register::new(2));
-    assert_eq!(rt; registers.operand(two), STACK);
+    same(&rt, registers.operand(two), STACK);
     let zero = Operand::Register(Register::new(0));
-    assert_eq!(rt; registers.operand(zero), UNSET);
+    same(&rt, registers.operand(zero), UNSET);
     // A word is taken whole: -1 of 32 bits is -1 of 64.
-    assert_eq!(rt;
+    same(
+        &rt,
         registers.operand(Operand::Immediate(u64::MAX)),
-        number(u64::MAX)
+        number(u64::MAX),
     );
     Ok(())
 }
@@ -106,7 +108,7 @@ fn a_copy_is_the_same(rt: HostRuntime) -> Result<(), Fail> {
     let copy = registers.clone()?;
     for number in 0..11 {
         let wanted = known(&rt, registers, number);
-        assert_eq!(rt; known(&rt, copy, number), wanted, "R{number}");
+        same_at(&rt, known(&rt, copy, number), wanted, &number);
     }
     Ok(())
 }

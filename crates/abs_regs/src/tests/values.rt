@@ -1,6 +1,7 @@
 //! Joins, and values that are read.
 use super::{ANY, CONTEXT, EIGHT, MINUS_8, STACK, UNSET, number};
 use crate::AbsVal;
+use crate::checks::{same, same_at};
 use abs_domain::Flat;
 use refusals::RefusalNumber;
 use std::test::*;
@@ -19,8 +20,8 @@ fn values_of_one_kind_are_joined(rt: HostRuntime) -> Result<(), Fail> {
         (CONTEXT, AbsVal::Context(Flat::One(25)), any_of_context),
         (CONTEXT, any_of_context, any_of_context),
     ] {
-        assert_eq!(rt; a.join(b), joined, "{a:?} {b:?}");
-        assert_eq!(rt; b.join(a), joined, "{b:?} {a:?}");
+        same_at(&rt, a.join(b), joined, (&a, &b));
+        same_at(&rt, b.join(a), joined, (&b, &a));
     }
     Ok(())
 }
@@ -37,7 +38,7 @@ fn of_unlike_values_nothing_is_known(rt: HostRuntime) -> Result<(), Fail> {
     for a in values {
         for b in values {
             if a != b {
-                assert_eq!(rt; a.join(b), UNSET, "{a:?} {b:?}");
+                same_at(&rt, a.join(b), UNSET, (&a, &b));
             }
         }
     }
@@ -46,9 +47,9 @@ fn of_unlike_values_nothing_is_known(rt: HostRuntime) -> Result<(), Fail> {
 
 #[test]
 fn values_are_read(rt: HostRuntime) -> Result<(), Fail> {
-    assert_eq!(rt; UNSET.set(), Err(RefusalNumber::UnsetRegister));
+    same(&rt, UNSET.set(), Err(RefusalNumber::UnsetRegister));
     for value in [EIGHT, ANY, STACK, CONTEXT] {
-        assert_eq!(rt; value.set(), Ok(value), "{value:?}");
+        same_at(&rt, value.set(), Ok(value), &value);
     }
     for (value, read) in [
         (UNSET, Err(RefusalNumber::UnsetRegister)),
@@ -57,7 +58,7 @@ fn values_are_read(rt: HostRuntime) -> Result<(), Fail> {
         (STACK, Err(RefusalNumber::PointerUsed)),
         (CONTEXT, Err(RefusalNumber::PointerUsed)),
     ] {
-        assert_eq!(rt; value.number(), read, "{value:?}");
+        same_at(&rt, value.number(), read, &value);
     }
     Ok(())
 }

@@ -1,5 +1,6 @@
 //! The end of a program (RFC 9669, section 4.3): its answer is a number of at most 2.
 use super::{ANY, CONTEXT, CONTEXT_SIZE, STACK, UNSET, copy, makes, number, sample, with};
+use crate::checks::is_true_at;
 use abs_regs::AbsVal;
 use bpf_profile::{Instruction, Register};
 use refusals::RefusalNumber;
@@ -10,9 +11,10 @@ fn answers_are_numbers_of_at_most_two(rt: HostRuntime) -> Result<(), Fail> {
     for answer in [0, 1, 2] {
         let state = with(&sample(), Register::new(0), number(answer));
         let wanted = Ok(copy(&state));
-        assert!(rt;
+        is_true_at(
+            &rt,
             makes(&state, CONTEXT_SIZE, &Instruction::Exit, &wanted),
-            "{answer}"
+            &answer,
         );
     }
     for (answer, refusal) in [
@@ -25,9 +27,10 @@ fn answers_are_numbers_of_at_most_two(rt: HostRuntime) -> Result<(), Fail> {
         (ANY, RefusalNumber::AnswerRange),
     ] {
         let state = with(&sample(), Register::new(0), answer);
-        assert!(rt;
+        is_true_at(
+            &rt,
             makes(&state, CONTEXT_SIZE, &Instruction::Exit, &Err(refusal)),
-            "{answer:?}"
+            &answer,
         );
     }
     Ok(())

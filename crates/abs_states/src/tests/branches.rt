@@ -4,6 +4,7 @@ use super::{
     stored_before, transferred, with,
 };
 use crate::AbsState;
+use crate::checks::is_true_at;
 use abs_domain::Flat;
 use abs_regs::AbsVal;
 use bpf_profile::{Comparison, Instruction, Operand, Register, Size, Width};
@@ -44,7 +45,7 @@ fn the_comparison_holds_at_the_target_alone(rt: HostRuntime) -> Result<(), Fail>
         for (taken, after) in [(true, target), (false, next)] {
             let found = transferred(&state, CONTEXT_SIZE, taken, &instruction);
             let wanted = Ok(compared(after.0, after.1));
-            assert!(rt; agree(&found, &wanted), "{comparison:?} {width:?} {taken}");
+            is_true_at(&rt, agree(&found, &wanted), (&comparison, &width, &taken));
         }
     }
     Ok(())
@@ -63,7 +64,7 @@ fn a_comparison_with_a_word_tells_of_one_register(rt: HostRuntime) -> Result<(),
             for (taken, two) in [(true, target), (false, next)] {
                 let found = transferred(&state, CONTEXT_SIZE, taken, &instruction);
                 let wanted = Ok(compared(two, three));
-                assert!(rt; agree(&found, &wanted), "{comparison:?} {three:?} {taken}");
+                is_true_at(&rt, agree(&found, &wanted), (&comparison, &three, &taken));
             }
         }
     }
@@ -89,9 +90,10 @@ fn only_numbers_are_compared(rt: HostRuntime) -> Result<(), Fail> {
             for width in [Width::Bits32, Width::Bits64] {
                 let instruction = branch(comparison, width, register(3));
                 let state = compared(two, three);
-                assert!(rt;
+                is_true_at(
+                    &rt,
                     makes(&state, CONTEXT_SIZE, &instruction, &Err(refusal)),
-                    "{comparison:?} {two:?} {three:?}"
+                    (&comparison, &two, &three),
                 );
             }
         }

@@ -5,6 +5,7 @@ use super::{
     stored_before, with,
 };
 use crate::AbsState;
+use crate::checks::is_true_at;
 use abs_domain::Flat;
 use abs_regs::AbsVal;
 use bpf_profile::{Instruction, Register, Size};
@@ -42,9 +43,10 @@ fn facts_have_the_numbers_0_to_15(rt: HostRuntime) -> Result<(), Fail> {
             let state = called_with(number(fact), two);
             let wanted = Ok(after_call(&state));
             let call = Instruction::Call { helper: 1 };
-            assert!(rt;
+            is_true_at(
+                &rt,
                 makes(&state, CONTEXT_SIZE, &call, &wanted),
-                "{fact} {two:?}"
+                (&fact, &two),
             );
         }
     }
@@ -58,10 +60,7 @@ fn facts_have_the_numbers_0_to_15(rt: HostRuntime) -> Result<(), Fail> {
     ] {
         let state = called_with(one, EIGHT);
         let call = Instruction::Call { helper: 1 };
-        assert!(rt;
-            makes(&state, CONTEXT_SIZE, &call, &Err(refusal)),
-            "{one:?}"
-        );
+        is_true_at(&rt, makes(&state, CONTEXT_SIZE, &call, &Err(refusal)), &one);
     }
     Ok(())
 }
@@ -90,9 +89,10 @@ fn front_bytes_lie_in_the_context_from_byte_64_on(rt: HostRuntime) -> Result<(),
             Err(RefusalNumber::HelperArgument)
         };
         let call = Instruction::Call { helper: 2 };
-        assert!(rt;
+        is_true_at(
+            &rt,
             makes(&state, context_size, &call, &wanted),
-            "{context_size} {byte}"
+            (&context_size, &byte),
         );
     }
     Ok(())
@@ -110,10 +110,7 @@ fn the_number_of_a_front_byte_is_known(rt: HostRuntime) -> Result<(), Fail> {
         for context_size in [0, 128, 192] {
             let state = called_with(one, EIGHT);
             let call = Instruction::Call { helper: 2 };
-            assert!(rt;
-                makes(&state, context_size, &call, &Err(refusal)),
-                "{one:?}"
-            );
+            is_true_at(&rt, makes(&state, context_size, &call, &Err(refusal)), &one);
         }
     }
     Ok(())
@@ -127,9 +124,10 @@ fn other_helpers_are_unknown(rt: HostRuntime) -> Result<(), Fail> {
         for helper in [0, 5, 6, 0x101, u32::MAX] {
             let state = called_with(one, two);
             let call = Instruction::Call { helper };
-            assert!(rt;
+            is_true_at(
+                &rt,
                 makes(&state, CONTEXT_SIZE, &call, &unknown),
-                "{helper} {one:?}"
+                (&helper, &one),
             );
         }
     }

@@ -4,6 +4,7 @@ use super::{
     with,
 };
 use crate::AbsState;
+use crate::checks::{is_true, is_true_at};
 use abs_domain::Flat;
 use abs_regs::AbsVal;
 use bpf_profile::{Extension, Instruction, Register, Size};
@@ -67,9 +68,10 @@ fn addresses_are_refused(rt: HostRuntime) -> Result<(), Fail> {
     ] {
         let instruction = load(size, Extension::Zero, offset);
         let state = based(base);
-        assert!(rt;
+        is_true_at(
+            &rt,
             makes(&state, CONTEXT_SIZE, &instruction, &Err(refusal)),
-            "{base:?} {size:?} {offset}"
+            (&base, &size, &offset),
         );
     }
     Ok(())
@@ -96,9 +98,10 @@ fn numbers_are_loaded_from_the_context(rt: HostRuntime) -> Result<(), Fail> {
         let state = based(base);
         let wanted = Ok(with(&state, Register::new(2), ANY));
         let instruction = load(size, extension, offset);
-        assert!(rt;
+        is_true_at(
+            &rt,
             makes(&state, CONTEXT_SIZE, &instruction, &wanted),
-            "{base:?} {size:?} {offset}"
+            (&base, &size, &offset),
         );
     }
     Ok(())
@@ -119,9 +122,10 @@ fn the_context_has_so_many_bytes(rt: HostRuntime) -> Result<(), Fail> {
     ] {
         let wanted = if is_inside { &loaded } else { &outside };
         let instruction = load(Size::Byte, Extension::Zero, offset);
-        assert!(rt;
+        is_true_at(
+            &rt,
             makes(&state, context_size, &instruction, wanted),
-            "{context_size} {offset}"
+            (&context_size, &offset),
         );
     }
     Ok(())
@@ -154,9 +158,10 @@ fn values_are_loaded_from_the_stack(rt: HostRuntime) -> Result<(), Fail> {
             Err(refusal) => Err(refusal),
         };
         let instruction = load(size, Extension::Sign, offset);
-        assert!(rt;
+        is_true_at(
+            &rt,
             makes(&state, CONTEXT_SIZE, &instruction, &wanted),
-            "{kept:?} {size:?} {offset}"
+            (&kept, &size, &offset),
         );
     }
     Ok(())
@@ -174,6 +179,6 @@ fn a_load_may_replace_its_base(rt: HostRuntime) -> Result<(), Fail> {
     };
     let state = stored(CONTEXT);
     let wanted = Ok(with(&state, four, CONTEXT));
-    assert!(rt; makes(&state, CONTEXT_SIZE, &instruction, &wanted));
+    is_true(&rt, makes(&state, CONTEXT_SIZE, &instruction, &wanted));
     Ok(())
 }

@@ -1,5 +1,6 @@
 //! Instructions that compute, move and convert (RFC 9669, sections 4.1, 4.2 and 5.4), and jumps.
 use super::{CONTEXT, CONTEXT_SIZE, STACK, before, makes, minus, number, register, sample, with};
+use crate::checks::{is_true, is_true_at};
 use abs_domain::Flat;
 use abs_regs::AbsVal;
 use bpf_profile::{ByteOrder, Instruction, Operand, Operation, Register, Size, Width};
@@ -78,7 +79,7 @@ fn a_result_is_in_its_destination(rt: HostRuntime) -> Result<(), Fail> {
             number(0xffff_ffff),
         ),
     ] {
-        assert!(rt; destination < 11);
+        is_true(&rt, destination < 11);
         let destination = Register::new(destination);
         let instruction = Instruction::Arithmetic {
             operation,
@@ -87,9 +88,10 @@ fn a_result_is_in_its_destination(rt: HostRuntime) -> Result<(), Fail> {
             operand,
         };
         let wanted = Ok(with(&sample(), destination, result));
-        assert!(rt;
+        is_true_at(
+            &rt,
             makes(&sample(), CONTEXT_SIZE, &instruction, &wanted),
-            "{instruction:?}"
+            &instruction,
         );
     }
     Ok(())
@@ -130,16 +132,17 @@ fn operands_are_refused(rt: HostRuntime) -> Result<(), Fail> {
             RefusalNumber::BadPointerSum,
         ),
     ] {
-        assert!(rt; destination < 11);
+        is_true(&rt, destination < 11);
         let instruction = Instruction::Arithmetic {
             operation,
             width,
             destination: Register::new(destination),
             operand,
         };
-        assert!(rt;
+        is_true_at(
+            &rt,
             makes(&sample(), CONTEXT_SIZE, &instruction, &Err(refusal)),
-            "{instruction:?}"
+            &instruction,
         );
     }
     Ok(())
@@ -199,9 +202,10 @@ fn numbers_are_negated_extended_and_reordered(rt: HostRuntime) -> Result<(), Fai
         ),
     ] {
         let wanted = Ok(with(&state, destination, number(result)));
-        assert!(rt;
+        is_true_at(
+            &rt,
             makes(&state, CONTEXT_SIZE, &instruction, &wanted),
-            "{instruction:?}"
+            &instruction,
         );
     }
     Ok(())
@@ -214,7 +218,7 @@ fn only_numbers_are_negated_extended_and_reordered(rt: HostRuntime) -> Result<()
         (4, RefusalNumber::PointerUsed),
         (5, RefusalNumber::PointerUsed),
     ] {
-        assert!(rt; source < 11);
+        is_true(&rt, source < 11);
         let source = Register::new(source);
         for instruction in [
             Instruction::Negate {
@@ -233,9 +237,10 @@ fn only_numbers_are_negated_extended_and_reordered(rt: HostRuntime) -> Result<()
                 destination: source,
             },
         ] {
-            assert!(rt;
+            is_true_at(
+                &rt,
                 makes(&sample(), CONTEXT_SIZE, &instruction, &Err(refusal)),
-                "{instruction:?}"
+                &instruction,
             );
         }
     }
@@ -250,9 +255,10 @@ fn an_immediate_of_64_bits_replaces_any_value(rt: HostRuntime) -> Result<(), Fai
         for value in [0, 0x1_0000_0001, u64::MAX] {
             let instruction = Instruction::LoadImmediate { destination, value };
             let wanted = Ok(with(&sample(), destination, number(value)));
-            assert!(rt;
+            is_true_at(
+                &rt,
                 makes(&sample(), CONTEXT_SIZE, &instruction, &wanted),
-                "{instruction:?}"
+                &instruction,
             );
         }
     }
@@ -264,9 +270,10 @@ fn a_jump_changes_nothing(rt: HostRuntime) -> Result<(), Fail> {
     for width in [Width::Bits32, Width::Bits64] {
         let instruction = Instruction::Jump { width, distance: 3 };
         let wanted = Ok(sample());
-        assert!(rt;
+        is_true_at(
+            &rt,
             makes(&sample(), CONTEXT_SIZE, &instruction, &wanted),
-            "{width:?}"
+            &width,
         );
     }
     Ok(())

@@ -1,6 +1,7 @@
 //! Some instructions in a row, each from what is known after the one before.
 use super::{CONTEXT_SIZE, Found, minus, register};
 use crate::AbsState;
+use crate::checks::{same, same_at};
 use bpf_profile::{Comparison, Extension, Instruction, Operand, Operation, Register, Size, Width};
 use refusals::RefusalNumber;
 use std::test::*;
@@ -52,7 +53,7 @@ fn a_tag_is_compared_with_two_bytes(rt: HostRuntime) -> Result<(), Fail> {
         arithmetic(Operation::Move, two, Operand::Immediate(2)),
         Instruction::Call { helper: 4 },
     ]);
-    assert_eq!(rt; refusal_of(compared), None);
+    same(&rt, refusal_of(compared), None);
     // Without the second byte.
     let unset = followed(&[
         store_byte(8, 112),
@@ -61,7 +62,7 @@ fn a_tag_is_compared_with_two_bytes(rt: HostRuntime) -> Result<(), Fail> {
         arithmetic(Operation::Move, two, Operand::Immediate(2)),
         Instruction::Call { helper: 4 },
     ]);
-    assert_eq!(rt; refusal_of(unset), Some(RefusalNumber::HelperArgument));
+    same(&rt, refusal_of(unset), Some(RefusalNumber::HelperArgument));
     Ok(())
 }
 
@@ -89,7 +90,7 @@ fn an_answer_is_known_where_it_was_compared(rt: HostRuntime) -> Result<(), Fail>
             Some(RefusalNumber::AnswerRange)
         };
         let ended = followed(&[load, branch, Instruction::Exit]);
-        assert_eq!(rt; refusal_of(ended), wanted, "{comparison:?}");
+        same_at(&rt, refusal_of(ended), wanted, &comparison);
     }
     Ok(())
 }
@@ -112,7 +113,7 @@ fn the_context_is_kept_over_a_call(rt: HostRuntime) -> Result<(), Fail> {
             Instruction::Call { helper: 1 },
             load,
         ]);
-        assert_eq!(rt; refusal_of(loaded), refusal, "{base:?}");
+        same_at(&rt, refusal_of(loaded), refusal, &base);
     }
     Ok(())
 }

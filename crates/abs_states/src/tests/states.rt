@@ -4,6 +4,7 @@ use super::{
     set_bytes_are, stacks_are_alike, stored_before,
 };
 use crate::AbsState;
+use crate::checks::{is_true, same_at};
 use abs_domain::Flat;
 use abs_regs::AbsVal;
 use bpf_profile::{Register, Size};
@@ -29,20 +30,22 @@ fn at_the_entry_two_pointers_are_known(rt: HostRuntime) -> Result<(), Fail> {
             10 => AbsVal::Stack(0),
             _ => UNSET,
         };
-        assert_eq!(rt;
+        same_at(
+            &rt,
             entry.registers.get(Register::new(number)),
             wanted,
-            "R{number}"
+            &number,
         );
     }
     for cell in 0..64 {
-        assert_eq!(rt;
+        same_at(
+            &rt,
             cell_of(&entry, cell),
             Err(RefusalNumber::UnsetStack),
-            "{cell}"
+            &cell,
         );
     }
-    assert!(rt; set_bytes_are(&entry, 0, 0));
+    is_true(&rt, set_bytes_are(&entry, 0, 0));
     Ok(())
 }
 
@@ -83,10 +86,11 @@ fn registers_and_stacks_are_joined(rt: HostRuntime) -> Result<(), Fail> {
                 10 => AbsVal::Stack(0),
                 _ => UNSET,
             };
-            assert_eq!(rt;
+            same_at(
+                &rt,
                 joined.registers.get(Register::new(number)),
                 wanted,
-                "R{number}"
+                &number,
             );
         }
         for (cell, wanted) in [
@@ -96,10 +100,10 @@ fn registers_and_stacks_are_joined(rt: HostRuntime) -> Result<(), Fail> {
             (3, Err(RefusalNumber::UnsetStack)),
             (4, Err(RefusalNumber::UnsetStack)),
         ] {
-            assert!(rt; cell < 64);
-            assert_eq!(rt; cell_of(&joined, cell), wanted, "{cell}");
+            is_true(&rt, cell < 64);
+            same_at(&rt, cell_of(&joined, cell), wanted, &cell);
         }
-        assert!(rt; set_bytes_are(&joined, 0, 16));
+        is_true(&rt, set_bytes_are(&joined, 0, 16));
     }
     Ok(())
 }
@@ -108,12 +112,12 @@ fn registers_and_stacks_are_joined(rt: HostRuntime) -> Result<(), Fail> {
 fn a_copy_is_the_same(rt: HostRuntime) -> Result<(), Fail> {
     let state = with_cells(&sample(), [EIGHT, ANY, STACK, CONTEXT]);
     let copied = copy(&state);
-    assert!(rt; registers_are_alike(&copied, &state));
-    assert!(rt; stacks_are_alike(&copied, &state));
+    is_true(&rt, registers_are_alike(&copied, &state));
+    is_true(&rt, stacks_are_alike(&copied, &state));
     // What was there before is forgotten.
     let mut other = second_path();
     other.copy_from(&AbsState::entry());
-    assert!(rt; registers_are_alike(&other, &AbsState::entry()));
-    assert!(rt; stacks_are_alike(&other, &AbsState::entry()));
+    is_true(&rt, registers_are_alike(&other, &AbsState::entry()));
+    is_true(&rt, stacks_are_alike(&other, &AbsState::entry()));
     Ok(())
 }

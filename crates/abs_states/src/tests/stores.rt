@@ -4,6 +4,7 @@ use super::{
     register, registers_are_alike, sample, set_bytes_are, transferred, with,
 };
 use crate::AbsState;
+use crate::checks::{is_true, is_true_at, same, same_at};
 use abs_domain::Flat;
 use abs_regs::AbsVal;
 use bpf_profile::{Instruction, Operand, Register, Size};
@@ -53,16 +54,20 @@ fn base_and_value_are_set_before_all_else(rt: HostRuntime) -> Result<(), Fail> {
             for offset in [0, 1, 16] {
                 let state = based(base, value);
                 let instruction = store(size, offset, register(6));
-                assert!(rt;
+                is_true_at(
+                    &rt,
                     makes(&state, CONTEXT_SIZE, &instruction, &unset),
-                    "{base:?} {value:?} {size:?} {offset}"
+                    (&base, &value, &size, &offset),
                 );
             }
         }
     }
     // So it is with an immediate, which is set.
     let instruction = store(Size::Byte, 0, Operand::Immediate(1));
-    assert!(rt; makes(&based(UNSET, EIGHT), CONTEXT_SIZE, &instruction, &unset));
+    is_true(
+        &rt,
+        makes(&based(UNSET, EIGHT), CONTEXT_SIZE, &instruction, &unset),
+    );
     Ok(())
 }
 
@@ -95,9 +100,10 @@ fn faults_come_in_their_order(rt: HostRuntime) -> Result<(), Fail> {
     ] {
         let state = based(base, value);
         let instruction = store(size, offset, register(6));
-        assert!(rt;
+        is_true_at(
+            &rt,
             makes(&state, CONTEXT_SIZE, &instruction, &Err(refusal)),
-            "{base:?} {value:?} {size:?} {offset}"
+            (&base, &value, &size, &offset),
         );
     }
     Ok(())
@@ -112,20 +118,20 @@ fn values_are_stored_whole(rt: HostRuntime) -> Result<(), Fail> {
         (STACK, 8, 63),
         (before(512), 16, 2),
     ] {
-        assert!(rt; cell < 64);
+        is_true(&rt, cell < 64);
         for value in [EIGHT, ANY, STACK, CONTEXT] {
             let state = based(base, value);
             match stored(&state, Size::DoubleWord, offset) {
                 Ok(after) => {
-                    assert_eq!(rt; cell_of(&after, cell), Ok(value), "{base:?} {offset}");
-                    assert!(rt; registers_are_alike(&after, &state), "{base:?} {offset}");
+                    same_at(&rt, cell_of(&after, cell), Ok(value), (&base, &offset));
+                    is_true_at(&rt, registers_are_alike(&after, &state), (&base, &offset));
                     let (first, end) = match value {
                         AbsVal::Number(_) => (8 * cell, 8 * cell + 8),
                         _ => (0, 0),
                     };
-                    assert!(rt; set_bytes_are(&after, first, end), "{base:?} {value:?}");
+                    is_true_at(&rt, set_bytes_are(&after, first, end), (&base, &value));
                 }
-                Err(refusal) => assert!(rt; false, "{base:?} {value:?} {refusal:?}"),
+                Err(refusal) => is_true_at(&rt, false, (&base, &value, &refusal)),
             }
         }
     }
@@ -139,10 +145,10 @@ fn an_immediate_is_stored_whole(rt: HostRuntime) -> Result<(), Fail> {
         let instruction = store(Size::DoubleWord, 8, Operand::Immediate(word));
         match transferred(&state, CONTEXT_SIZE, true, &instruction) {
             Ok(after) => {
-                assert_eq!(rt; cell_of(&after, 63), Ok(number(word)));
-                assert!(rt; registers_are_alike(&after, &state));
+                same(&rt, cell_of(&after, 63), Ok(number(word)));
+                is_true(&rt, registers_are_alike(&after, &state));
             }
-            Err(refusal) => assert!(rt; false, "{word} {refusal:?}"),
+            Err(refusal) => is_true_at(&rt, false, (&word, &refusal)),
         }
     }
     Ok(())
@@ -161,10 +167,10 @@ fn low_bytes_of_numbers_are_stored(rt: HostRuntime) -> Result<(), Fail> {
             let state = based(STACK, value);
             match stored(&state, size, offset) {
                 Ok(after) => {
-                    assert!(rt; set_bytes_are(&after, first, end), "{size:?} {offset}");
-                    assert!(rt; registers_are_alike(&after, &state), "{size:?} {offset}");
+                    is_true_at(&rt, set_bytes_are(&after, first, end), (&size, &offset));
+                    is_true_at(&rt, registers_are_alike(&after, &state), (&size, &offset));
                 }
-                Err(refusal) => assert!(rt; false, "{size:?} {offset} {refusal:?}"),
+                Err(refusal) => is_true_at(&rt, false, (&size, &offset, &refusal)),
             }
         }
     }

@@ -5,6 +5,7 @@ use super::{
     registers_are_alike, sample, set_bytes_are, stored_before, transferred,
 };
 use crate::AbsState;
+use crate::checks::is_true_at;
 use abs_domain::Flat;
 use abs_regs::AbsVal;
 use bpf_profile::{Instruction, Register, Size};
@@ -62,9 +63,10 @@ fn arguments_are_refused_in_their_order(rt: HostRuntime) -> Result<(), Fail> {
         for helper in [3, 4] {
             let state = called_with(one, two);
             let instruction = Instruction::Call { helper };
-            assert!(rt;
+            is_true_at(
+                &rt,
                 makes(&state, CONTEXT_SIZE, &instruction, &Err(refusal)),
-                "{helper} {one:?} {two:?}"
+                (&helper, &one, &two),
             );
         }
     }
@@ -89,13 +91,18 @@ fn a_copied_tag_sets_its_bytes_alone(rt: HostRuntime) -> Result<(), Fail> {
         };
         match call(&state, 3) {
             Ok(after) => {
-                assert!(rt; set_bytes_are(&after, first, end), "{bytes_before} {count}");
-                assert!(rt;
+                is_true_at(
+                    &rt,
+                    set_bytes_are(&after, first, end),
+                    (&bytes_before, &count),
+                );
+                is_true_at(
+                    &rt,
                     registers_are_alike(&after, &after_call(&state)),
-                    "{bytes_before} {count}"
+                    (&bytes_before, &count),
                 );
             }
-            Err(refusal) => assert!(rt; false, "{bytes_before} {count} {refusal:?}"),
+            Err(refusal) => is_true_at(&rt, false, (&bytes_before, &count, &refusal)),
         }
     }
     Ok(())
@@ -113,11 +120,12 @@ fn a_copied_tag_leaves_of_a_kept_value_what_it_does_not_cover(rt: HostRuntime) -
     ] {
         let state = kept(value, before(bytes_before), number(count));
         match call(&state, 3) {
-            Ok(after) => assert!(rt;
+            Ok(after) => is_true_at(
+                &rt,
                 set_bytes_are(&after, first, end),
-                "{value:?} {bytes_before} {count}"
+                (&value, &bytes_before, &count),
             ),
-            Err(refusal) => assert!(rt; false, "{value:?} {bytes_before} {refusal:?}"),
+            Err(refusal) => is_true_at(&rt, false, (&value, &bytes_before, &refusal)),
         }
     }
     Ok(())
@@ -149,9 +157,10 @@ fn bytes_that_are_compared_are_set(rt: HostRuntime) -> Result<(), Fail> {
             Err(RefusalNumber::HelperArgument)
         };
         let instruction = Instruction::Call { helper: 4 };
-        assert!(rt;
+        is_true_at(
+            &rt,
             makes(&state, CONTEXT_SIZE, &instruction, &wanted),
-            "{value:?} {bytes_before} {count}"
+            (&value, &bytes_before, &count),
         );
     }
     Ok(())
@@ -176,9 +185,9 @@ fn what_helper_3_wrote_helper_4_reads(rt: HostRuntime) -> Result<(), Fail> {
                 } else {
                     Err(RefusalNumber::HelperArgument)
                 };
-                assert!(rt; agree(&call(&state, 4), &wanted), "{place} {count}");
+                is_true_at(&rt, agree(&call(&state, 4), &wanted), (&place, &count));
             }
-            Err(refusal) => assert!(rt; false, "{refusal:?}"),
+            Err(refusal) => is_true_at(&rt, false, &refusal),
         }
     }
     Ok(())

@@ -1,5 +1,6 @@
 //! How many states verifying has to hold, and that it answers as the analysis that keeps all states.
 use super::{EXIT, bytes_of};
+use crate::checks::{same, same_at};
 use crate::{Refusal, analyse, default_classifier, verify_counted};
 use abs_domain::Both;
 use bpf_decode::Program;
@@ -55,17 +56,18 @@ fn widths_are_counted(rt: HostRuntime) -> Result<(), Fail> {
         (255, 255, 255, (512, 256)),
     ] {
         let bytes = ladder(rt.alloc(), branches, distance, moves)?;
-        assert_eq!(rt;
+        same_at(
+            &rt,
             counted(rt.alloc(), &bytes),
             Ok(wanted),
-            "{branches} {distance} {moves}"
+            (&branches, &distance, &moves),
         );
     }
     // lddw r0, 1 / exit: nothing leads to the second half.
     let wide = bytes_of(rt.alloc(), &[0x1800000001000000, 0, EXIT])?;
-    assert_eq!(rt; counted(rt.alloc(), &wide), Ok((2, 1)));
+    same(&rt, counted(rt.alloc(), &wide), Ok((2, 1)));
     let classifier = default_classifier(rt.alloc()).expect(&rt, "the default classifier");
-    assert_eq!(rt; counted(rt.alloc(), classifier.bytes()), Ok((6, 2)));
+    same(&rt, counted(rt.alloc(), classifier.bytes()), Ok((6, 2)));
     Ok(())
 }
 
@@ -91,7 +93,11 @@ fn refusals_are_those_of_verifying(rt: HostRuntime) -> Result<(), Fail> {
         (too_long, 0, RefusalNumber::Length),
     ];
     for (bytes, slot, number) in rows {
-        assert_eq!(rt; counted(rt.alloc(), &bytes), Err(Refusal { slot, number }));
+        same(
+            &rt,
+            counted(rt.alloc(), &bytes),
+            Err(Refusal { slot, number }),
+        );
     }
     Ok(())
 }
@@ -100,11 +106,11 @@ fn refusals_are_those_of_verifying(rt: HostRuntime) -> Result<(), Fail> {
 fn programs_of_each_length_are_accepted(rt: HostRuntime) -> Result<(), Fail> {
     for moves in 0..128 {
         let bytes = ladder(rt.alloc(), 0, 0, moves)?;
-        assert_eq!(rt; counted(rt.alloc(), &bytes), Ok((moves + 2, 1)), "{moves}");
+        same_at(&rt, counted(rt.alloc(), &bytes), Ok((moves + 2, 1)), &moves);
     }
     for moves in (128..4_095).step_by(61) {
         let bytes = ladder(rt.alloc(), 0, 0, moves)?;
-        assert_eq!(rt; counted(rt.alloc(), &bytes), Ok((moves + 2, 1)), "{moves}");
+        same_at(&rt, counted(rt.alloc(), &bytes), Ok((moves + 2, 1)), &moves);
     }
     Ok(())
 }
@@ -123,7 +129,7 @@ fn both_analyses_answer_alike(rt: HostRuntime) -> Result<(), Fail> {
                 Ok((budget, _)) => Ok(budget),
                 Err(refusal) => Err(refusal),
             };
-            assert_eq!(rt; found, analysed(rt.alloc(), &bytes), "{place} {byte}");
+            same_at(&rt, found, analysed(rt.alloc(), &bytes), (&place, &byte));
         }
     }
     Ok(())
