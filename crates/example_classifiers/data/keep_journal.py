@@ -7,7 +7,8 @@ SIDECAR is the sidecar's address, as 127.0.0.1:8080, and SERVICE the name of one
 line of JSON in FILE, which goes on where it ended before. With SECONDS this repeats after so many seconds, for ever;
 else it is done once. The journal is cut once it holds ENTRIES entries or more (with SECONDS 30000, else 1) and no
 ticket is open. A cut hands out all that is held. What was asked between the last page and the cut is in no file: how
-many entries those are is printed. It needs Python's standard library alone.
+many entries those are is printed. A sidecar that was started anew counts from 1 again: that is printed too, and its
+entries follow the old ones in FILE. It needs Python's standard library alone.
 """
 
 import http.client
@@ -18,6 +19,8 @@ import time
 
 SECONDS_TO_ANSWER = 5
 ENTRIES_TO_CUT = 30_000
+# No entry is as long as this many bytes.
+LONGEST_ENTRY = 4096
 
 
 class Journal:
@@ -50,20 +53,32 @@ class Journal:
         return answer["entries"] if status == 200 else None
 
 
-def next_number(file):
-    """Returns the number after that of the last entry in a file, 1 where it has none."""
-    last = None
-    if os.path.exists(file):
-        with open(file, encoding="utf-8") as lines:
-            for last in lines:
-                pass
-    return json.loads(last)["number"] + 1 if last else 1
+def last_kept(file):
+    """Returns the last entry in a file, or None where it has none."""
+    if not os.path.exists(file):
+        return None
+    with open(file, "rb") as kept:
+        kept.seek(max(0, os.path.getsize(file) - LONGEST_ENTRY))
+        lines = kept.read().splitlines()
+    return json.loads(lines[-1]) if lines else None
 
 
 def first_held(journal):
     """Returns the number of the first entry that the journal holds, or of the next where it holds none."""
     entries, _ = journal.page(1)
     return entries[0]["number"] if entries else journal.state()["entries"] + 1
+
+
+def number_to_keep(journal, last):
+    """Returns the number of the first entry that is to be kept, behind the last one that was kept."""
+    first = first_held(journal)
+    if last is not None and last["number"] >= first and journal.page(last["number"])[0][:1] != [last]:
+        print("the sidecar was started anew: its entries are numbered from 1 again", flush=True)
+        return first
+    number = last["number"] + 1 if last else 1
+    if number < first:
+        print(f"entries {number} to {first - 1} were cut before they were kept", flush=True)
+    return max(number, first)
 
 
 def keep(journal, file, number):
@@ -73,8 +88,6 @@ def keep(journal, file, number):
             entries, following = journal.page(number)
             if not entries:
                 return number
-            if entries[0]["number"] > number:
-                print(f"entries {number} to {entries[0]['number'] - 1} were cut before they were kept", flush=True)
             for entry in entries:
                 kept.write(json.dumps(entry) + "\n")
             kept.flush()
@@ -82,27 +95,26 @@ def keep(journal, file, number):
             number = following
 
 
-def keep_and_cut(journal, file, number, entries_to_cut):
-    """Keeps what is new, cuts where it is time to, and returns the number to go on from."""
-    begin = number
-    number = keep(journal, file, number)
+def keep_and_cut(journal, file, entries_to_cut):
+    """Keeps what is new, and cuts where it is time to."""
+    begin = number_to_keep(journal, last_kept(file))
+    number = keep(journal, file, begin)
     first = first_held(journal)
     kept = f"kept {number - begin} entries"
     still_open = journal.state()["open"]
     if number - first < entries_to_cut:
         print(f"{kept}, {number - first} are held", flush=True)
-        return number
+        return
     if still_open > 0:
         print(f"{kept}, not cut: {still_open} tickets are open", flush=True)
-        return number
+        return
     number = keep(journal, file, number)
     handed_out = journal.cut()
     if handed_out is None:
         print(f"{kept}, not cut: a ticket was issued meanwhile", flush=True)
-        return number
+        return
     lost = first + handed_out - number
     print(f"{kept}, cut {handed_out}" + (f", of which {lost} are in no file" if lost else ""), flush=True)
-    return first + handed_out
 
 
 def main():
@@ -110,9 +122,8 @@ def main():
     seconds = float(numbers[0]) if numbers else None
     entries_to_cut = int(numbers[1]) if len(numbers) > 1 else ENTRIES_TO_CUT if seconds else 1
     journal = Journal(address, service)
-    number = next_number(file)
     while True:
-        number = keep_and_cut(journal, file, number, entries_to_cut)
+        keep_and_cut(journal, file, entries_to_cut)
         if seconds is None:
             return
         time.sleep(seconds)
