@@ -2,6 +2,8 @@
 //! states.
 #![tactic(auto)]
 
+#[cfg(test)]
+mod checks;
 mod configurations;
 mod hexadecimal;
 mod programs;

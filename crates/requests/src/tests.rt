@@ -1,4 +1,5 @@
 //! That requests are read with ample memory, and what numbers in JSON are.
+use crate::checks::{is_true_at, same, same_at};
 use crate::{config, json, number_at, program, report, state, text_at};
 use book::{ConfigParts, SlidingWindowType, State};
 use serde_json::Value;
@@ -49,19 +50,19 @@ fn whole_numbers_are_written_as_such(rt: HostRuntime) {
         ("[1]", None),
     ] {
         let value = value(&rt, rt.alloc(), text);
-        assert_eq!(rt; number_at(&value, "n"), number, "{text}");
+        same_at(&rt, number_at(&value, "n"), number, &text);
     }
     let value = value(&rt, rt.alloc(), "{\"do\":\"read\",\"at\":1}");
-    assert_eq!(rt; text_at(&value, "do"), Some("read"));
-    assert_eq!(rt; text_at(&value, "at"), None);
-    assert_eq!(rt; text_at(&value, "to"), None);
+    same(&rt, text_at(&value, "do"), Some("read"));
+    same(&rt, text_at(&value, "at"), None);
+    same(&rt, text_at(&value, "to"), None);
 }
 
 #[test]
 fn missing_values_are_the_defaults(rt: HostRuntime) {
     let empty = value(&rt, rt.alloc(), "{}");
     let defaults = config(&empty).expect(&rt, "the defaults");
-    assert_eq!(rt; defaults.parts(), ConfigParts::DEFAULT);
+    same(&rt, defaults.parts(), ConfigParts::DEFAULT);
     let whole = value(
         &rt,
         rt.alloc(),
@@ -80,9 +81,10 @@ fn missing_values_are_the_defaults(rt: HostRuntime) {
         max_concurrent_calls: 8,
         max_wait_duration: 0,
     };
-    assert_eq!(rt;
+    same(
+        &rt,
         config(&whole).expect(&rt, "a configuration").parts(),
-        parts
+        parts,
     );
 }
 
@@ -91,8 +93,8 @@ fn time_windows_are_read(rt: HostRuntime) {
     let text = "{\"slidingWindowType\":\"TIME_BASED\",\"slidingWindowSize\":3600}";
     let value = value(&rt, rt.alloc(), text);
     let parts = config(&value).expect(&rt, "a configuration").parts();
-    assert_eq!(rt; parts.sliding_window_type, SlidingWindowType::TimeBased);
-    assert_eq!(rt; parts.sliding_window_size, 3_600);
+    same(&rt, parts.sliding_window_type, SlidingWindowType::TimeBased);
+    same(&rt, parts.sliding_window_size, 3_600);
 }
 
 #[test]
@@ -111,8 +113,8 @@ fn programs_are_read(rt: HostRuntime) -> Result<(), Fail> {
         let value = value(&rt, rt.alloc(), text);
         let found = program(rt.alloc(), &value)?;
         match (found, bytes) {
-            (Some(found), Some(bytes)) => assert_eq!(rt; found.as_slice(), bytes, "{text}"),
-            (found, bytes) => assert_eq!(rt; found.is_some(), bytes.is_some(), "{text}"),
+            (Some(found), Some(bytes)) => same_at(&rt, found.as_slice(), bytes, &text),
+            (found, bytes) => same_at(&rt, found.is_some(), bytes.is_some(), &text),
         }
     }
     Ok(())
@@ -132,7 +134,7 @@ fn states_are_read(rt: HostRuntime) {
         ("{\"to\":\"OPEN\"}", None),
     ] {
         let value = value(&rt, rt.alloc(), text);
-        assert_eq!(rt; state(&value), found, "{text}");
+        same_at(&rt, state(&value), found, &text);
     }
 }
 
@@ -150,7 +152,7 @@ fn other_configurations_are_refused(rt: HostRuntime) {
         "{\"slidingWindowType\":\"TIME_BASED\",\"slidingWindowSize\":0}",
     ] {
         let value = value(&rt, rt.alloc(), text);
-        assert!(rt; config(&value).is_none(), "{text}");
+        is_true_at(&rt, config(&value).is_none(), &text);
     }
 }
 
@@ -162,8 +164,8 @@ fn reports_are_read(rt: HostRuntime) {
         "{\"outcome\":{\"duration_ms\":7},\"ticket\":3,\"other\":null}",
     );
     let reported = report(&good).expect(&rt, "a report");
-    assert_eq!(rt; reported.ticket, 3);
-    assert_eq!(rt; reported.outcome.duration(), 7);
+    same(&rt, reported.ticket, 3);
+    same(&rt, reported.outcome.duration(), 7);
     for text in [
         "{}",
         "{\"ticket\":3}",
@@ -174,6 +176,6 @@ fn reports_are_read(rt: HostRuntime) {
         "[3, {}]",
     ] {
         let value = value(&rt, rt.alloc(), text);
-        assert!(rt; report(&value).is_none(), "{text}");
+        is_true_at(&rt, report(&value).is_none(), &text);
     }
 }

@@ -1,4 +1,5 @@
 //! Answers as they stand on the wire, written out.
+use crate::checks::{is_true, same};
 use http_answers::{AnswerMessage, write_answer};
 use http_routes::Route;
 use std::test::Fail;
@@ -62,7 +63,7 @@ fn answers_are_written(rt: HostRuntime) -> Result<(), Fail> {
     ] {
         let mut written = Vec::new(rt.alloc());
         write_answer(rt.alloc(), &mut written, &answer)?;
-        assert_eq!(rt; written.as_slice(), text);
+        same(&rt, written.as_slice(), text);
     }
     Ok(())
 }
@@ -103,7 +104,7 @@ fn another_method_is_told(rt: HostRuntime) -> Result<(), Fail> {
     ] {
         let mut written = Vec::new(rt.alloc());
         write_answer(rt.alloc(), &mut written, &answer)?;
-        assert_eq!(rt; written.as_slice(), text);
+        same(&rt, written.as_slice(), text);
     }
     Ok(())
 }
@@ -117,9 +118,10 @@ fn answers_follow_one_another(rt: HostRuntime) -> Result<(), Fail> {
     };
     write_answer(rt.alloc(), &mut written, &short)?;
     write_answer(rt.alloc(), &mut written, &short)?;
-    assert_eq!(rt;
+    same(
+        &rt,
         written.as_slice(),
-        b"before HTTP/1.1 200 OK\r\nContent-Type: application/json\r\nContent-Length: 1\r\n\r\n1HTTP/1.1 200 OK\r\nContent-Type: application/json\r\nContent-Length: 1\r\n\r\n1".as_slice()
+        b"before HTTP/1.1 200 OK\r\nContent-Type: application/json\r\nContent-Length: 1\r\n\r\n1HTTP/1.1 200 OK\r\nContent-Type: application/json\r\nContent-Length: 1\r\n\r\n1".as_slice(),
     );
     Ok(())
 }
@@ -147,7 +149,7 @@ fn each_status_has_its_phrase(rt: HostRuntime) -> Result<(), Fail> {
             ..PERMITTED
         };
         write_answer(rt.alloc(), &mut written, &answer)?;
-        assert!(rt; written.as_slice().starts_with(line));
+        is_true(&rt, written.as_slice().starts_with(line));
     }
     Ok(())
 }

@@ -1,4 +1,5 @@
 //! The lines that commands print, and the statuses that they end with.
+use crate::checks::{same, same_at};
 use counted_io::Counted;
 use sidecar_commands::Status;
 use std::alloc::Global;
@@ -42,9 +43,9 @@ pub(crate) fn ends(
     let mut err = Vec::new(alloc);
     let found = command(alloc, words, &mut reader, &mut out, &mut err);
     let usage = if status == 2 { USAGE } else { "" };
-    assert_eq!(rt; out.as_slice(), printed.as_bytes(), "{words:?}");
-    assert_eq!(rt; err.as_slice(), usage.as_bytes(), "{words:?}");
-    assert_eq!(rt; found, status, "{words:?}");
+    same_at(rt, out.as_slice(), printed.as_bytes(), &words);
+    same_at(rt, err.as_slice(), usage.as_bytes(), &words);
+    same_at(rt, found, status, &words);
     Ok(())
 }
 
@@ -183,9 +184,9 @@ fn refused_programs_come_before_input(rt: HostRuntime) {
         let mut out = Vec::new(alloc);
         let mut err = Vec::new(alloc);
         let found = command(alloc, &[name, program], &mut Broken, &mut out, &mut err);
-        assert_eq!(rt; out.as_slice(), printed.as_bytes());
+        same(&rt, out.as_slice(), printed.as_bytes());
         assert!(rt; err.is_empty());
-        assert_eq!(rt; found, status);
+        same(&rt, found, status);
     }
 }
 
@@ -196,14 +197,14 @@ fn failures_of_readers_and_writers_print_nothing(rt: HostRuntime) {
     let mut err = Vec::new(alloc);
     let words = ["judge", FAILURE];
     let status = command(alloc, &words, &mut Broken, &mut out, &mut err);
-    assert_eq!(rt; status, 1);
+    same(&rt, status, 1);
     assert!(rt; out.is_empty() && err.is_empty());
     let mut outcome = b"{}".as_slice();
     let status = command(alloc, &words, &mut outcome, &mut Full, &mut err);
-    assert_eq!(rt; status, 1);
+    same(&rt, status, 1);
     assert!(rt; err.is_empty());
     let status = command(alloc, &["judge"], &mut outcome, &mut out, &mut Full);
-    assert_eq!(rt; status, 2);
+    same(&rt, status, 2);
     assert!(rt; out.is_empty());
 }
 
@@ -213,11 +214,12 @@ fn fails(rt: &impl Abort, alloc: Global, words: &[&str], status: Status, failure
     let mut out = Counted::new(Full);
     let mut err = Counted::new(Full);
     let found = sidecar_commands::command(alloc, words, &mut reader, &mut out, &mut err);
-    assert_eq!(rt; found, status, "{words:?}");
-    assert_eq!(rt;
+    same_at(rt, found, status, &words);
+    same_at(
+        rt,
         [reader.failures, out.failures, err.failures],
         failures,
-        "{words:?}"
+        &words,
     );
 }
 

@@ -1,4 +1,5 @@
 //! Inputs in pieces and inputs that end early, and readers and writers that fail at each of their calls.
+use crate::checks::{is_true_at, same, same_at};
 use crate::fixtures::{
     ACQUIRE, ACQUIRED, FailsAt, INSTALL, INSTALLED, JOURNAL, MOMENT, ONE_ENTRY, Still, entries,
     pay, served, version,
@@ -68,10 +69,10 @@ fn cuts_of_the_input_change_nothing(rt: HostRuntime) -> Result<(), Fail> {
             let mut reader = Counted::new(front.chain(rest));
             let mut writer = Counted::new(Vec::new(alloc));
             let ended = serve(&rt, alloc, &mut reader, &mut writer, &mut books, &mut Still);
-            assert_eq!(rt; ended, Ended::Closed, "{cut}");
-            assert_eq!(rt; writer.inner.as_slice(), said.text.as_slice(), "{cut}");
-            assert_eq!(rt; version(&books), said.version, "{cut}");
-            assert_eq!(rt; entries(&books), 1, "{cut}");
+            same_at(&rt, ended, Ended::Closed, &cut);
+            same_at(&rt, writer.inner.as_slice(), said.text.as_slice(), &cut);
+            same_at(&rt, version(&books), said.version, &cut);
+            same_at(&rt, entries(&books), 1, &cut);
         }
     }
     Ok(())
@@ -91,12 +92,12 @@ fn inputs_that_end_early_do_nothing(rt: HostRuntime) -> Result<(), Fail> {
             } else {
                 Ended::Truncated
             };
-            assert_eq!(rt; ended, expected, "{end}");
-            assert!(rt; written.is_empty(), "{end}");
+            same_at(&rt, ended, expected, &end);
+            is_true_at(&rt, written.is_empty(), &end);
             let after = books.services.first().map(|named| named.book.read(MOMENT));
-            assert_eq!(rt; after, before, "{end}");
+            same_at(&rt, after, before, &end);
         }
-        assert_eq!(rt; entries(&books), 0);
+        same(&rt, entries(&books), 0);
     }
     Ok(())
 }
@@ -150,19 +151,20 @@ fn failed_reads_leave_the_whole_messages(rt: HostRuntime) -> Result<(), Fail> {
             } else {
                 (0, false)
             };
-            assert_eq!(rt; Some(written.as_slice()), said.text.get(..text), "{reads}");
-            assert_eq!(rt; entries(&books), u64::from(applied), "{reads}");
-            assert_eq!(rt;
+            same_at(&rt, Some(written.as_slice()), said.text.get(..text), &reads);
+            same_at(&rt, entries(&books), u64::from(applied), &reads);
+            same_at(
+                &rt,
                 version(&books),
                 if applied { said.version } else { 1 },
-                "{reads}"
+                &reads,
             );
             if reads > all {
-                assert_eq!(rt; ended, Ended::Closed, "{reads}");
-                assert_eq!(rt; failures, (0, 0), "{reads}");
+                same_at(&rt, ended, Ended::Closed, &reads);
+                same_at(&rt, failures, (0, 0), &reads);
             } else {
-                assert_eq!(rt; ended, Ended::ReadFailed, "{reads}");
-                assert_eq!(rt; failures, (1, 0), "{reads}");
+                same_at(&rt, ended, Ended::ReadFailed, &reads);
+                same_at(&rt, failures, (1, 0), &reads);
             }
         }
         // In one piece: the first read fails, or the one behind all messages.
@@ -176,12 +178,13 @@ fn failed_reads_leave_the_whole_messages(rt: HostRuntime) -> Result<(), Fail> {
                 4_096,
                 (reads, u64::MAX),
             );
-            assert_eq!(rt; ended, Ended::ReadFailed, "{reads}");
-            assert_eq!(rt; entries(&books), reads, "{reads}");
-            assert_eq!(rt;
+            same_at(&rt, ended, Ended::ReadFailed, &reads);
+            same_at(&rt, entries(&books), reads, &reads);
+            same_at(
+                &rt,
                 written.len(),
                 if reads == 0 { 0 } else { said.text.len() },
-                "{reads}"
+                &reads,
             );
         }
     }
@@ -204,19 +207,20 @@ fn failed_writes_leave_a_beginning(rt: HostRuntime) -> Result<(), Fail> {
                 1,
                 calls,
             );
-            assert_eq!(rt;
+            same_at(
+                &rt,
                 Some(written.as_slice()),
                 said.text.get(..writes),
-                "{writes}"
+                &writes,
             );
-            assert_eq!(rt; entries(&books), 1, "{writes}");
-            assert_eq!(rt; version(&books), said.version, "{writes}");
+            same_at(&rt, entries(&books), 1, &writes);
+            same_at(&rt, version(&books), said.version, &writes);
             if writes < said.text.len() {
-                assert_eq!(rt; ended, Ended::WriteFailed, "{writes}");
-                assert_eq!(rt; failures, (0, 1), "{writes}");
+                same_at(&rt, ended, Ended::WriteFailed, &writes);
+                same_at(&rt, failures, (0, 1), &writes);
             } else {
-                assert_eq!(rt; ended, Ended::Closed, "{writes}");
-                assert_eq!(rt; failures, (0, 0), "{writes}");
+                same_at(&rt, ended, Ended::Closed, &writes);
+                same_at(&rt, failures, (0, 0), &writes);
             }
         }
         // An answer a write.
@@ -229,9 +233,9 @@ fn failed_writes_leave_a_beginning(rt: HostRuntime) -> Result<(), Fail> {
             4_096,
             (u64::MAX, 0),
         );
-        assert_eq!(rt; ended, Ended::WriteFailed);
+        same(&rt, ended, Ended::WriteFailed);
         assert!(rt; written.is_empty());
-        assert_eq!(rt; entries(&books), 1);
+        same(&rt, entries(&books), 1);
     }
     Ok(())
 }
@@ -250,11 +254,11 @@ fn writes_that_take_nothing_fail(rt: HostRuntime) -> Result<(), Fail> {
             0,
             calls,
         );
-        assert_eq!(rt; ended, Ended::WriteFailed);
+        same(&rt, ended, Ended::WriteFailed);
         assert!(rt; written.is_empty());
-        assert_eq!(rt; failures, (0, 1));
-        assert_eq!(rt; entries(&books), 1);
-        assert_eq!(rt; version(&books), said.version);
+        same(&rt, failures, (0, 1));
+        same(&rt, entries(&books), 1);
+        same(&rt, version(&books), said.version);
     }
     Ok(())
 }

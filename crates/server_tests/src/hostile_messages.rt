@@ -1,4 +1,5 @@
 //! Heads and bodies at their limits, heads of real clients, and messages in other forms.
+use crate::checks::{same, same_at};
 use crate::fixtures::{ACQUIRE, ACQUIRED, INSTALL, INSTALLED, entries, pay, served, version};
 use http_front::{Books, Ended};
 use std::alloc::{AllocError, Global};
@@ -47,8 +48,8 @@ fn is_answered(
     end: Ended,
 ) {
     let (ended, written) = served(rt, alloc, books, input.as_bytes());
-    assert_eq!(rt; written.as_slice(), text.as_bytes(), "{input}");
-    assert_eq!(rt; ended, end, "{input}");
+    same_at(rt, written.as_slice(), text.as_bytes(), &input);
+    same_at(rt, ended, end, &input);
 }
 
 #[test]
@@ -65,7 +66,11 @@ fn heads_at_the_limits(rt: HostRuntime) -> Result<(), Fail> {
         let mut books = pay(&rt, alloc)?;
         let head = long_head(alloc, size, fields)?;
         is_answered(&rt, &mut books, alloc, head.as_str(), text, end);
-        assert_eq!(rt; entries(&books), if end == Ended::Closed { 1 } else { 0 });
+        same(
+            &rt,
+            entries(&books),
+            if end == Ended::Closed { 1 } else { 0 },
+        );
     }
     Ok(())
 }
@@ -94,10 +99,11 @@ fn lengths_at_the_limits(rt: HostRuntime) -> Result<(), Fail> {
             "POST /v1/services/pay/acquire HTTP/1.1\r\n{lengths}\r\nabcde"
         )?;
         is_answered(&rt, &mut books, alloc, input.as_str(), text, end);
-        assert_eq!(rt;
+        same_at(
+            &rt,
             entries(&books),
             if end == Ended::Closed { 1 } else { 0 },
-            "{lengths}"
+            &lengths,
         );
     }
     Ok(())
@@ -140,9 +146,9 @@ fn programs_at_the_limits(rt: HostRuntime) -> Result<(), Fail> {
         let mut books = pay(&rt, alloc)?;
         let input = put_program(alloc, slots)?;
         let (ended, written) = served(&rt, alloc, &mut books, &input);
-        assert_eq!(rt; written.as_slice(), text.as_bytes(), "{slots}");
-        assert_eq!(rt; ended, Ended::Closed, "{slots}");
-        assert_eq!(rt; version(&books), version_after, "{slots}");
+        same_at(&rt, written.as_slice(), text.as_bytes(), &slots);
+        same_at(&rt, ended, Ended::Closed, &slots);
+        same_at(&rt, version(&books), version_after, &slots);
     }
     Ok(())
 }
@@ -175,7 +181,7 @@ fn what_is_refused_is_the_last_message(rt: HostRuntime) -> Result<(), Fail> {
             text,
             Ended::Finished,
         );
-        assert_eq!(rt; entries(&books), 0);
+        same(&rt, entries(&books), 0);
     }
     Ok(())
 }
@@ -210,8 +216,8 @@ fn real_clients_are_answered(rt: HostRuntime) -> Result<(), Fail> {
     let mut input = Vec::from_slice(alloc, CURL_PUT.as_bytes())?;
     input.extend_from_slice(INSTALL.get(INSTALL.len() - 16..).expect(&rt, "a program"))?;
     let (ended, written) = served(&rt, alloc, &mut books, &input);
-    assert_eq!(rt; written.as_slice(), INSTALLED.as_bytes());
-    assert_eq!(rt; ended, Ended::Closed);
+    same(&rt, written.as_slice(), INSTALLED.as_bytes());
+    same(&rt, ended, Ended::Closed);
     Ok(())
 }
 
@@ -282,6 +288,6 @@ fn messages_in_one_piece_are_all_answered(rt: HostRuntime) -> Result<(), Fail> {
         text.as_str(),
         Ended::Closed,
     );
-    assert_eq!(rt; entries(&books), 3);
+    same(&rt, entries(&books), 3);
     Ok(())
 }

@@ -7,6 +7,8 @@ mod answer_messages;
 #[cfg(test)]
 mod assembler_commands;
 #[cfg(test)]
+mod checks;
+#[cfg(test)]
 mod commands;
 #[cfg(test)]
 mod failing_connections;

@@ -1,5 +1,6 @@
 //! A server with four workers, whose four clients are connected at the same time. The client that connected last asks
 //! first.
+use crate::checks::{is_true_at, same};
 use counted_io::Counted;
 use sidecar_server::{Status, SystemClock, serve_file};
 use std::alloc::Global;
@@ -143,7 +144,7 @@ where
 fn four_workers_serve_at_once(rt: HostRuntime) -> Result<(), Fail> {
     let alloc = rt.alloc();
     let (status, answers) = serve_and_call(&rt, alloc);
-    assert_eq!(rt; status, Status::Done);
+    same(&rt, status, Status::Done);
     let Answers { acquired, journal } = answers?;
     // All ask the same service: the tickets are given in the order of asking.
     assert_eq!(rt; acquired.len(), 4);
@@ -152,7 +153,7 @@ fn four_workers_serve_at_once(rt: HostRuntime) -> Result<(), Fail> {
         let text = format!(in alloc;
             "HTTP/1.1 200 OK\r\nContent-Type: application/json\r\nContent-Length: 41\r\n\r\n{{\"state\":\"CLOSED\",\"ticket\":{ticket},\"version\":1}}"
         )?;
-        assert_eq!(rt; answer.as_slice(), text.as_bytes());
+        same(&rt, answer.as_slice(), text.as_bytes());
     }
     // Each worker has a seat of its own.
     let Ok(journal) = str::from_utf8(&journal) else {
@@ -160,7 +161,7 @@ fn four_workers_serve_at_once(rt: HostRuntime) -> Result<(), Fail> {
     };
     for seat in 1..=4 {
         let made = format!(in alloc; "\"seat\":{seat}")?;
-        assert!(rt; journal.contains(made.as_str()), "{journal}");
+        is_true_at(&rt, journal.contains(made.as_str()), &journal);
     }
     Ok(())
 }

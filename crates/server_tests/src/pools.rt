@@ -2,6 +2,7 @@
 //! the thread that starts the workers is all clients.
 ghost use Rattle.std.specs.Prelude.{◌≡◌};
 
+use crate::checks::{is_true, same};
 use book::{Book, Config, ConfigParts};
 use http_front::{Books, Clock, NamedBook};
 use http_pool::{Worker, pool, serve_connections};
@@ -101,18 +102,20 @@ fn workers_share_the_connections(rt: HostRuntime) -> Result<(), Fail> {
     let mut answered: u64 = 0;
     for (place, worker) in workers.iter().enumerate() {
         let made = entries(&worker.answerer);
-        assert_eq!(rt;
+        same(
+            &rt,
             worker.clock.times,
-            (place as u64).saturating_mul(100).saturating_add(made)
+            (place as u64).saturating_mul(100).saturating_add(made),
         );
         answered = answered.saturating_add(made);
     }
-    assert_eq!(rt; answered, 8);
+    same(&rt, answered, 8);
     for stream in &streams {
         let text = answer(alloc, stream)?;
-        assert!(rt;
+        is_true(
+            &rt,
             text.as_slice()
-                .starts_with(b"HTTP/1.1 200 OK\r\n".as_slice())
+                .starts_with(b"HTTP/1.1 200 OK\r\n".as_slice()),
         );
     }
     Ok(())
@@ -130,7 +133,7 @@ fn a_pool_ends_where_accepting_fails(rt: HostRuntime) -> Result<(), Fail> {
     let workers = pool(&rt, alloc, &listener, 0, workers)?;
     assert_eq!(rt; workers.len(), 2);
     let answered = entries(&workers[0].answerer).saturating_add(entries(&workers[1].answerer));
-    assert_eq!(rt; answered, 1);
+    same(&rt, answered, 1);
     assert!(rt; !answer(alloc, &stream)?.is_empty());
     Ok(())
 }
@@ -147,16 +150,18 @@ fn connections_are_served_one_after_another(rt: HostRuntime) -> Result<(), Fail>
     let mut books = pay(&rt, alloc)?;
     let mut clock = Readings { times: 0 };
     serve_connections(&rt, alloc, &listener, 3, &mut books, &mut clock);
-    assert_eq!(rt; entries(&books), 2);
-    assert_eq!(rt; clock.times, 2);
+    same(&rt, entries(&books), 2);
+    same(&rt, clock.times, 2);
     assert!(rt; answer(alloc, &cut)?.is_empty());
     let text = answer(alloc, &first)?;
-    assert!(rt;
-        text.as_slice().ends_with(b"{\"state\":\"CLOSED\",\"ticket\":1,\"version\":1}".as_slice())
+    is_true(
+        &rt,
+        text.as_slice().ends_with(b"{\"state\":\"CLOSED\",\"ticket\":1,\"version\":1}".as_slice()),
     );
     let text = answer(alloc, &last)?;
-    assert!(rt;
-        text.as_slice().ends_with(b"{\"state\":\"CLOSED\",\"ticket\":2,\"version\":1}".as_slice())
+    is_true(
+        &rt,
+        text.as_slice().ends_with(b"{\"state\":\"CLOSED\",\"ticket\":2,\"version\":1}".as_slice()),
     );
     Ok(())
 }

@@ -2,6 +2,7 @@
 //! and its finish until the report of the other connection was answered.
 ghost use Rattle.std.specs.Prelude.{◌≡◌};
 
+use crate::checks::{is_true, same};
 use book::{Config, ConfigParts, Entry, Event, Reply};
 use desk::{Desk, Gate, Seat};
 use http_desk::SeatedAnswerer;
@@ -175,7 +176,7 @@ fn reports_of_two_workers<
         else {
             return Err(Fail::from("a call is permitted"));
         };
-        assert_eq!(rt; given, ticket);
+        same(rt, given, ticket);
     }
     let gate = OvertakingGate {
         first_looked: Flag::new(),
@@ -190,15 +191,15 @@ fn reports_of_two_workers<
     assert_eq!(rt; workers.len(), 2);
     let workers = pool(rt, alloc, &listener, 2, workers)?;
     assert_eq!(rt; workers.len(), 2);
-    assert!(rt; gate.overtaken.is_raised());
-    assert!(rt; answers(alloc, &held, "\"fate\":\"recorded\"")?);
-    assert!(rt; answers(alloc, &overtaking, "\"fate\":\"recorded\"")?);
+    is_true(rt, gate.overtaken.is_raised());
+    is_true(rt, answers(alloc, &held, "\"fate\":\"recorded\"")?);
+    is_true(rt, answers(alloc, &overtaking, "\"fate\":\"recorded\"")?);
     // Both were recorded, in the order of their finishes.
     let page = desk.page(rt, &mut caller, service, 8, 3);
     let made = page.expect(rt, "entries 3 and 4");
     assert_eq!(rt; made.len(), 2);
-    assert!(rt; finishes(&made[0], 2));
-    assert!(rt; finishes(&made[1], 1));
+    is_true(rt, finishes(&made[0], 2));
+    is_true(rt, finishes(&made[1], 1));
     Ok(())
 }
 

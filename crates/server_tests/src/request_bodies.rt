@@ -1,4 +1,5 @@
 //! What bodies ask for, row by row.
+use crate::checks::{is_true, same};
 use book::State;
 use http_answers::body_asks;
 use http_routes::Route;
@@ -23,15 +24,15 @@ fn asked(
 fn other_routes_ignore_their_body(rt: HostRuntime) {
     for body in [b"".as_slice(), b"{}", b"{", b"\xff"] {
         let acquire = asked(&rt, rt.alloc(), Route::Acquire, None, body);
-        assert!(rt; matches!(acquire, Ok(Request::Acquire)));
+        is_true(&rt, matches!(acquire, Ok(Request::Acquire)));
         let reset = asked(&rt, rt.alloc(), Route::Reset, None, body);
-        assert!(rt; matches!(reset, Ok(Request::Reset)));
+        is_true(&rt, matches!(reset, Ok(Request::Reset)));
         let cut = asked(&rt, rt.alloc(), Route::Cut, None, body);
-        assert!(rt; matches!(cut, Ok(Request::Cut)));
+        is_true(&rt, matches!(cut, Ok(Request::Cut)));
         let read = asked(&rt, rt.alloc(), Route::State, None, body);
-        assert!(rt; matches!(read, Ok(Request::Read)));
+        is_true(&rt, matches!(read, Ok(Request::Read)));
         let page = asked(&rt, rt.alloc(), Route::Journal, Some("7"), body);
-        assert!(rt; matches!(page, Ok(Request::Page(7))));
+        is_true(&rt, matches!(page, Ok(Request::Page(7))));
     }
 }
 
@@ -44,8 +45,8 @@ fn programs_are_their_body(rt: HostRuntime) {
         b"{}",
     ] {
         match asked(&rt, rt.alloc(), Route::Program, None, body) {
-            Ok(Request::Install(bytes)) => assert_eq!(rt; bytes.as_slice(), body),
-            _ => assert!(rt; false),
+            Ok(Request::Install(bytes)) => same(&rt, bytes.as_slice(), body),
+            _ => is_true(&rt, false),
         }
     }
 }
@@ -56,10 +57,10 @@ fn reports_name_ticket_and_outcome(rt: HostRuntime) {
     let found = asked(&rt, rt.alloc(), Route::Report, None, body);
     match &found {
         Ok(Request::Report(report)) => {
-            assert_eq!(rt; report.ticket, 3);
-            assert_eq!(rt; report.outcome.duration(), 7);
+            same(&rt, report.ticket, 3);
+            same(&rt, report.outcome.duration(), 7);
         }
-        _ => assert!(rt; false),
+        _ => is_true(&rt, false),
     }
 }
 
@@ -67,10 +68,13 @@ fn reports_name_ticket_and_outcome(rt: HostRuntime) {
 fn releases_and_transitions_are_read(rt: HostRuntime) {
     let body = b"{\"ticket\":18446744073709551615,\"outcome\":null}".as_slice();
     let release = asked(&rt, rt.alloc(), Route::Release, None, body);
-    assert!(rt; matches!(release, Ok(Request::Release(u64::MAX))));
+    is_true(&rt, matches!(release, Ok(Request::Release(u64::MAX))));
     let body = b" {\"state\":\"HALF_OPEN\",\"ticket\":1}\r\n".as_slice();
     let transition = asked(&rt, rt.alloc(), Route::Transition, None, body);
-    assert!(rt; matches!(transition, Ok(Request::Move(State::HalfOpen))));
+    is_true(
+        &rt,
+        matches!(transition, Ok(Request::Move(State::HalfOpen))),
+    );
 }
 
 #[test]
@@ -85,7 +89,7 @@ fn bodies_that_are_no_json_are_refused_first(rt: HostRuntime) {
             b"\"\xff\"",
         ] {
             let refused = asked(&rt, rt.alloc(), route, None, body);
-            assert!(rt; matches!(refused, Err(RefusalNumber::BadJson)));
+            is_true(&rt, matches!(refused, Err(RefusalNumber::BadJson)));
         }
         for body in [
             b"{}".as_slice(),
@@ -94,7 +98,7 @@ fn bodies_that_are_no_json_are_refused_first(rt: HostRuntime) {
             b"{\"ticket\":1.0,\"state\":7}",
         ] {
             let refused = asked(&rt, rt.alloc(), route, None, body);
-            assert!(rt; matches!(refused, Err(RefusalNumber::BadValue)));
+            is_true(&rt, matches!(refused, Err(RefusalNumber::BadValue)));
         }
     }
 }
@@ -117,7 +121,7 @@ fn wrong_values_are_refused(rt: HostRuntime) {
         (Route::Transition, b"{\"to\":\"CLOSED\"}"),
     ] {
         let refused = asked(&rt, rt.alloc(), route, None, body);
-        assert!(rt; matches!(refused, Err(RefusalNumber::BadValue)));
+        is_true(&rt, matches!(refused, Err(RefusalNumber::BadValue)));
     }
 }
 
@@ -125,15 +129,15 @@ fn wrong_values_are_refused(rt: HostRuntime) {
 fn pages_begin_at_a_number(rt: HostRuntime) -> Result<(), Fail> {
     for (number, from) in [("0", 0), ("1", 1), ("18446744073709551615", u64::MAX)] {
         match asked(&rt, rt.alloc(), Route::Journal, Some(number), b"") {
-            Ok(Request::Page(found)) => assert_eq!(rt; found, from),
-            _ => assert!(rt; false),
+            Ok(Request::Page(found)) => same(&rt, found, from),
+            _ => is_true(&rt, false),
         }
     }
     for number in ["+1", "-1", "x", "1.0", "18446744073709551616"] {
         let refused = asked(&rt, rt.alloc(), Route::Journal, Some(number), b"");
-        assert!(rt; matches!(refused, Err(RefusalNumber::BadValue)));
+        is_true(&rt, matches!(refused, Err(RefusalNumber::BadValue)));
     }
     let missing = asked(&rt, rt.alloc(), Route::Journal, None, b"");
-    assert!(rt; matches!(missing, Err(RefusalNumber::BadValue)));
+    is_true(&rt, matches!(missing, Err(RefusalNumber::BadValue)));
     Ok(())
 }

@@ -1,6 +1,7 @@
 //! Two seats of a desk, which ask over HTTP in memory.
 ghost use Rattle.std.specs.Prelude.{◌≡◌};
 
+use crate::checks::{is_true, same};
 use book::{Config, ConfigParts};
 use counted_io::Counted;
 use desk::Desk;
@@ -81,30 +82,38 @@ fn asked_by_two<L: Ledger, M: Ledger, R: Wait + Abort>(
     let mut first = SeatedAnswerer::new(rt, alloc, &desk, first, &gate);
     let mut second = SeatedAnswerer::new(rt, alloc, &desk, second, &gate);
     let ticket = "{\"state\":\"CLOSED\",\"ticket\":1,\"version\":1}";
-    assert!(rt; answers(rt, alloc, &mut first, ACQUIRE.as_bytes(), ticket));
-    assert!(rt;
+    is_true(
+        rt,
+        answers(rt, alloc, &mut first, ACQUIRE.as_bytes(), ticket),
+    );
+    is_true(
+        rt,
         answers(
             rt,
             alloc,
             &mut second,
             INSTALL,
-            "{\"budget\":2,\"version\":2}"
-        )
+            "{\"budget\":2,\"version\":2}",
+        ),
     );
     // The ticket's version judges, whatever is current.
     let recorded =
         "{\"fate\":\"recorded\",\"state\":\"CLOSED\",\"steps\":6,\"verdict\":\"failure\",\"version\":1}";
-    assert!(rt; answers(rt, alloc, &mut second, REPORT.as_bytes(), recorded));
-    let spent = "{\"error\":34,\"name\":\"TicketSpent\"}";
-    assert!(rt; answers(rt, alloc, &mut first, REPORT.as_bytes(), spent));
-    let page = served(rt, alloc, &mut first, JOURNAL.as_bytes());
-    assert!(rt;
-        page.as_slice()
-            .ends_with(b"\"seat\":2,\"ticket\":1}],\"next\":4}".as_slice())
+    is_true(
+        rt,
+        answers(rt, alloc, &mut second, REPORT.as_bytes(), recorded),
     );
-    assert!(rt; !first.find("none"));
-    assert_eq!(rt; first.into_seat().count(), 1);
-    assert_eq!(rt; second.into_seat().count(), 2);
+    let spent = "{\"error\":34,\"name\":\"TicketSpent\"}";
+    is_true(rt, answers(rt, alloc, &mut first, REPORT.as_bytes(), spent));
+    let page = served(rt, alloc, &mut first, JOURNAL.as_bytes());
+    is_true(
+        rt,
+        page.as_slice()
+            .ends_with(b"\"seat\":2,\"ticket\":1}],\"next\":4}".as_slice()),
+    );
+    is_true(rt, !first.find("none"));
+    same(rt, first.into_seat().count(), 1);
+    same(rt, second.into_seat().count(), 2);
     Ok(())
 }
 

@@ -1,5 +1,6 @@
 //! Servers on the loopback address. A client connects and asks before its connection is accepted, so that one
 //! thread is both.
+use crate::checks::{is_true, is_true_at, same};
 use crate::fixtures::{ACQUIRE, ACQUIRED};
 use counted_io::Counted;
 use http_front::Clock;
@@ -78,17 +79,21 @@ fn connections_are_served(rt: HostRuntime) -> Result<(), Fail> {
     });
     let mut clock = SystemClock::new(&rt);
     let status = serve_file(&rt, alloc, file.as_bytes(), &mut out, &mut clock);
-    assert_eq!(rt; status, Status::Done);
-    assert_eq!(rt; status.code(), 0);
+    same(&rt, status, Status::Done);
+    same(&rt, status.code(), 0);
     let streams = &out.inner.streams;
     assert_eq!(rt; streams.len(), 3);
-    assert_eq!(rt; answer(alloc, &streams[0])?.as_slice(), ACQUIRED.as_bytes());
+    same(
+        &rt,
+        answer(alloc, &streams[0])?.as_slice(),
+        ACQUIRED.as_bytes(),
+    );
     // A message that is cut short ends its connection alone.
     assert!(rt; answer(alloc, &streams[1])?.is_empty());
     let state = answer(alloc, &streams[2])?;
     let ending =
         b"\"entries\":1,\"failed\":0,\"failureRate\":-1,\"free\":24,\"notPermitted\":0,\"open\":1,\"period\":1,\"slow\":0,\"slowRate\":-1,\"state\":\"CLOSED\",\"total\":0,\"version\":1}";
-    assert!(rt; state.as_slice().ends_with(ending.as_slice()));
+    is_true(&rt, state.as_slice().ends_with(ending.as_slice()));
     Ok(())
 }
 
@@ -111,21 +116,25 @@ fn busy_addresses_are_refused(rt: HostRuntime) -> Result<(), Fail> {
         "{{\"listen\":\"127.0.0.1:{port}\",\"workers\":1,\"connections\":1,\"services\":[{{\"name\":\"pay\"}}]}}"
     )?;
     let (status, text) = refused(&rt, rt.alloc(), &file);
-    assert_eq!(rt; status.code(), 1);
-    assert_eq!(rt; text.as_slice(), b"refused 48 Listen\n".as_slice());
+    same(&rt, status.code(), 1);
+    same(&rt, text.as_slice(), b"refused 48 Listen\n".as_slice());
     Ok(())
 }
 
 #[test]
 fn files_that_cannot_be_used_are_refused(rt: HostRuntime) -> Result<(), Fail> {
     let (status, text) = refused(&rt, rt.alloc(), "{}");
-    assert_eq!(rt; status.code(), 1);
-    assert_eq!(rt; text.as_slice(), b"refused 47 BadConfig\n".as_slice());
+    same(&rt, status.code(), 1);
+    same(&rt, text.as_slice(), b"refused 47 BadConfig\n".as_slice());
     let mut out = Counted::new(Vec::new(rt.alloc()));
     let mut clock = SystemClock::new(&rt);
     let status = serve_path(&rt, rt.alloc(), "no such file", &mut out, &mut clock);
-    assert_eq!(rt; status.code(), 1);
-    assert_eq!(rt; out.inner.as_slice(), b"refused 47 BadConfig\n".as_slice());
+    same(&rt, status.code(), 1);
+    same(
+        &rt,
+        out.inner.as_slice(),
+        b"refused 47 BadConfig\n".as_slice(),
+    );
     Ok(())
 }
 
@@ -134,8 +143,9 @@ fn the_clock_tells_milliseconds(rt: HostRuntime) {
     let mut clock = SystemClock::new(&rt);
     // 2020 to 2200.
     let moment = clock.now_ms();
-    assert!(rt;
+    is_true_at(
+        &rt,
         1_577_836_800_000 < moment && moment < 7_258_118_400_000,
-        "{moment}"
+        &moment,
     );
 }

@@ -1,4 +1,5 @@
 //! Files by hand.
+use crate::checks::{is_true, is_true_at, same, same_at};
 use service_file::{Settings, read_settings};
 use std::alloc::{AllocError, Global};
 use std::test::Fail;
@@ -12,19 +13,19 @@ fn files_are_read(rt: HostRuntime) -> Result<(), Fail> {
     let text =
         "{\"listen\":\"127.0.0.1:8080\",\"workers\":4,\"connections\":0,\"services\":[{\"name\":\"pay\",\"config\":{\"slidingWindowSize\":7},\"program\":\"b700000002000000 9500000000000000\"},{\"name\":\"a-1_z\"}]}";
     let settings = read(rt.alloc(), text)?.expect(&rt, "a file");
-    assert_eq!(rt; settings.listen.port(), 8080);
-    assert!(rt; settings.listen.is_ipv4());
-    assert_eq!(rt; settings.workers, 4);
-    assert_eq!(rt; settings.connections, 0);
+    same(&rt, settings.listen.port(), 8080);
+    is_true(&rt, settings.listen.is_ipv4());
+    same(&rt, settings.workers, 4);
+    same(&rt, settings.connections, 0);
     assert_eq!(rt; settings.services.len(), 2);
     let pay = &settings.services[0];
-    assert_eq!(rt; pay.name.as_str(), "pay");
-    assert_eq!(rt; pay.config.parts().sliding_window_size, 7);
-    assert_eq!(rt; pay.program.budget(), 2);
+    same(&rt, pay.name.as_str(), "pay");
+    same(&rt, pay.config.parts().sliding_window_size, 7);
+    same(&rt, pay.program.budget(), 2);
     let other = &settings.services[1];
-    assert_eq!(rt; other.name.as_str(), "a-1_z");
-    assert_eq!(rt; other.config.parts().sliding_window_size, 100);
-    assert_eq!(rt; other.program.budget(), 6);
+    same(&rt, other.name.as_str(), "a-1_z");
+    same(&rt, other.config.parts().sliding_window_size, 100);
+    same(&rt, other.program.budget(), 6);
     Ok(())
 }
 
@@ -33,8 +34,8 @@ fn addresses_may_be_of_version_6(rt: HostRuntime) -> Result<(), Fail> {
     let text =
         "{\"listen\":\"[::1]:0\",\"workers\":64,\"connections\":18446744073709551615,\"services\":[{\"name\":\"a\"}]}";
     let settings = read(rt.alloc(), text)?.expect(&rt, "a file");
-    assert!(rt; settings.listen.is_ipv6());
-    assert_eq!(rt; settings.connections, u64::MAX);
+    is_true(&rt, settings.listen.is_ipv6());
+    same(&rt, settings.connections, u64::MAX);
     Ok(())
 }
 
@@ -65,7 +66,7 @@ fn files_that_cannot_be_used_are_none(rt: HostRuntime) -> Result<(), Fail> {
         "{\"listen\":\"127.0.0.1:8080\",\"workers\":4,\"connections\":0,\"services\":[{\"name\":\"pay\",\"program\":\"b\"}]}",
         "{\"listen\":\"127.0.0.1:8080\",\"workers\":4,\"connections\":0,\"services\":[{\"name\":\"pay\",\"program\":\"9500000000000000\"}]}",
     ] {
-        assert!(rt; read(rt.alloc(), text)?.is_none(), "{text}");
+        is_true_at(&rt, read(rt.alloc(), text)?.is_none(), &text);
     }
     Ok(())
 }
@@ -90,7 +91,7 @@ fn services_and_names_have_a_limit(rt: HostRuntime) -> Result<(), Fail> {
     let alloc = rt.alloc();
     for (count, size, there) in [(64, 2, true), (65, 2, false), (1, 64, true), (1, 65, false)] {
         let text = many(alloc, count, size)?;
-        assert_eq!(rt; read(alloc, &text)?.is_some(), there, "{count} {size}");
+        same_at(&rt, read(alloc, &text)?.is_some(), there, (&count, &size));
     }
     Ok(())
 }

@@ -1,4 +1,5 @@
 //! Messages with their answers, over a service under the name `pay`.
+use crate::checks::{is_true, same, same_at};
 use crate::fixtures::{
     ACQUIRE, ACQUIRED, INSTALL, INSTALLED, JOURNAL, ONE_ENTRY, pay, served, version,
 };
@@ -48,8 +49,8 @@ fn messages_are_answered(rt: HostRuntime) -> Result<(), Fail> {
     ] {
         let mut books = pay(&rt, alloc)?;
         let (ended, written) = served(&rt, alloc, &mut books, input.as_bytes());
-        assert_eq!(rt; written.as_slice(), text.as_bytes(), "{input}");
-        assert_eq!(rt; ended, end, "{input}");
+        same_at(&rt, written.as_slice(), text.as_bytes(), &input);
+        same_at(&rt, ended, end, &input);
     }
     Ok(())
 }
@@ -61,8 +62,8 @@ fn journals_are_paged(rt: HostRuntime) -> Result<(), Fail> {
     let input = format!(in alloc; "{ACQUIRE}{JOURNAL}")?;
     let text = format!(in alloc; "{ACQUIRED}{ONE_ENTRY}")?;
     let (ended, written) = served(&rt, alloc, &mut books, input.as_bytes());
-    assert_eq!(rt; written.as_slice(), text.as_bytes());
-    assert_eq!(rt; ended, Ended::Closed);
+    same(&rt, written.as_slice(), text.as_bytes());
+    same(&rt, ended, Ended::Closed);
     Ok(())
 }
 
@@ -72,15 +73,15 @@ fn programs_are_installed_whole(rt: HostRuntime) -> Result<(), Fail> {
     let mut books = pay(&rt, alloc)?;
     let cut = INSTALL.get(..INSTALL.len() - 1).expect(&rt, "a byte");
     let (ended, written) = served(&rt, alloc, &mut books, cut);
-    assert_eq!(rt; ended, Ended::Truncated);
+    same(&rt, ended, Ended::Truncated);
     assert!(rt; written.is_empty());
     let state = b"GET /v1/services/pay/state HTTP/1.1\r\n\r\n".as_slice();
     let (_, written) = served(&rt, alloc, &mut books, state);
-    assert!(rt; written.ends_with(b"\"total\":0,\"version\":1}"));
+    is_true(&rt, written.ends_with(b"\"total\":0,\"version\":1}"));
     let (ended, written) = served(&rt, alloc, &mut books, INSTALL);
-    assert_eq!(rt; ended, Ended::Closed);
-    assert_eq!(rt; written.as_slice(), INSTALLED.as_bytes());
-    assert_eq!(rt; version(&books), 2);
+    same(&rt, ended, Ended::Closed);
+    same(&rt, written.as_slice(), INSTALLED.as_bytes());
+    same(&rt, version(&books), 2);
     Ok(())
 }
 
@@ -91,10 +92,10 @@ fn refused_calls_are_unavailable(rt: HostRuntime) -> Result<(), Fail> {
     let forced =
         b"POST /v1/services/pay/transition HTTP/1.1\r\nContent-Length: 23\r\n\r\n{\"state\":\"FORCED_OPEN\"}".as_slice();
     let (ended, _) = served(&rt, alloc, &mut books, forced);
-    assert_eq!(rt; ended, Ended::Closed);
+    same(&rt, ended, Ended::Closed);
     let (_, written) = served(&rt, alloc, &mut books, ACQUIRE.as_bytes());
     let text =
         b"HTTP/1.1 503 Service Unavailable\r\nContent-Type: application/json\r\nContent-Length: 38\r\n\r\n{\"error\":31,\"name\":\"CallNotPermitted\"}".as_slice();
-    assert_eq!(rt; written.as_slice(), text);
+    same(&rt, written.as_slice(), text);
     Ok(())
 }

@@ -1,4 +1,5 @@
 //! Inputs that are served over memory, whole, in pieces, and with calls that fail.
+use crate::checks::{same, same_at};
 use crate::fixtures::FailsAt;
 use counted_io::Counted;
 use http_messages::Fault;
@@ -93,7 +94,7 @@ fn served(
         &mut clock,
     );
     let failures = reader.failures.saturating_add(writer.failures);
-    assert_eq!(rt; asked.times, clock.times);
+    same(rt, asked.times, clock.times);
     (ended, writer.inner.inner, asked.times, failures)
 }
 
@@ -147,10 +148,10 @@ fn inputs_are_served(rt: HostRuntime) -> Result<(), Fail> {
                 1_000,
                 1_000,
             );
-            assert_eq!(rt; ended, end, "{input}");
-            assert_eq!(rt; written.as_slice(), text.as_bytes(), "{input}");
-            assert_eq!(rt; asked, times, "{input}");
-            assert_eq!(rt; failures, 0, "{input}");
+            same_at(&rt, ended, end, &input);
+            same_at(&rt, written.as_slice(), text.as_bytes(), &input);
+            same_at(&rt, asked, times, &input);
+            same_at(&rt, failures, 0, &input);
         }
     }
     Ok(())
@@ -167,10 +168,10 @@ fn long_bodies_are_whole(rt: HostRuntime) -> Result<(), Fail> {
     }
     input.extend_from_slice(b"GET /b HTTP/1.1\r\n\r\n")?;
     let (ended, written, asked, _) = served(&rt, rt.alloc(), &input, 1_000, 1_000, 1_000);
-    assert_eq!(rt; ended, Ended::Closed);
-    assert_eq!(rt; asked, 2);
+    same(&rt, ended, Ended::Closed);
+    same(&rt, asked, 2);
     assert_eq!(rt; written.len(), 65_541);
-    assert_eq!(rt; written.last().copied(), Some(b'\n'));
+    same(&rt, written.last().copied(), Some(b'\n'));
     Ok(())
 }
 
@@ -186,10 +187,10 @@ fn failed_reads_leave_whole_messages(rt: HostRuntime) {
             61 => (b"/a\n/bxyz\n".as_slice(), 2, Ended::ReadFailed, 1),
             _ => (b"/a\n/bxyz\n".as_slice(), 2, Ended::Closed, 0),
         };
-        assert_eq!(rt; ended, end, "{reads}");
-        assert_eq!(rt; written.as_slice(), text, "{reads}");
-        assert_eq!(rt; asked, times, "{reads}");
-        assert_eq!(rt; failures, failed, "{reads}");
+        same_at(&rt, ended, end, &reads);
+        same_at(&rt, written.as_slice(), text, &reads);
+        same_at(&rt, asked, times, &reads);
+        same_at(&rt, failures, failed, &reads);
     }
 }
 
@@ -204,14 +205,15 @@ fn failed_writes_leave_a_beginning(rt: HostRuntime) {
             3..9 => (2, Ended::WriteFailed, 1),
             _ => (2, Ended::Closed, 0),
         };
-        assert_eq!(rt; ended, end, "{writes}");
-        assert_eq!(rt;
+        same_at(&rt, ended, end, &writes);
+        same_at(
+            &rt,
             Some(written.as_slice()),
             whole.get(..writes as usize),
-            "{writes}"
+            &writes,
         );
-        assert_eq!(rt; asked, times, "{writes}");
-        assert_eq!(rt; failures, failed, "{writes}");
+        same_at(&rt, asked, times, &writes);
+        same_at(&rt, failures, failed, &writes);
     }
 }
 
@@ -225,8 +227,8 @@ fn writes_of_nothing_fail(rt: HostRuntime) {
         1_000,
         5,
     );
-    assert_eq!(rt; ended, Ended::WriteFailed);
+    same(&rt, ended, Ended::WriteFailed);
     assert!(rt; written.is_empty());
-    assert_eq!(rt; asked, 1);
-    assert_eq!(rt; failures, 1);
+    same(&rt, asked, 1);
+    same(&rt, failures, 1);
 }

@@ -2,6 +2,8 @@
 #![tactic(auto)]
 
 mod asking;
+#[cfg(test)]
+mod checks;
 mod request;
 mod response;
 #[cfg(test)]

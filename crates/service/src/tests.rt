@@ -1,4 +1,5 @@
 //! That each request is answered with ample memory.
+use crate::checks::{is_true, same};
 use crate::{Report, Request, Response, ask};
 use book::{Book, Config, ConfigParts, Fate, Reply, State};
 use bpf_profile::Verdict;
@@ -82,7 +83,7 @@ fn events_are_replied_to(rt: HostRuntime) -> Result<(), Fail> {
             },
         ),
     ] {
-        assert_eq!(rt; reply_to(alloc, &mut book, request), Some(reply));
+        same(&rt, reply_to(alloc, &mut book, request), Some(reply));
     }
     Ok(())
 }
@@ -100,8 +101,8 @@ fn refused_programs_change_nothing(rt: HostRuntime) -> Result<(), Fail> {
         slot: 0,
         number: RefusalNumber::UnsetRegister,
     };
-    assert_eq!(rt; refused, Some(unset));
-    assert_eq!(rt; book.last_number(), 0);
+    same(&rt, refused, Some(unset));
+    same(&rt, book.last_number(), 0);
     Ok(())
 }
 
@@ -118,14 +119,17 @@ fn journals_are_read_and_cut(rt: HostRuntime) {
     let alloc = rt.alloc();
     let mut book = book(&rt, alloc);
     for state in [State::Open, State::Closed] {
-        assert!(rt; reply_to(alloc, &mut book, Request::Move(state)).is_some());
+        is_true(
+            &rt,
+            reply_to(alloc, &mut book, Request::Move(state)).is_some(),
+        );
     }
     let reading = match ask(alloc, &mut book, 1, 5, Request::Read) {
         Response::Reading(reading) => Some(reading.entries),
         _ => None,
     };
-    assert_eq!(rt; reading, Some(2));
-    assert_eq!(rt; entries_of(alloc, &mut book, Request::Page(2)), Some(1));
-    assert_eq!(rt; entries_of(alloc, &mut book, Request::Cut), Some(2));
-    assert_eq!(rt; entries_of(alloc, &mut book, Request::Page(1)), Some(0));
+    same(&rt, reading, Some(2));
+    same(&rt, entries_of(alloc, &mut book, Request::Page(2)), Some(1));
+    same(&rt, entries_of(alloc, &mut book, Request::Cut), Some(2));
+    same(&rt, entries_of(alloc, &mut book, Request::Page(1)), Some(0));
 }
