@@ -3,6 +3,8 @@
 #![tactic(auto)]
 
 mod answer;
+#[cfg(test)]
+mod checks;
 mod entries;
 pub mod laws;
 mod names;

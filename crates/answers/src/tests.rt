@@ -1,4 +1,5 @@
 //! That answers are written with ample memory, and their text and statuses, row by row.
+use crate::checks::same;
 use crate::{Answer, entry_text, page_text};
 use book::{Book, Config, ConfigParts, Event, Fate, Reading, Reply, State};
 use bpf_profile::Verdict;
@@ -102,8 +103,8 @@ fn replies_are_written(rt: HostRuntime) -> Result<(), Fail> {
         ),
     ] {
         let answer = Answer::Reply(reply);
-        assert_eq!(rt; answer.status(), status);
-        assert_eq!(rt; answer.body(rt.alloc())?.as_str(), body);
+        same(&rt, answer.status(), status);
+        same(&rt, answer.body(rt.alloc())?.as_str(), body);
     }
     Ok(())
 }
@@ -130,8 +131,8 @@ fn cuts_and_refused_programs_are_written(rt: HostRuntime) -> Result<(), Fail> {
             "{\"error\":23,\"name\":\"OutOfMemory\",\"slot\":0}",
         ),
     ] {
-        assert_eq!(rt; answer.status(), status);
-        assert_eq!(rt; answer.body(rt.alloc())?.as_str(), body);
+        same(&rt, answer.status(), status);
+        same(&rt, answer.body(rt.alloc())?.as_str(), body);
     }
     Ok(())
 }
@@ -154,10 +155,11 @@ fn readings_are_written(rt: HostRuntime) -> Result<(), Fail> {
         entries: u64::MAX,
     };
     let answer = Answer::Reading(reading);
-    assert_eq!(rt; answer.status(), 200);
-    assert_eq!(rt;
+    same(&rt, answer.status(), 200);
+    same(
+        &rt,
         answer.body(rt.alloc())?.as_str(),
-        "{\"budget\":6,\"entries\":18446744073709551615,\"failed\":1,\"failureRate\":33,\"free\":23,\"notPermitted\":4,\"open\":2,\"period\":1,\"slow\":0,\"slowRate\":-1,\"state\":\"CLOSED\",\"total\":3,\"version\":1}"
+        "{\"budget\":6,\"entries\":18446744073709551615,\"failed\":1,\"failureRate\":33,\"free\":23,\"notPermitted\":4,\"open\":2,\"period\":1,\"slow\":0,\"slowRate\":-1,\"state\":\"CLOSED\",\"total\":3,\"version\":1}",
     );
     Ok(())
 }
@@ -190,7 +192,7 @@ fn entries_are_written(rt: HostRuntime) -> Result<(), Fail> {
     let entries = book.entries(1);
     assert_eq!(rt; entries.len(), rows.len());
     for (entry, row) in entries.iter().zip(rows) {
-        assert_eq!(rt; entry_text(alloc, entry)?.as_str(), row);
+        same(&rt, entry_text(alloc, entry)?.as_str(), row);
     }
     Ok(())
 }
@@ -203,21 +205,27 @@ fn pages_are_written(rt: HostRuntime) -> Result<(), Fail> {
     let mut book = Book::open(alloc, config, classifier)?;
     book.apply(1, 7, Event::Acquire);
     let first = page_text(alloc, book.entries(1), 1)?;
-    assert_eq!(rt;
+    same(
+        &rt,
         first.as_str(),
-        "{\"entries\":[{\"event\":\"acquire\",\"moment\":7,\"number\":1,\"reply\":{\"state\":\"CLOSED\",\"ticket\":1,\"version\":1},\"seat\":1}],\"next\":2}"
+        "{\"entries\":[{\"event\":\"acquire\",\"moment\":7,\"number\":1,\"reply\":{\"state\":\"CLOSED\",\"ticket\":1,\"version\":1},\"seat\":1}],\"next\":2}",
     );
     assert_eq!(rt; first.len(), 123);
     book.apply(2, 8, Event::Release(1));
-    assert_eq!(rt;
+    same(
+        &rt,
         page_text(alloc, book.entries(1), 1)?.as_str(),
-        "{\"entries\":[{\"event\":\"acquire\",\"moment\":7,\"number\":1,\"reply\":{\"state\":\"CLOSED\",\"ticket\":1,\"version\":1},\"seat\":1},{\"event\":\"release\",\"moment\":8,\"number\":2,\"reply\":{\"fate\":\"released\",\"state\":\"CLOSED\"},\"seat\":2,\"ticket\":1}],\"next\":3}"
+        "{\"entries\":[{\"event\":\"acquire\",\"moment\":7,\"number\":1,\"reply\":{\"state\":\"CLOSED\",\"ticket\":1,\"version\":1},\"seat\":1},{\"event\":\"release\",\"moment\":8,\"number\":2,\"reply\":{\"fate\":\"released\",\"state\":\"CLOSED\"},\"seat\":2,\"ticket\":1}],\"next\":3}",
     );
     for (from, text) in [
         (3, "{\"entries\":[],\"next\":3}"),
         (u64::MAX, "{\"entries\":[],\"next\":18446744073709551615}"),
     ] {
-        assert_eq!(rt; page_text(alloc, book.entries(from), from)?.as_str(), text);
+        same(
+            &rt,
+            page_text(alloc, book.entries(from), from)?.as_str(),
+            text,
+        );
     }
     Ok(())
 }
