@@ -1,4 +1,4 @@
-use Rattle.std.proofs.Common.{◌≡◌, ◌≤◌, length, arith}
+use Rattle.std.proofs.Common.{◌≤◌, length, arith}
 use Rattle.abs_regs.specs.Values.{joined_value}
 use Rattle.abs_regs.proofs.Joins.{joined_none, joined_more, joined_all}
 use Rattle.abs_regs.proofs.registers.join_values.Goals as goal
