@@ -5,13 +5,9 @@
 mod address;
 mod arithmetic;
 mod branches;
-#[cfg(test)]
-mod checks;
 pub mod laws;
 mod operands;
 mod registers;
-#[cfg(test)]
-mod tests;
 mod value;
 
 pub use address::Address;

@@ -3,12 +3,8 @@
 #![tactic(auto)]
 
 mod calls;
-#[cfg(test)]
-mod checks;
 pub mod laws;
 mod state;
-#[cfg(test)]
-mod tests;
 mod transfer;
 
 pub use state::AbsState;

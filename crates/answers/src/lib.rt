@@ -3,14 +3,10 @@
 #![tactic(auto)]
 
 mod answer;
-#[cfg(test)]
-mod checks;
 mod entries;
 pub mod laws;
 mod names;
 mod pages;
-#[cfg(test)]
-mod tests;
 mod values;
 
 pub use answer::Answer;

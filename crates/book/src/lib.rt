@@ -4,11 +4,7 @@
 
 mod books;
 mod changes;
-#[cfg(test)]
-mod checks;
 mod cutting;
-#[cfg(test)]
-mod event_tests;
 mod events;
 pub mod laws;
 mod machine;
@@ -16,8 +12,6 @@ mod paging;
 mod plans;
 mod service;
 mod settling;
-#[cfg(test)]
-mod tests;
 
 pub use books::Book;
 pub use events::{Entry, Event};

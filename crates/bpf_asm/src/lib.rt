@@ -14,17 +14,11 @@
 
 mod arguments;
 mod assembly;
-#[cfg(test)]
-mod checks;
 mod disassembly;
 mod error;
 pub mod laws;
 mod printing;
 mod reading;
-#[cfg(test)]
-mod table;
-#[cfg(test)]
-mod tests;
 mod tokens;
 mod words;
 

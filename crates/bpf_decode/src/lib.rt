@@ -1,8 +1,6 @@
 //! Programs of the BPF profile as bytes, slots and instructions, both ways, with the laws of both ways.
 #![tactic(auto)]
 
-#[cfg(test)]
-mod checks;
 mod encoding;
 mod error;
 mod instructions;
@@ -17,6 +15,3 @@ pub use encoding::Encoded;
 pub use error::DecodeError;
 pub use instructions::Decoded;
 pub use program::Program;
-
-#[cfg(test)]
-mod tests;

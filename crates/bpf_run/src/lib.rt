@@ -3,18 +3,12 @@
 
 mod access;
 mod calls;
-#[cfg(test)]
-mod checks;
 mod execution;
-#[cfg(test)]
-mod instruction_tests;
 mod machine;
 mod memory;
 mod registers;
 mod stackless;
 mod step;
-#[cfg(test)]
-mod tests;
 mod work;
 
 pub use bpf_profile::Verdict;

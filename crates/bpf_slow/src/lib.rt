@@ -5,8 +5,6 @@
 mod arithmetic;
 mod calls;
 mod cells;
-#[cfg(test)]
-mod checks;
 mod ending;
 mod jumps;
 pub mod laws;
@@ -15,8 +13,6 @@ mod memory;
 mod progress;
 mod registers;
 mod step;
-#[cfg(test)]
-mod tests;
 mod tracing;
 
 pub use bpf_profile::TrapReason;

@@ -3,8 +3,6 @@
 #![tactic(auto)]
 
 mod calls;
-#[cfg(test)]
-mod checks;
 mod counters;
 pub mod laws;
 mod machine;
@@ -12,8 +10,6 @@ mod metrics;
 mod permissions;
 mod rates;
 mod sliding;
-#[cfg(test)]
-mod tests;
 
 pub use machine::Breaker;
 pub use metrics::Metrics;

@@ -2,10 +2,6 @@
 //! wait of 0).
 #![tactic(auto)]
 
-#[cfg(test)]
-mod checks;
 mod places;
-#[cfg(test)]
-mod tests;
 
 pub use places::Bulkhead;

@@ -22,3 +22,8 @@ pub(crate) fn same_at<R: Abort, T: Debug + PartialEq + Drop, A: Debug + Drop>(
 pub(crate) fn is_true<R: Abort>(rt: &R, found: bool) {
     assert!(rt; found);
 }
+
+/// Stops the test where this does not hold, and shows for what. It promises nothing.
+pub(crate) fn is_true_at<R: Abort, A: Debug + Drop>(rt: &R, found: bool, at: A) {
+    assert!(rt; found, "{at:?}");
+}

@@ -7,6 +7,8 @@ mod analysed;
 #[cfg(test)]
 mod arithmetic;
 #[cfg(test)]
+mod assembling;
+#[cfg(test)]
 mod branches;
 #[cfg(test)]
 mod changed;
@@ -17,9 +19,21 @@ mod comparisons;
 #[cfg(test)]
 mod conversions;
 #[cfg(test)]
+mod decoding;
+#[cfg(test)]
 mod domains;
 #[cfg(test)]
 mod edges;
+#[cfg(test)]
+mod encoding;
+#[cfg(test)]
+mod flows;
+#[cfg(test)]
+mod instruction_table;
+#[cfg(test)]
+mod instructions;
+#[cfg(test)]
+mod judging;
 #[cfg(test)]
 mod loads;
 #[cfg(test)]
@@ -27,8 +41,16 @@ mod memory;
 #[cfg(test)]
 mod programs;
 #[cfg(test)]
+mod records;
+#[cfg(test)]
+mod refusal_table;
+#[cfg(test)]
 mod sizes;
 #[cfg(test)]
 mod texts;
 #[cfg(test)]
 mod told;
+#[cfg(test)]
+mod tracing;
+#[cfg(test)]
+mod verifying;

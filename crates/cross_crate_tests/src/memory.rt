@@ -35,11 +35,11 @@ fn both_answer(
 }
 
 /// That after the first lines R1 and R2 are the same word, and differ once R2 is one more.
-fn both_same(
+pub(crate) fn both_same(
     rt: &impl Abort,
     alloc: Global,
     first: &str,
-    steps: u8,
+    steps: u16,
     outcome: &Record,
 ) -> Result<(), Fail> {
     let mut same = String::from_str(alloc, first)?;

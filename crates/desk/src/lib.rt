@@ -3,23 +3,11 @@
 #![tactic(auto)]
 
 mod calls;
-#[cfg(test)]
-mod checks;
 mod closing;
 mod desks;
-#[cfg(test)]
-mod fixtures;
-#[cfg(test)]
-mod gate_tests;
 mod kept;
 mod reports;
-#[cfg(test)]
-mod row_tests;
-#[cfg(test)]
-mod seat_tests;
 mod seats;
-#[cfg(test)]
-mod thread_tests;
 
 pub use closing::Unclosed;
 pub use desks::{Desk, ServiceId};

@@ -3,15 +3,11 @@
 //! and not RFC 9669's.
 #![tactic(auto)]
 
-#[cfg(test)]
-mod checks;
 mod edges;
 mod entered;
 mod error;
 mod faults;
 mod flow;
-#[cfg(test)]
-mod tests;
 
 pub use edges::Successors;
 pub use error::FlowError;

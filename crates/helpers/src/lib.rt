@@ -3,15 +3,11 @@
 #![tactic(auto)]
 
 mod bytes;
-#[cfg(test)]
-mod checks;
 mod fields;
 mod hexadecimal;
 mod reading;
 mod record;
 mod tag;
-#[cfg(test)]
-mod tests;
 mod writer;
 
 pub use reading::BadField;

@@ -2,14 +2,10 @@
 //! body is, what is refused, and whether more is to be read behind.
 #![tactic(auto)]
 
-#[cfg(test)]
-mod checks;
 mod fields;
 mod front;
 pub mod laws;
 mod lengths;
-#[cfg(test)]
-mod tests;
 
 pub use front::{Fault, Front, Head, HeadParser};
 pub use lengths::decimal;

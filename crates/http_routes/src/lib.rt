@@ -2,15 +2,11 @@
 //! which method.
 #![tactic(auto)]
 
-#[cfg(test)]
-mod checks;
 pub mod laws;
 mod matching;
 mod numbers;
 mod paths;
 mod table;
-#[cfg(test)]
-mod tests;
 
 pub use matching::{Destination, Routes};
 pub use numbers::entry_number;

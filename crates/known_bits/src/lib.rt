@@ -6,11 +6,7 @@
 #![tactic(auto)]
 
 mod bitwise;
-#[cfg(test)]
-mod checks;
 mod domain;
 mod known;
-#[cfg(test)]
-mod tests;
 
 pub use known::KnownBits;

@@ -4,12 +4,8 @@
 ghost use Rattle.std.specs.Prelude.{◌≡◌, true, false};
 ghost use Rattle.refusals.specs.Table.{number_of, name_of, status_of, is_answered};
 
-#[cfg(test)]
-mod checks;
 pub mod laws;
 mod refusal_text;
-#[cfg(test)]
-mod tests;
 
 pub use refusal_text::RefusalText;
 

@@ -2,14 +2,10 @@
 //! Each call takes constant time, or time that grows with the logarithm of the number of open tickets.
 #![tactic(auto)]
 
-#[cfg(test)]
-mod checks;
 mod holdings;
 mod installing;
 mod issuing;
 mod programs;
-#[cfg(test)]
-mod tests;
 mod tickets;
 
 pub use holdings::Registry;

@@ -3,17 +3,9 @@
 
 mod answering;
 mod asking;
-#[cfg(test)]
-mod checks;
 mod error;
-#[cfg(test)]
-mod event_tests;
 mod lines;
 mod replaying;
-#[cfg(test)]
-mod service_tests;
-#[cfg(test)]
-mod tests;
 
 pub use error::ReplayError;
 pub use replaying::{Ended, replay};

@@ -2,14 +2,10 @@
 //! states.
 #![tactic(auto)]
 
-#[cfg(test)]
-mod checks;
 mod configurations;
 mod hexadecimal;
 mod programs;
 mod reports;
-#[cfg(test)]
-mod tests;
 mod text;
 mod transitions;
 mod values;

@@ -11,9 +11,13 @@ mod checks;
 #[cfg(test)]
 mod commands;
 #[cfg(test)]
+mod counting;
+#[cfg(test)]
 mod failing_connections;
 #[cfg(test)]
 mod fixtures;
+#[cfg(test)]
+mod heads;
 #[cfg(test)]
 mod hostile_messages;
 #[cfg(test)]
@@ -24,6 +28,8 @@ mod pools;
 mod racing_workers;
 #[cfg(test)]
 mod request_bodies;
+#[cfg(test)]
+mod routes;
 #[cfg(test)]
 mod seats_over_http;
 #[cfg(test)]

@@ -2,12 +2,8 @@
 #![tactic(auto)]
 
 mod asking;
-#[cfg(test)]
-mod checks;
 mod request;
 mod response;
-#[cfg(test)]
-mod tests;
 
 pub use asking::ask;
 pub use request::{Report, Request};

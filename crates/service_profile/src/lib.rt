@@ -3,8 +3,6 @@
 //! (CircuitBreaker and Bulkhead in the Resilience4j documentation).
 #![tactic(auto)]
 
-#[cfg(test)]
-mod checks;
 mod configuration;
 mod decisions;
 pub mod laws;
@@ -14,8 +12,6 @@ mod readings;
 mod replies;
 mod standings;
 mod states;
-#[cfg(test)]
-mod tests;
 mod tickets;
 
 pub use configuration::{BadConfig, Config, ConfigField, ConfigParts, SlidingWindowType};

@@ -4,14 +4,10 @@
 
 mod accesses;
 mod cell;
-#[cfg(test)]
-mod checks;
 pub mod laws;
 mod masks;
 mod stack;
 mod stretches;
-#[cfg(test)]
-mod tests;
 
 pub use cell::Cell;
 pub use stack::StackState;

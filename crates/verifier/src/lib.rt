@@ -4,16 +4,12 @@
 
 mod analysis;
 mod awaited;
-#[cfg(test)]
-mod checks;
 mod classifier;
 mod counted;
 pub mod laws;
 mod nones;
 mod passes;
 mod refusal;
-#[cfg(test)]
-mod tests;
 mod verified;
 mod width;
 

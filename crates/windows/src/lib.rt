@@ -3,13 +3,9 @@
 #![tactic(auto)]
 
 mod buckets;
-#[cfg(test)]
-mod checks;
 mod count;
 mod outcomes;
 mod sums;
-#[cfg(test)]
-mod tests;
 mod time;
 mod window;
 

@@ -1,12 +1,12 @@
 -- A program of two instructions that is accepted: it answers 0.
-use Rattle.std.proofs.Common.{◌≡◌, ℕ, zero, suc, ◌+◌, ◌<◌, ◌≤◌, ◌⊎◌, Bool, true, false, List, [], ◌∷◌, length, slice_get, Option, Some, None, IsOk, lit<, lit≤, arith, refl, ap, sym, ◌∙◌, subst}
+use Rattle.std.proofs.Common.{◌≡◌, ℕ, zero, suc, ◌≤◌, false, List, [], ◌∷◌, length, slice_get, Option, Some, None, IsOk, lit<, lit≤, arith, refl, sym, subst}
 use Rattle.bpf_profile.specs.declared.slot.Slot.{Slot}
 use Rattle.bpf_profile.specs.declared.slot.Slot.TheVariants.{Ins, Tail}
 use Rattle.bpf_profile.specs.Limits.{context_size}
-use Rattle.bpf_profile.specs.Flow.{successors, flow_fault_at, flow_fault_from, flow_fault, Edge, WalkFrom, IsWalk, IsBudget}
+use Rattle.bpf_profile.specs.Flow.{successors, flow_fault_at, flow_fault_from, flow_fault, WalkFrom, IsWalk, IsBudget}
 use Rattle.bpf_profile.specs.Opcodes.{operation_of, comparison_of, size_of, convert_opcode, arithmetic_opcode, jump_opcode, immediate_opcode, load_opcode, store_opcode, store_register_opcode, opcode_of}
 use Rattle.bpf_profile.specs.Slots.{read_fields, instruction_of}
-use Rattle.bpf_profile.specs.Spelling.{is_tail, FollowsWide, IsProgram, Spells}
+use Rattle.bpf_profile.specs.Spelling.{is_tail, FollowsWide, IsProgram}
 use Rattle.abs_states.specs.Transfers.{transfer_in}
 use Rattle.verifier.specs.Analysis.{arriving, fault_at, fault_from, analysis_fault}
 use Rattle.verifier.specs.Product.{product}

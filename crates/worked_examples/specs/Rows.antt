@@ -1,5 +1,5 @@
 -- Worked examples of the documented machine: what is done, and what is heard.
-use Rattle.std.specs.Prelude.{ℕ, List, [], ◌∷◌, ◌++◌, Some, None}
+use Rattle.std.specs.Prelude.{ℕ, List, [], ◌∷◌, ◌++◌, None}
 use Rattle.bpf_profile.specs.declared.machine.Verdict.TheVariants as verdict
 use Rattle.refusals.specs.declared.RefusalNumber.TheVariants as refusal
 use Rattle.service_profile.specs.declared.configuration.ConfigParts.{ConfigParts}
@@ -190,6 +190,32 @@ book_was_cut =
       not_permitted = 0;
       entries = 3;
     }) ∷ []))))))
+
+-- ---- a ticket of number 2^63 may still be the next one after a cut; behind it no cut is made
+
+abbrev pub last_ticket_is_issued : List Act
+last_ticket_is_issued = by_caller cut_off ∷ (by_caller (acquire 0) ∷ (by_caller cut_off ∷ (by_caller (read 0) ∷ [])))
+
+abbrev pub last_ticket_was_issued : List Heard
+last_ticket_was_issued =
+    hands_out 0
+    ∷ (says (reply.Permitted 9223372036854775808 1 state.Closed)
+    ∷ (withholds refusal.JournalFull
+    ∷ (shows (record {
+      state = state.Closed;
+      period = 2;
+      version = 1;
+      budget = 6;
+      total = 0;
+      failed = 0;
+      slow = 0;
+      failure_rate = None;
+      slow_rate = None;
+      open_tickets = 1;
+      free = 24;
+      not_permitted = 0;
+      entries = 1;
+    }) ∷ [])))
 
 -- ---- a release ends its ticket, and a ticket that was never issued is another refusal than one that has ended
 

@@ -1,8 +1,7 @@
 -- A service with one caller, what is done on it, and what the caller hears.
-use Rattle.std.specs.Prelude.{ℕ, List, [], ◌∷◌, ◌++◌, length, replicate, Option, Some, None, Result, Ok, Err}
+use Rattle.std.specs.Prelude.{ℕ, List, [], ◌∷◌, ◌++◌, length, replicate, Option, Some, None, Ok, Err}
 use Rattle.std.specs.List.{filter_map}
 use Rattle.byteorder.specs.Endian.{little_bytes}
-use Rattle.bpf_profile.specs.declared.slot.Slot.{Slot}
 use Rattle.bpf_profile.specs.declared.slot.Slot.TheVariants.{Ins}
 use Rattle.bpf_profile.specs.Outcomes.{Outcome}
 use Rattle.refusals.specs.declared.RefusalNumber.{RefusalNumber}
@@ -12,7 +11,6 @@ use Rattle.service_profile.specs.declared.readings.Reading.{Reading}
 use Rattle.service_profile.specs.declared.replies.Reply.{Reply}
 use Rattle.service_profile.specs.Openings.{first_opening}
 use Rattle.service_profile.specs.Configuration.{default_parts}
-use Rattle.service_profile.specs.Events.{Opening}
 use Rattle.book.specs.Interleavings.{Step, look, judge, finish, ample, Act, Given, replied, found, shown, handed, nothing, course, begun}
 use Rattle.service_profile.specs.Machine.{decision}
 
@@ -62,3 +60,7 @@ heard_of nothing = None
 -- what is heard on a fresh service with the default classifier
 abbrev pub heard_on : ConfigParts → List Act → List Heard
 heard_on config acts = filter_map heard_of (course decision (begun (first_opening config default_classifier)) acts).given
+
+-- what is heard on a service with the default classifier whose next ticket has a number
+abbrev pub heard_from_ticket : ℕ → List Act → List Heard
+heard_from_ticket number acts = filter_map heard_of (course decision (begun (record (first_opening default_parts default_classifier) { ticket = number })) acts).given

@@ -1,11 +1,10 @@
 -- Worked examples with a longest stay in HALF_OPEN, which the definitions have and configurations don't take yet.
-use Rattle.std.specs.Prelude.{ℕ, List, [], ◌∷◌, ◌++◌, Some, None}
+use Rattle.std.specs.Prelude.{ℕ, List, [], ◌∷◌, ◌++◌, None}
 use Rattle.bpf_profile.specs.declared.machine.Verdict.TheVariants as verdict
 use Rattle.refusals.specs.declared.RefusalNumber.TheVariants as refusal
 use Rattle.service_profile.specs.declared.configuration.ConfigParts.{ConfigParts}
 use Rattle.service_profile.specs.declared.replies.Fate.TheVariants as fate
 use Rattle.service_profile.specs.declared.replies.Reply.TheVariants as reply
-use Rattle.service_profile.specs.declared.states.State.{State}
 use Rattle.service_profile.specs.declared.states.State.TheVariants as state
 use Rattle.service_profile.specs.Configuration.{default_parts}
 use Rattle.book.specs.Interleavings.{Act, acquire, move, read}

@@ -1,8 +1,8 @@
 //! What is heard on fresh services.
 ghost use Rattle.std.specs.Prelude.{◌≡◌};
 ghost use Rattle.service_profile.specs.Configuration.{default_parts};
-ghost use Rattle.worked_examples.specs.Services.{heard_on};
-ghost use Rattle.worked_examples.specs.Rows.{ten_seconds, note_passes_out, note_passed_out, two_permitted, ignored_call_frees, ignored_call_freed, ticket_goes_stale, ticket_went_stale, one_place, full_bulkhead_refuses, full_bulkhead_refused, states_are_forced, states_were_forced, book_is_cut, book_was_cut, ticket_is_released, ticket_was_released};
+ghost use Rattle.worked_examples.specs.Services.{heard_on, heard_from_ticket};
+ghost use Rattle.worked_examples.specs.Rows.{ten_seconds, note_passes_out, note_passed_out, two_permitted, ignored_call_frees, ignored_call_freed, ticket_goes_stale, ticket_went_stale, one_place, full_bulkhead_refuses, full_bulkhead_refused, states_are_forced, states_were_forced, book_is_cut, book_was_cut, last_ticket_is_issued, last_ticket_was_issued, ticket_is_released, ticket_was_released};
 ghost use Rattle.worked_examples.specs.Stays.{half_a_second, stay_ends, stay_ended, stay_ends_at_a_move, stay_ended_at_a_move};
 
 /// A time-based window of ten seconds shows a note of second 1 in second 10, and no longer in second 11.
@@ -37,6 +37,12 @@ pub fn operators_force_states()
 /// go on, and an ended ticket of an earlier opening stays ended.
 pub fn cut_hands_out_all_and_goes_on()
     ensures { heard_on default_parts book_is_cut ≡ book_was_cut }
+{}
+
+/// A book whose next ticket is the greatest, 2^63, is cut. Once that ticket is issued, a cut is refused
+/// before the open ticket is looked at, and changes nothing.
+pub fn worn_out_book_is_not_cut()
+    ensures { heard_from_ticket 9223372036854775808 last_ticket_is_issued ≡ last_ticket_was_issued }
 {}
 
 /// A release ends its ticket; another one is refused because the ticket has ended, and one of a ticket

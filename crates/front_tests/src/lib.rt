@@ -1,0 +1,18 @@
+//! Tests of what stands in front of a service: what it is asked in JSON, what it answers as text, and replays,
+//! by the public functions of their crates. The library itself is empty.
+#![tactic(auto)]
+
+#[cfg(test)]
+mod asking;
+#[cfg(test)]
+mod checks;
+#[cfg(test)]
+mod json_requests;
+#[cfg(test)]
+mod replayed_events;
+#[cfg(test)]
+mod replayed_services;
+#[cfg(test)]
+mod replays;
+#[cfg(test)]
+mod texts;
