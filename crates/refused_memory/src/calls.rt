@@ -197,6 +197,32 @@ fn show(entries: &[Entry], out: &mut impl Write) -> io::Result<()> {
     Ok(())
 }
 
+/// Makes calls a second apart, and prints what is answered to each.
+fn make_calls(
+    refusals: &mut Refusals,
+    alloc: Global,
+    book: &mut Book,
+    calls: &[Call],
+    out: &mut impl Write,
+) -> io::Result<()> {
+    let mut moment = 1000u64;
+    for call in calls {
+        moment = moment.saturating_add(1000);
+        let reply = reply(refusals, alloc, book, moment, *call)?;
+        writeln!(out, "{call:?} {reply:?}")?;
+    }
+    Ok(())
+}
+
+/// Prints a page, what a cut hands out, and how the book reads behind it.
+fn show_journal(refusals: &mut Refusals, book: &mut Book, out: &mut impl Write) -> io::Result<()> {
+    show(page(refusals, book, 3)?.as_slice(), out)?;
+    let handed_out = cut(refusals, book)?;
+    writeln!(out, "cut {}", handed_out.len())?;
+    show(handed_out.as_slice(), out)?;
+    writeln!(out, "{:?}", book.read(0))
+}
+
 /// Prints what a book is asked, and what it answers.
 pub(crate) fn ask_a_book(
     refusals: &mut Refusals,
@@ -204,15 +230,6 @@ pub(crate) fn ask_a_book(
     out: &mut impl Write,
 ) -> io::Result<()> {
     let mut book = opened(refusals, alloc)?;
-    let mut moment = 1000u64;
-    for call in CALLS {
-        moment = moment.saturating_add(1000);
-        let reply = reply(refusals, alloc, &mut book, moment, call)?;
-        writeln!(out, "{call:?} {reply:?}")?;
-    }
-    show(page(refusals, &book, 3)?.as_slice(), out)?;
-    let handed_out = cut(refusals, &mut book)?;
-    writeln!(out, "cut {}", handed_out.len())?;
-    show(handed_out.as_slice(), out)?;
-    writeln!(out, "{:?}", book.read(0))
+    make_calls(refusals, alloc, &mut book, &CALLS, out)?;
+    show_journal(refusals, &mut book, out)
 }

@@ -101,22 +101,52 @@ fn counted(refusals: &mut Refusals, alloc: Global, bytes: &[u8]) -> io::Result<(
     Err(wrong())
 }
 
-/// Prints each program's text, as it is disassembled, its budget and its width.
+/// The verified program of the bytes with its width, which both ways of verifying have to agree on.
+fn verified_twice(
+    refusals: &mut Refusals,
+    alloc: Global,
+    bytes: &[u8],
+) -> io::Result<(Verified, u32)> {
+    let once = verified(refusals, alloc, bytes)?;
+    let (again, width) = counted(refusals, alloc, bytes)?;
+    if once.bytes() != again.bytes() || once.budget() != again.budget() {
+        return Err(wrong());
+    }
+    Ok((again, width))
+}
+
+/// Prints a program's text, as it is disassembled, its budget and its width.
+fn show(
+    refusals: &mut Refusals,
+    alloc: Global,
+    text: &str,
+    out: &mut impl Write,
+) -> io::Result<()> {
+    let program = assembled(refusals, alloc, text)?;
+    let bytes = encoded(refusals, &program)?;
+    let (verified, width) = verified_twice(refusals, alloc, &bytes)?;
+    let text = disassembled(refusals, alloc, &program)?;
+    write!(out, "budget {} width {width}\n{text}", verified.budget())
+}
+
+/// Prints what is known of each program.
+fn show_all(
+    refusals: &mut Refusals,
+    alloc: Global,
+    texts: &[&str],
+    out: &mut impl Write,
+) -> io::Result<()> {
+    for text in texts {
+        show(refusals, alloc, text, out)?;
+    }
+    Ok(())
+}
+
+/// Prints what is known of the programs above.
 pub(crate) fn verify_programs(
     refusals: &mut Refusals,
     alloc: Global,
     out: &mut impl Write,
 ) -> io::Result<()> {
-    for text in TEXTS {
-        let program = assembled(refusals, alloc, text)?;
-        let bytes = encoded(refusals, &program)?;
-        let once = verified(refusals, alloc, &bytes)?;
-        let (again, width) = counted(refusals, alloc, &bytes)?;
-        if once.bytes() != again.bytes() || once.budget() != again.budget() {
-            return Err(wrong());
-        }
-        let text = disassembled(refusals, alloc, &program)?;
-        write!(out, "budget {} width {width}\n{text}", once.budget())?;
-    }
-    Ok(())
+    show_all(refusals, alloc, &TEXTS, out)
 }
