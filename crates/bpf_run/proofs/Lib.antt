@@ -3,7 +3,9 @@ pub mod ArithmeticWords
 pub mod HelperWords
 pub mod Leading
 pub mod LoadedWords
+pub mod MachineAccesses
 pub mod MemoryBytes
+pub mod MemoryParts
 pub mod RegisterWords
 pub mod Running
 pub mod Simulation

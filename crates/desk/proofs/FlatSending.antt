@@ -47,8 +47,11 @@ order_size_register_all_send = (order_send, (size_send, (register_send, tt)))
 register_register_word_all_send : AllSend ((register.the_field).row ∷ (register.the_field).row ∷ UInt w64 ∷ [])
 register_register_word_all_send = (register_send, (register_send, (word_send, tt)))
 
-register_word_word_all_send : AllSend ((register.the_field).row ∷ UInt w64 ∷ UInt w64 ∷ [])
-register_word_word_all_send = (register_send, (word_send, (word_send, tt)))
+size_register_register_word_all_send : AllSend ((size.the_field).row ∷ (register.the_field).row ∷ (register.the_field).row ∷ UInt w64 ∷ [])
+size_register_register_word_all_send = (size_send, (register_send, (register_send, (word_send, tt))))
+
+register_half_word_all_send : AllSend ((register.the_field).row ∷ UInt w32 ∷ UInt w64 ∷ [])
+register_half_word_all_send = (register_send, (half_send, (word_send, tt)))
 
 width_word_all_send : AllSend ((width.the_field).row ∷ UInt w64 ∷ [])
 width_word_all_send = (width_send, (word_send, tt))
@@ -193,7 +196,7 @@ each_send = (
                                                                                                                                   (
                                                                                                                                     register_register_word_all_send,
                                                                                                                                     (
-                                                                                                                                      register_register_word_all_send,
+                                                                                                                                      size_register_register_word_all_send,
                                                                                                                                       (
                                                                                                                                         register_register_word_all_send,
                                                                                                                                         (
@@ -203,104 +206,125 @@ each_send = (
                                                                                                                                             (
                                                                                                                                               register_register_word_all_send,
                                                                                                                                               (
-                                                                                                                                                register_word_word_all_send,
+                                                                                                                                                size_register_register_word_all_send,
                                                                                                                                                 (
                                                                                                                                                   register_register_word_all_send,
                                                                                                                                                   (
-                                                                                                                                                    register_word_word_all_send,
+                                                                                                                                                    register_half_word_all_send,
                                                                                                                                                     (
                                                                                                                                                       register_register_word_all_send,
                                                                                                                                                       (
-                                                                                                                                                        register_word_word_all_send,
+                                                                                                                                                        register_half_word_all_send,
                                                                                                                                                         (
                                                                                                                                                           register_register_word_all_send,
                                                                                                                                                           (
-                                                                                                                                                            register_word_word_all_send,
+                                                                                                                                                            register_half_word_all_send,
                                                                                                                                                             (
-                                                                                                                                                              width_word_all_send,
+                                                                                                                                                              register_register_word_all_send,
                                                                                                                                                               (
-                                                                                                                                                                register_register_word_all_send,
+                                                                                                                                                                register_half_word_all_send,
                                                                                                                                                                 (
-                                                                                                                                                                  register_word_word_all_send,
+                                                                                                                                                                  width_word_all_send,
                                                                                                                                                                   (
                                                                                                                                                                     register_register_word_all_send,
                                                                                                                                                                     (
-                                                                                                                                                                      register_word_word_all_send,
+                                                                                                                                                                      register_half_word_all_send,
                                                                                                                                                                       (
                                                                                                                                                                         register_register_word_all_send,
                                                                                                                                                                         (
-                                                                                                                                                                          register_word_word_all_send,
+                                                                                                                                                                          register_half_word_all_send,
                                                                                                                                                                           (
                                                                                                                                                                             register_register_word_all_send,
                                                                                                                                                                             (
-                                                                                                                                                                              register_word_word_all_send,
+                                                                                                                                                                              register_half_word_all_send,
                                                                                                                                                                               (
                                                                                                                                                                                 register_register_word_all_send,
                                                                                                                                                                                 (
-                                                                                                                                                                                  register_word_word_all_send,
+                                                                                                                                                                                  register_half_word_all_send,
                                                                                                                                                                                   (
                                                                                                                                                                                     register_register_word_all_send,
                                                                                                                                                                                     (
-                                                                                                                                                                                      register_word_word_all_send,
+                                                                                                                                                                                      register_half_word_all_send,
                                                                                                                                                                                       (
                                                                                                                                                                                         register_register_word_all_send,
                                                                                                                                                                                         (
-                                                                                                                                                                                          register_word_word_all_send,
+                                                                                                                                                                                          register_half_word_all_send,
                                                                                                                                                                                           (
                                                                                                                                                                                             register_register_word_all_send,
                                                                                                                                                                                             (
-                                                                                                                                                                                              register_word_word_all_send,
+                                                                                                                                                                                              register_half_word_all_send,
                                                                                                                                                                                               (
                                                                                                                                                                                                 register_register_word_all_send,
                                                                                                                                                                                                 (
-                                                                                                                                                                                                  register_word_word_all_send,
+                                                                                                                                                                                                  register_half_word_all_send,
                                                                                                                                                                                                   (
                                                                                                                                                                                                     register_register_word_all_send,
                                                                                                                                                                                                     (
-                                                                                                                                                                                                      register_word_word_all_send,
+                                                                                                                                                                                                      register_half_word_all_send,
                                                                                                                                                                                                       (
                                                                                                                                                                                                         register_register_word_all_send,
                                                                                                                                                                                                         (
-                                                                                                                                                                                                          register_word_word_all_send,
+                                                                                                                                                                                                          register_half_word_all_send,
                                                                                                                                                                                                           (
                                                                                                                                                                                                             register_register_word_all_send,
                                                                                                                                                                                                             (
-                                                                                                                                                                                                              register_word_word_all_send,
+                                                                                                                                                                                                              register_half_word_all_send,
                                                                                                                                                                                                               (
                                                                                                                                                                                                                 register_register_word_all_send,
                                                                                                                                                                                                                 (
-                                                                                                                                                                                                                  register_word_word_all_send,
+                                                                                                                                                                                                                  register_half_word_all_send,
                                                                                                                                                                                                                   (
                                                                                                                                                                                                                     register_register_word_all_send,
                                                                                                                                                                                                                     (
-                                                                                                                                                                                                                      register_word_word_all_send,
+                                                                                                                                                                                                                      register_half_word_all_send,
                                                                                                                                                                                                                       (
                                                                                                                                                                                                                         register_register_word_all_send,
                                                                                                                                                                                                                         (
-                                                                                                                                                                                                                          register_word_word_all_send,
+                                                                                                                                                                                                                          register_half_word_all_send,
                                                                                                                                                                                                                           (
                                                                                                                                                                                                                             register_register_word_all_send,
                                                                                                                                                                                                                             (
-                                                                                                                                                                                                                              register_word_word_all_send,
+                                                                                                                                                                                                                              register_half_word_all_send,
                                                                                                                                                                                                                               (
                                                                                                                                                                                                                                 register_register_word_all_send,
                                                                                                                                                                                                                                 (
-                                                                                                                                                                                                                                  register_word_word_all_send,
+                                                                                                                                                                                                                                  register_half_word_all_send,
                                                                                                                                                                                                                                   (
                                                                                                                                                                                                                                     register_register_word_all_send,
                                                                                                                                                                                                                                     (
-                                                                                                                                                                                                                                      register_word_word_all_send,
+                                                                                                                                                                                                                                      register_half_word_all_send,
                                                                                                                                                                                                                                       (
                                                                                                                                                                                                                                         register_register_word_all_send,
                                                                                                                                                                                                                                         (
-                                                                                                                                                                                                                                          register_word_word_all_send,
+                                                                                                                                                                                                                                          register_half_word_all_send,
                                                                                                                                                                                                                                           (
                                                                                                                                                                                                                                             register_register_word_all_send,
                                                                                                                                                                                                                                             (
-                                                                                                                                                                                                                                              register_word_word_all_send,
+                                                                                                                                                                                                                                              register_half_word_all_send,
                                                                                                                                                                                                                                               (
                                                                                                                                                                                                                                                 register_register_word_all_send,
-                                                                                                                                                                                                                                                (register_word_word_all_send, (register_register_word_all_send, (register_word_word_all_send, (half_all_send, (none_all_send, tt))))),
+                                                                                                                                                                                                                                                (
+                                                                                                                                                                                                                                                  register_half_word_all_send,
+                                                                                                                                                                                                                                                  (
+                                                                                                                                                                                                                                                    register_register_word_all_send,
+                                                                                                                                                                                                                                                    (
+                                                                                                                                                                                                                                                      register_half_word_all_send,
+                                                                                                                                                                                                                                                      (
+                                                                                                                                                                                                                                                        register_register_word_all_send,
+                                                                                                                                                                                                                                                        (
+                                                                                                                                                                                                                                                          register_half_word_all_send,
+                                                                                                                                                                                                                                                          (
+                                                                                                                                                                                                                                                            half_all_send,
+                                                                                                                                                                                                                                                            (
+                                                                                                                                                                                                                                                              none_all_send,
+                                                                                                                                                                                                                                                              tt,
+                                                                                                                                                                                                                                                            ),
+                                                                                                                                                                                                                                                          ),
+                                                                                                                                                                                                                                                        ),
+                                                                                                                                                                                                                                                      ),
+                                                                                                                                                                                                                                                    ),
+                                                                                                                                                                                                                                                  ),
+                                                                                                                                                                                                                                                ),
                                                                                                                                                                                                                                               ),
                                                                                                                                                                                                                                             ),
                                                                                                                                                                                                                                           ),
@@ -461,8 +485,11 @@ order_size_register_all_sync = (order_sync, (size_sync, (register_sync, tt)))
 register_register_word_all_sync : AllSync ((register.the_field).row ∷ (register.the_field).row ∷ UInt w64 ∷ [])
 register_register_word_all_sync = (register_sync, (register_sync, (word_sync, tt)))
 
-register_word_word_all_sync : AllSync ((register.the_field).row ∷ UInt w64 ∷ UInt w64 ∷ [])
-register_word_word_all_sync = (register_sync, (word_sync, (word_sync, tt)))
+size_register_register_word_all_sync : AllSync ((size.the_field).row ∷ (register.the_field).row ∷ (register.the_field).row ∷ UInt w64 ∷ [])
+size_register_register_word_all_sync = (size_sync, (register_sync, (register_sync, (word_sync, tt))))
+
+register_half_word_all_sync : AllSync ((register.the_field).row ∷ UInt w32 ∷ UInt w64 ∷ [])
+register_half_word_all_sync = (register_sync, (half_sync, (word_sync, tt)))
 
 width_word_all_sync : AllSync ((width.the_field).row ∷ UInt w64 ∷ [])
 width_word_all_sync = (width_sync, (word_sync, tt))
@@ -607,7 +634,7 @@ each_sync = (
                                                                                                                                   (
                                                                                                                                     register_register_word_all_sync,
                                                                                                                                     (
-                                                                                                                                      register_register_word_all_sync,
+                                                                                                                                      size_register_register_word_all_sync,
                                                                                                                                       (
                                                                                                                                         register_register_word_all_sync,
                                                                                                                                         (
@@ -617,104 +644,125 @@ each_sync = (
                                                                                                                                             (
                                                                                                                                               register_register_word_all_sync,
                                                                                                                                               (
-                                                                                                                                                register_word_word_all_sync,
+                                                                                                                                                size_register_register_word_all_sync,
                                                                                                                                                 (
                                                                                                                                                   register_register_word_all_sync,
                                                                                                                                                   (
-                                                                                                                                                    register_word_word_all_sync,
+                                                                                                                                                    register_half_word_all_sync,
                                                                                                                                                     (
                                                                                                                                                       register_register_word_all_sync,
                                                                                                                                                       (
-                                                                                                                                                        register_word_word_all_sync,
+                                                                                                                                                        register_half_word_all_sync,
                                                                                                                                                         (
                                                                                                                                                           register_register_word_all_sync,
                                                                                                                                                           (
-                                                                                                                                                            register_word_word_all_sync,
+                                                                                                                                                            register_half_word_all_sync,
                                                                                                                                                             (
-                                                                                                                                                              width_word_all_sync,
+                                                                                                                                                              register_register_word_all_sync,
                                                                                                                                                               (
-                                                                                                                                                                register_register_word_all_sync,
+                                                                                                                                                                register_half_word_all_sync,
                                                                                                                                                                 (
-                                                                                                                                                                  register_word_word_all_sync,
+                                                                                                                                                                  width_word_all_sync,
                                                                                                                                                                   (
                                                                                                                                                                     register_register_word_all_sync,
                                                                                                                                                                     (
-                                                                                                                                                                      register_word_word_all_sync,
+                                                                                                                                                                      register_half_word_all_sync,
                                                                                                                                                                       (
                                                                                                                                                                         register_register_word_all_sync,
                                                                                                                                                                         (
-                                                                                                                                                                          register_word_word_all_sync,
+                                                                                                                                                                          register_half_word_all_sync,
                                                                                                                                                                           (
                                                                                                                                                                             register_register_word_all_sync,
                                                                                                                                                                             (
-                                                                                                                                                                              register_word_word_all_sync,
+                                                                                                                                                                              register_half_word_all_sync,
                                                                                                                                                                               (
                                                                                                                                                                                 register_register_word_all_sync,
                                                                                                                                                                                 (
-                                                                                                                                                                                  register_word_word_all_sync,
+                                                                                                                                                                                  register_half_word_all_sync,
                                                                                                                                                                                   (
                                                                                                                                                                                     register_register_word_all_sync,
                                                                                                                                                                                     (
-                                                                                                                                                                                      register_word_word_all_sync,
+                                                                                                                                                                                      register_half_word_all_sync,
                                                                                                                                                                                       (
                                                                                                                                                                                         register_register_word_all_sync,
                                                                                                                                                                                         (
-                                                                                                                                                                                          register_word_word_all_sync,
+                                                                                                                                                                                          register_half_word_all_sync,
                                                                                                                                                                                           (
                                                                                                                                                                                             register_register_word_all_sync,
                                                                                                                                                                                             (
-                                                                                                                                                                                              register_word_word_all_sync,
+                                                                                                                                                                                              register_half_word_all_sync,
                                                                                                                                                                                               (
                                                                                                                                                                                                 register_register_word_all_sync,
                                                                                                                                                                                                 (
-                                                                                                                                                                                                  register_word_word_all_sync,
+                                                                                                                                                                                                  register_half_word_all_sync,
                                                                                                                                                                                                   (
                                                                                                                                                                                                     register_register_word_all_sync,
                                                                                                                                                                                                     (
-                                                                                                                                                                                                      register_word_word_all_sync,
+                                                                                                                                                                                                      register_half_word_all_sync,
                                                                                                                                                                                                       (
                                                                                                                                                                                                         register_register_word_all_sync,
                                                                                                                                                                                                         (
-                                                                                                                                                                                                          register_word_word_all_sync,
+                                                                                                                                                                                                          register_half_word_all_sync,
                                                                                                                                                                                                           (
                                                                                                                                                                                                             register_register_word_all_sync,
                                                                                                                                                                                                             (
-                                                                                                                                                                                                              register_word_word_all_sync,
+                                                                                                                                                                                                              register_half_word_all_sync,
                                                                                                                                                                                                               (
                                                                                                                                                                                                                 register_register_word_all_sync,
                                                                                                                                                                                                                 (
-                                                                                                                                                                                                                  register_word_word_all_sync,
+                                                                                                                                                                                                                  register_half_word_all_sync,
                                                                                                                                                                                                                   (
                                                                                                                                                                                                                     register_register_word_all_sync,
                                                                                                                                                                                                                     (
-                                                                                                                                                                                                                      register_word_word_all_sync,
+                                                                                                                                                                                                                      register_half_word_all_sync,
                                                                                                                                                                                                                       (
                                                                                                                                                                                                                         register_register_word_all_sync,
                                                                                                                                                                                                                         (
-                                                                                                                                                                                                                          register_word_word_all_sync,
+                                                                                                                                                                                                                          register_half_word_all_sync,
                                                                                                                                                                                                                           (
                                                                                                                                                                                                                             register_register_word_all_sync,
                                                                                                                                                                                                                             (
-                                                                                                                                                                                                                              register_word_word_all_sync,
+                                                                                                                                                                                                                              register_half_word_all_sync,
                                                                                                                                                                                                                               (
                                                                                                                                                                                                                                 register_register_word_all_sync,
                                                                                                                                                                                                                                 (
-                                                                                                                                                                                                                                  register_word_word_all_sync,
+                                                                                                                                                                                                                                  register_half_word_all_sync,
                                                                                                                                                                                                                                   (
                                                                                                                                                                                                                                     register_register_word_all_sync,
                                                                                                                                                                                                                                     (
-                                                                                                                                                                                                                                      register_word_word_all_sync,
+                                                                                                                                                                                                                                      register_half_word_all_sync,
                                                                                                                                                                                                                                       (
                                                                                                                                                                                                                                         register_register_word_all_sync,
                                                                                                                                                                                                                                         (
-                                                                                                                                                                                                                                          register_word_word_all_sync,
+                                                                                                                                                                                                                                          register_half_word_all_sync,
                                                                                                                                                                                                                                           (
                                                                                                                                                                                                                                             register_register_word_all_sync,
                                                                                                                                                                                                                                             (
-                                                                                                                                                                                                                                              register_word_word_all_sync,
+                                                                                                                                                                                                                                              register_half_word_all_sync,
                                                                                                                                                                                                                                               (
                                                                                                                                                                                                                                                 register_register_word_all_sync,
-                                                                                                                                                                                                                                                (register_word_word_all_sync, (register_register_word_all_sync, (register_word_word_all_sync, (half_all_sync, (none_all_sync, tt))))),
+                                                                                                                                                                                                                                                (
+                                                                                                                                                                                                                                                  register_half_word_all_sync,
+                                                                                                                                                                                                                                                  (
+                                                                                                                                                                                                                                                    register_register_word_all_sync,
+                                                                                                                                                                                                                                                    (
+                                                                                                                                                                                                                                                      register_half_word_all_sync,
+                                                                                                                                                                                                                                                      (
+                                                                                                                                                                                                                                                        register_register_word_all_sync,
+                                                                                                                                                                                                                                                        (
+                                                                                                                                                                                                                                                          register_half_word_all_sync,
+                                                                                                                                                                                                                                                          (
+                                                                                                                                                                                                                                                            half_all_sync,
+                                                                                                                                                                                                                                                            (
+                                                                                                                                                                                                                                                              none_all_sync,
+                                                                                                                                                                                                                                                              tt,
+                                                                                                                                                                                                                                                            ),
+                                                                                                                                                                                                                                                          ),
+                                                                                                                                                                                                                                                        ),
+                                                                                                                                                                                                                                                      ),
+                                                                                                                                                                                                                                                    ),
+                                                                                                                                                                                                                                                  ),
+                                                                                                                                                                                                                                                ),
                                                                                                                                                                                                                                               ),
                                                                                                                                                                                                                                             ),
                                                                                                                                                                                                                                           ),

@@ -2,6 +2,7 @@ pub mod DefaultAccepted
 pub mod Delivered
 pub mod Edges
 pub mod FirstFault
+pub mod Forms
 pub mod Held
 pub mod JoinedStates
 pub mod JoinOf

@@ -21,7 +21,7 @@ use Rattle.bpf_profile.specs.declared.slot.Slot.{Slot}
 use Rattle.bpf_profile.specs.declared.slot.Slot.TheVariants.{Ins, Tail}
 use Rattle.bpf_profile.specs.declared.machine.TrapReason.{TrapReason}
 use Rattle.bpf_profile.specs.Flow.{Edge, WalkFrom, IsBudget, flow_fault, is_tail_at}
-use Rattle.bpf_profile.specs.Machine.{State, Effect, answers}
+use Rattle.bpf_profile.specs.Machine.{State, Effect, goes, answers}
 use Rattle.bpf_profile.specs.Meaning.{step, effect_of, effect_at, instruction_at, entry, Reaches}
 use Rattle.bpf_profile.specs.Outcomes.{Outcome, IsOutcome}
 use Rattle.bpf_profile.specs.Safety.{IsSafe}
@@ -157,12 +157,12 @@ unfolding step
 step_is context slots outcome s i at = ap (effect_at context outcome s) at
 
 -- a state that is as known at a slot that has an instruction
-record Stands {X : Type 0} (domain : Ghosts X) (context : ℕ) (slots : List Slot) (s : State) : Type 0 where
-  i : Instruction
-  at : instruction_at slots s.slot ≡ Some i
-  state : AbsState X
-  there : known_at domain context slots s.slot ≡ Some state
-  known : IsKnown domain state s
+pub record Stands {X : Type 0} (domain : Ghosts X) (context : ℕ) (slots : List Slot) (s : State) : Type 0 where
+  pub i : Instruction
+  pub at : instruction_at slots s.slot ≡ Some i
+  pub state : AbsState X
+  pub there : known_at domain context slots s.slot ≡ Some state
+  pub known : IsKnown domain state s
 
 -- a run from a state to an answer, and the walk that it makes
 record RunsOut (context : ℕ) (slots : List Slot) (outcome : Outcome) (s : State) : Type 0 where
@@ -247,6 +247,47 @@ unfolding arriving
 stands_at_entry domain laws context slots program =
     let first = to_instruction slots 0 (starts slots program) in
     record { i = first.0; at = first.1; state = entry_state domain; there = refl; known = entry_known domain laws }
+
+-- ---- every state that a run comes to
+
+-- a state where the analysis found no fault
+pub passes_at : {X : Type 0} (domain : Ghosts X) (context : ℕ) (slots : List Slot) (s : State) (k : Stands domain context slots s) → analysis_fault domain context slots ≡ None
+    → (after : AbsState X) × (transfer_in domain context k.state false k.i ≡ Ok after)
+passes_at domain context slots s k analysed =
+    let here = within slots s.slot k.i k.at in
+    passes domain context slots s.slot k.i k.state (no_fault domain context slots 0 (length slots) s.slot analysed (omega arith) (omega (arith, here))) k.at k.there
+
+same_goes : (a b : State) → ◌≡◌ {A = Result Effect TrapReason} (Ok (goes a)) (Ok (goes b)) → a ≡ b
+same_goes a b e = cc
+
+not_both : (n : ℕ) (s : State) → ◌≡◌ {A = Result Effect TrapReason} (Ok (answers n)) (Ok (goes s)) → ⊥
+not_both n s e = cc
+
+-- behind a step the next state is as known
+stands_on : {X : Type 0} (domain : Ghosts X) → Lawful domain → (context : ℕ) (slots : List Slot) → IsProgram slots → flow_fault slots ≡ None → analysis_fault domain context slots ≡ None → AreWords slots
+    → (outcome : Outcome) → IsOutcome context outcome → (s u : State) → Stands domain context slots s → step context slots outcome s ≡ Ok (goes u) → Stands domain context slots u
+stands_on {X} domain laws context slots program accepted analysed words outcome is s u k goes_to =
+    let ok = passes_at domain context slots s k analysed in
+    let does = step_is context slots outcome s k.i k.at in
+    elim (follows domain laws context outcome s k.state ok.0 k.i k.known is (words s.slot k.i k.at) ok.1) [
+      | inl a ↦ absurd (not_both a.answer u (sym a.answers ∙ (sym does ∙ goes_to)))
+      | inr g ↦
+          (let edge = edge_at slots s.slot g.next.slot k.i k.at (way_edge s.slot k.i g.taken g.next.slot g.edge) in
+          subst (Stands domain context slots) (same_goes g.next u (sym g.goes ∙ (sym does ∙ goes_to))) (stands_next domain laws context slots program accepted s k ok.0 ok.1 _ g edge))
+    ]
+
+stands_far : {X : Type 0} (domain : Ghosts X) → Lawful domain → (context : ℕ) (slots : List Slot) → IsProgram slots → flow_fault slots ≡ None → analysis_fault domain context slots ≡ None → AreWords slots
+    → (outcome : Outcome) → IsOutcome context outcome → (count : ℕ) (s t : State) → Stands domain context slots s → Reaches context slots outcome s count t → Stands domain context slots t
+unfolding Reaches
+stands_far domain laws context slots program accepted analysed words outcome is zero s t k reached = subst (Stands domain context slots) reached k
+stands_far domain laws context slots program accepted analysed words outcome is (suc count) s t k (u, first, rest) =
+    stands_far domain laws context slots program accepted analysed words outcome is count u t (stands_on domain laws context slots program accepted analysed words outcome is s u k first) rest
+
+-- from the entry on
+pub reached_stands : {X : Type 0} (domain : Ghosts X) → Lawful domain → (context : ℕ) (slots : List Slot) → IsProgram slots → flow_fault slots ≡ None → analysis_fault domain context slots ≡ None → AreWords slots
+    → (outcome : Outcome) → IsOutcome context outcome → (count : ℕ) (s : State) → Reaches context slots outcome entry count s → Stands domain context slots s
+reached_stands domain laws context slots program accepted analysed words outcome is count s reached =
+    stands_far domain laws context slots program accepted analysed words outcome is count entry s (stands_at_entry domain laws context slots program) reached
 
 pub sound : {X : Type 0} (domain : Ghosts X) → Lawful domain → (context : ℕ) (slots : List Slot) (budget : ℕ) → IsProgram slots → flow_fault slots ≡ None → IsBudget slots budget → analysis_fault domain context slots ≡ None → AreWords slots
     → IsSafe context slots budget

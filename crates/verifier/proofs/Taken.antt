@@ -13,7 +13,7 @@ use Rattle.bpf_profile.specs.Meaning.{instruction_at}
 use Rattle.abs_domain.specs.declared.domain.Domain.{Ghosts}
 use Rattle.abs_states.specs.declared.state.AbsState.{AbsState}
 use Rattle.abs_states.specs.States.{joined_state}
-use Rattle.verifier.specs.Analysis.{Message, joined_into, message_to, received, sent_with, arriving, fault_in, fault_with, fault_at, fault_from, analysis_fault}
+use Rattle.verifier.specs.Analysis.{joined_into, message_to, received, sent_with, arriving, fault_in, fault_with, fault_at, fault_from, analysis_fault}
 use Rattle.verifier.specs.Passes.{state_of, entry_states, delivered, delivered_all, seen, dropped}
 use Rattle.verifier.specs.declared.refusal.Refusal.{Refusal}
 use Rattle.verifier.specs.Verifying.{out_of_memory, fault_of}

@@ -6,5 +6,6 @@ pub mod Kept
 pub mod Memory
 pub mod Passes
 pub mod Product
+pub mod Regions
 pub mod Verifying
 pub mod Width

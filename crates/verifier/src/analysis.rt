@@ -1,6 +1,7 @@
 //! The analysis of a program, over any domain.
 ghost use Rattle.std.specs.Prelude.{◌≡◌, ◌⊎◌, ◌<◌, ℕ, length, map, option_map, slice_index_or, Some, None, IfOk, IfErr, OnOk};
 ghost use Rattle.std.specs.List.{range_with_len};
+ghost use Rattle.bpf_flat.specs.Flattened.{IsFlattened};
 ghost use Rattle.bpf_profile.specs.Limits.{most_slots, context_size};
 ghost use Rattle.bpf_profile.specs.Flow.{flow_fault, successors, IsBudget};
 ghost use Rattle.bpf_profile.specs.Safety.{IsSafe};
@@ -8,6 +9,7 @@ ghost use Rattle.bpf_profile.specs.Spelling.{IsProgram};
 ghost use Rattle.verifier.specs.Analysis.{analysis_fault, AreKnown};
 ghost use Rattle.verifier.specs.Memory.{StateFits};
 ghost use Rattle.verifier.specs.Passes.{entry_states};
+ghost use Rattle.verifier.specs.Regions.{ReadsNamedRegions};
 ghost use Rattle.verifier.specs.Verifying.{out_of_memory, fault_of};
 
 use crate::awaited::pass_awaited;
@@ -17,6 +19,7 @@ use crate::refusal::Refusal;
 use abs_domain::Domain;
 use abs_states::AbsState;
 use bpf_decode::{Decoded, Program};
+use bpf_flat::FlatProgram;
 use flow_check::Flow;
 use std::alloc::{AllocError, Global};
 use std::marker::Model;
@@ -87,21 +90,24 @@ pub fn analyse<D: Domain>(
     Ok(States { states })
 }
 
-/// The same check, which holds no more states than it still awaits, and keeps none.
+/// The same check, which holds no more states than it still awaits, and keeps none. It answers the program
+/// in the flat form, in which each load names the region that it reads.
 pub(crate) fn analyse_awaited<D: Domain>(
     alloc: Global,
     program: &Decoded,
     flow: &Flow,
-) -> Result<(), Refusal>
+) -> Result<FlatProgram, Refusal>
     requires fits { StateFits D.row }
     requires program { IsProgram program.now }
     requires accepted { flow_fault program.now ≡ None }
     requires flow { flow.now.edges ≡ map (successors program.now) (range_with_len 0 (length program.now)) }
     ensures accepted { OnOk result (analysis_fault ⟦<D as Domain>⟧ context_size program.now ≡ None) }
     ensures safe { OnOk result ((budget : ℕ) → IsBudget program.now budget → IsSafe context_size program.now budget) }
+    ensures flattened { IfOk result (λ flat. IsFlattened program.now flat) }
+    ensures regions { IfOk result (λ flat. ReadsNamedRegions program.now flat) }
     ensures refused { IfErr result (λ e. (e ≡ out_of_memory) ⊎ (analysis_fault ⟦<D as Domain>⟧ context_size program.now ≡ Some (fault_of e))) }
     ensures slot { IfErr result (λ e. e.slot < most_slots) }
 {
-    pass_awaited::<D>(alloc, program, flow)?;
-    Ok(())
+    let flat = pass_awaited::<D>(alloc, program, flow)?;
+    Ok(flat)
 }

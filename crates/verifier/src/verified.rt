@@ -1,20 +1,18 @@
 //! Verified programs.
-ghost use Rattle.std.specs.Prelude.{◌≡◌, ◌⊎◌, ◌↔◌, ℕ, ◌<◌, ◌≤◌, true, List, length, IsOk, Some, None, IfOk, IfErr, OnOk};
+ghost use Rattle.std.specs.Prelude.{◌≡◌, ◌⊎◌, ℕ, ◌<◌, ◌≤◌, List, length, IfOk, IfErr, OnOk};
 ghost use Rattle.bpf_profile.specs.declared.slot.Slot.{Slot};
 ghost use Rattle.bpf_profile.specs.Limits.{most_slots, context_size};
-ghost use Rattle.bpf_flat.specs.Flattened.{IsFlattened};
-ghost use Rattle.bpf_flat.specs.StackUse.{IsStackless};
 ghost use Rattle.bpf_profile.specs.Safety.{IsSafe};
 ghost use Rattle.bpf_profile.specs.Spelling.{IsProgram, Spells};
-ghost use Rattle.bpf_profile.specs.Flow.{flow_fault, IsBudget};
-ghost use Rattle.verifier.specs.Analysis.{analysis_fault};
+ghost use Rattle.bpf_profile.specs.Flow.{IsBudget};
+ghost use Rattle.verifier.specs.Regions.{IsRunnable};
 ghost use Rattle.verifier.specs.Verifying.{out_of_memory, fault_of, IsAccepted, IsProgramRefused, IsRefused, IsVerification};
 
 use crate::analysis::analyse_awaited;
 use crate::refusal::Refusal;
 use abs_domain::Both;
 use bpf_decode::{Decoded, Program};
-use bpf_flat::{Flat, flattened, is_stackless};
+use bpf_flat::FlatProgram;
 use flow_check::check_decoded;
 use known_bits::KnownBits;
 use ranges::Range;
@@ -27,9 +25,8 @@ use std::marker::Model;
 pub struct Verified {
     program: Program,
     bytes: Vec<u8>,
-    flat: Vec<Flat>,
+    flat: FlatProgram,
     budget: u32,
-    stackless: bool,
 }
 
 impl Model for Verified {
@@ -41,7 +38,7 @@ impl Model for Verified {
 
     ghost view = { λ v. record { slots = v.program; budget = v.budget } };
 
-    ghost invariant = { λ v. IsVerified v.program v.bytes.items v.flat.items v.budget v.stackless };
+    ghost invariant = { λ v. IsVerified v.program v.bytes.items v.flat v.budget };
 }
 
 impl Verified {
@@ -72,61 +69,50 @@ impl Verified {
         &self.program
     }
 
-    /// The program in the flat form, in which it is run: it was made when the program was verified.
-    pub fn flat(&self) -> &[Flat]
-        ensures flattened { IsFlattened self.now.slots result.now }
-        ensures safe { IsSafe context_size self.now.slots self.now.budget }
-        // No fault was found in its flow: each instruction leads forward, to another one.
-        ensures flow { flow_fault self.now.slots ≡ None }
-        ensures few_slots { length self.now.slots ≤ most_slots }
-        ensures few_steps { self.now.budget ≤ most_slots }
+    /// The program in the flat form, in which it is run: it was made when the program was verified. Each
+    /// load names the region that it reads.
+    pub fn flat(&self) -> &FlatProgram
+        ensures { IsRunnable self.now.slots self.now.budget result.now }
     {
-        self.flat.as_slice()
-    }
-
-    /// Whether no instruction of the program takes the address of the stack out of R10, so that a run of
-    /// it needs no stack: this was found when the program was verified.
-    pub fn is_stackless(&self) -> bool
-        ensures { (result ≡ true) ↔ IsStackless self.now.slots }
-    {
-        self.stackless
+        &self.flat
     }
 }
 
-/// The budget of a program that passes flow and analysis, or the first fault.
-fn checked(alloc: Global, program: &Decoded) -> Result<u32, Refusal>
+/// The budget of a program that passes flow and analysis, and its flat form, or the first fault.
+fn checked(alloc: Global, program: &Decoded) -> Result<(u32, FlatProgram), Refusal>
     requires { IsProgram program.now }
-    ensures budget { IfOk result (λ budget. IsBudget program.now budget) }
-    ensures some { IfOk result (λ budget. 1 ≤ budget) }
-    ensures most { IfOk result (λ budget. budget ≤ most_slots) }
-    ensures safe { IfOk result (λ budget. IsSafe context_size program.now budget) }
+    ensures budget { IfOk result (λ checked. IsBudget program.now checked.0) }
+    ensures some { IfOk result (λ checked. 1 ≤ checked.0) }
+    ensures runnable { IfOk result (λ checked. IsRunnable program.now checked.0 checked.1) }
     ensures accepted { OnOk result (IsAccepted program.now) }
     ensures refused { IfErr result (λ e. (e ≡ out_of_memory) ⊎ IsProgramRefused program.now (fault_of e)) }
     ensures slot { IfErr result (λ e. e.slot < most_slots) }
 {
     let flow = check_decoded(alloc, program)?;
-    analyse_awaited::<Both<Range, KnownBits>>(alloc, program, &flow)?;
-    Ok(flow.budget())
+    let flat = analyse_awaited::<Both<Range, KnownBits>>(alloc, program, &flow)?;
+    Ok((flow.budget(), flat))
 }
 
 /// The verified program, made of what was checked.
-fn kept(alloc: Global, program: Decoded, bytes: &[u8], budget: u32) -> Result<Verified, AllocError>
+fn kept(
+    alloc: Global,
+    program: Decoded,
+    bytes: &[u8],
+    budget: u32,
+    flat: FlatProgram,
+) -> Result<Verified, AllocError>
     requires verified { IsVerification bytes.now (record { slots = program; budget = budget }) }
-    requires safe { IsSafe context_size program budget }
     requires some { 1 ≤ budget }
-    requires most { budget ≤ most_slots }
+    requires runnable { IsRunnable program budget flat }
     ensures program { IfOk result (λ v. v.slots ≡ program) }
     ensures budget { IfOk result (λ v. v.budget ≡ budget) }
 {
-    let flat = flattened(alloc, &program)?;
     let bytes = bytes.to_vec(alloc)?;
-    let stackless = is_stackless(&program);
     Ok(Verified {
         program: program.into_program(),
         bytes,
         flat,
         budget,
-        stackless,
     })
 }
 
@@ -146,6 +132,6 @@ pub fn verify(alloc: Global, bytes: &[u8]) -> Result<Verified, Refusal>
     ensures slot { IfErr result (λ e. e.slot < most_slots) }
 {
     let program = Decoded::decode(alloc, bytes)?;
-    let budget = checked(alloc, &program)?;
-    Ok(kept(alloc, program, bytes, budget)?)
+    let (budget, flat) = checked(alloc, &program)?;
+    Ok(kept(alloc, program, bytes, budget, flat)?)
 }

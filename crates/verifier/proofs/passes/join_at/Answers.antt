@@ -1,4 +1,4 @@
-use Rattle.std.proofs.Common.{Option, None, sym, ◌∙◌}
+use Rattle.std.proofs.Common.{None, sym, ◌∙◌}
 use Rattle.verifier.proofs.Known.{get_or-default}
 use Rattle.verifier.proofs.Taken.{joined_in, put_in}
 use Rattle.verifier.proofs.passes.join_at.Goals as goal

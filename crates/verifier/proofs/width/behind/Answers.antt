@@ -1,4 +1,4 @@
-use Rattle.std.proofs.Common.{◌≡◌, ◌+◌, arith}
+use Rattle.std.proofs.Common.{arith}
 use Rattle.verifier.proofs.Marked.{count_yes, count_no}
 use Rattle.verifier.proofs.width.behind.Goals as goal
 

@@ -1,4 +1,4 @@
-use Rattle.std.proofs.Common.{◌≤◌, ◌<◌, ℕ, length, true, false}
+use Rattle.std.proofs.Common.{◌≤◌, ◌<◌, length, true, false}
 use Rattle.verifier.proofs.Marked.{new_mark, if_some_at}
 use Rattle.verifier.proofs.width.mark.Goals as goal
 

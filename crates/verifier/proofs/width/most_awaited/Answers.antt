@@ -1,6 +1,5 @@
-use Rattle.std.proofs.Common.{◌≡◌, ◌+◌, ◌≤◌, length, refl, ◌∙◌, arith}
+use Rattle.std.proofs.Common.{◌+◌, ◌≤◌, length, refl, ◌∙◌, arith}
 use Rattle.flow_check.proofs.Marks.{entered_start, entered_step}
-use Rattle.verifier.specs.Width.{count_from}
 use Rattle.verifier.proofs.Marked.{count_is, widest_none, widest_turn, is_width, instructions_inside, count_none}
 use Rattle.verifier.proofs.width.most_awaited.Goals as goal
 
