@@ -3,6 +3,7 @@
 
 mod access;
 mod calls;
+mod continuation;
 mod execution;
 mod machine;
 mod memory;

@@ -59,8 +59,8 @@ width_word_all_send = (width_send, (word_send, tt))
 half_all_send : AllSend (UInt w32 ∷ [])
 half_all_send = (half_send, tt)
 
-none_all_send : AllSend ([])
-none_all_send = tt
+word_all_send : AllSend (UInt w64 ∷ [])
+word_all_send = (word_send, tt)
 
 each_send : EachSend (enum.variants flat.the_type)
 each_send = (
@@ -316,7 +316,7 @@ each_send = (
                                                                                                                                                                                                                                                           (
                                                                                                                                                                                                                                                             half_all_send,
                                                                                                                                                                                                                                                             (
-                                                                                                                                                                                                                                                              none_all_send,
+                                                                                                                                                                                                                                                              word_all_send,
                                                                                                                                                                                                                                                               tt,
                                                                                                                                                                                                                                                             ),
                                                                                                                                                                                                                                                           ),
@@ -497,8 +497,8 @@ width_word_all_sync = (width_sync, (word_sync, tt))
 half_all_sync : AllSync (UInt w32 ∷ [])
 half_all_sync = (half_sync, tt)
 
-none_all_sync : AllSync ([])
-none_all_sync = tt
+word_all_sync : AllSync (UInt w64 ∷ [])
+word_all_sync = (word_sync, tt)
 
 each_sync : EachSync (enum.variants flat.the_type)
 each_sync = (
@@ -754,7 +754,7 @@ each_sync = (
                                                                                                                                                                                                                                                           (
                                                                                                                                                                                                                                                             half_all_sync,
                                                                                                                                                                                                                                                             (
-                                                                                                                                                                                                                                                              none_all_sync,
+                                                                                                                                                                                                                                                              word_all_sync,
                                                                                                                                                                                                                                                               tt,
                                                                                                                                                                                                                                                             ),
                                                                                                                                                                                                                                                           ),
