@@ -15,6 +15,7 @@ pub mod Called
 pub mod Alike
 pub mod Kept
 pub mod Letters
+pub mod Spelled
 pub mod FirstFault
 pub mod Returning
 pub mod Contents

@@ -1,5 +1,6 @@
 pub mod Names
 pub mod Canonical
+pub mod Printing
 pub mod Tokens
 pub mod Arguments
 pub mod Reading

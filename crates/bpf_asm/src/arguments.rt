@@ -6,7 +6,7 @@ ghost use Rattle.bpf_asm.specs.Arguments.{argument_of, is_comma, cut, third_of, 
 use crate::tokens::Token;
 use bpf_profile::Register;
 
-#[derive(Clone, Copy, PartialEq, Eq)]
+#[derive(Clone, Copy)]
 pub(crate) enum Sign {
     Absent,
     Plus,
@@ -97,6 +97,29 @@ fn cut(tokens: &[Token]) -> (&[Token], Option<&[Token]>)
     }
 }
 
+/// Two arguments and what follows the second comma.
+fn third_of(first: Argument, second: Argument, tokens: &[Token]) -> Option<Arguments>
+    ensures { result ≡ third_of first second (cut tokens.now) }
+{
+    let (third, rest) = cut(tokens);
+    if rest.is_some() {
+        return None;
+    }
+    Some(Arguments::Three(first, second, argument_of(third)?))
+}
+
+/// One argument and what follows the first comma.
+fn second_of(first: Argument, tokens: &[Token]) -> Option<Arguments>
+    ensures { result ≡ second_of first (cut tokens.now) }
+{
+    let (second, rest) = cut(tokens);
+    let second = argument_of(second)?;
+    match rest {
+        Some(rest) => third_of(first, second, rest),
+        None => Some(Arguments::Two(first, second)),
+    }
+}
+
 /// The arguments of a line; None where one is malformed or there are more than three.
 pub(crate) fn arguments_of(tokens: &[Token]) -> Option<Arguments>
     ensures { result ≡ arguments_of tokens.now }
@@ -106,17 +129,8 @@ pub(crate) fn arguments_of(tokens: &[Token]) -> Option<Arguments>
     }
     let (first, rest) = cut(tokens);
     let first = argument_of(first)?;
-    let Some(rest) = rest else {
-        return Some(Arguments::One(first));
-    };
-    let (second, rest) = cut(rest);
-    let second = argument_of(second)?;
-    let Some(rest) = rest else {
-        return Some(Arguments::Two(first, second));
-    };
-    let (third, rest) = cut(rest);
-    if rest.is_some() {
-        return None;
+    match rest {
+        Some(rest) => second_of(first, rest),
+        None => Some(Arguments::One(first)),
     }
-    Some(Arguments::Three(first, second, argument_of(third)?))
 }

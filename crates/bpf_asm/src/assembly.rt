@@ -1,6 +1,5 @@
 //! From text to programs.
 ghost use Rattle.std.specs.Prelude.{◌≡◌, ◌==◌, ◌++◌, ◌∷◌, [], ◌⊎◌, ◌<◌, List, Ok, Err, Some, None, IfOk, IfErr, MatchResult, MatchOption, length};
-ghost use Rattle.std.specs.List.{position};
 ghost use Rattle.bpf_profile.specs.declared.slot.Slot.{Slot};
 ghost use Rattle.bpf_profile.specs.Spelling.{IsProgram};
 ghost use Rattle.bpf_decode.specs.Encoding.{encoding};
@@ -9,7 +8,7 @@ ghost use Rattle.bpf_asm.specs.Canonical.{text_of};
 
 use crate::error::AsmError;
 use crate::reading::statement_of;
-use crate::tokens::read_tokens;
+use crate::tokens::{place_of, read_tokens};
 use bpf_decode::{Encoded, Program};
 use bpf_profile::{Instruction, MOST_SLOTS, Slot};
 use refusals::RefusalNumber;
@@ -60,20 +59,13 @@ fn push_line(slots: &mut Vec<Slot>, line: &[u8], number: usize) -> Result<(), As
     Ok(())
 }
 
-/// The place of the first line feed.
-fn line_end(text: &[u8]) -> Option<usize>
-    ensures { result ≡ position (λ c. c == 10) text.now }
-{
-    text.iter().position(|character| *character == b'\n')
-}
-
 /// The first line, and what follows its line feed.
 fn cut_line(text: &[u8]) -> (&[u8], Option<&[u8]>)
     ensures { MatchOption result.1
         (lines_of text.now ≡ result.0.now ∷ [])
         (λ more. (lines_of text.now ≡ result.0.now ∷ lines_of more.now) × (length more.now < length text.now)) }
 {
-    match line_end(text) {
+    match place_of(b'\n', text) {
         Some(end) => (&text[..end], Some(&text[end + 1..])),
         None => (text, None),
     }

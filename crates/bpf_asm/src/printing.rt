@@ -1,157 +1,64 @@
 //! Instructions as the lines of the canonical text.
 ghost use Rattle.std.specs.Prelude.{◌≡◌, IfOk, List, ◌++◌, ◌∷◌, []};
+ghost use Rattle.std.specs.Fmt.{signed_decimal};
 ghost use Rattle.std.specs.String.{string_bytes};
-ghost use Rattle.bpf_asm.specs.Canonical.{word_of, line_of};
+ghost use Rattle.bpf_asm.specs.Canonical.{with_sign, word_of, line_of, operand_text, operands_text};
+ghost use Rattle.bpf_asm.specs.Printing.{shown, all_shown};
 
-use crate::words::{
-    Word, bits_name, comparison_name, load_name, operation_name, order_name, size_name, width_name,
-};
+use crate::words::{Word, name_parts};
 use bpf_profile::{Instruction, Operand, Register};
 use std::alloc::AllocError;
 use std::fmt;
 
-impl fmt::Display for Word {
-    ghost use Rattle.std.specs.Prelude.{Some};
-    ghost use Rattle.bpf_asm.specs.Names.{word_name};
-
-    ghost output = { λ word. Some (word_name word) };
-
-    fn fmt<W: fmt::Write>(&self, f: &mut fmt::Formatter<W>) -> fmt::Result {
-        match *self {
-            Word::Arithmetic(operation, width) => {
-                let (stem, end) = (operation_name(operation), width_name(width));
-                write!(f, "{stem}{end}")
-            }
-            Word::Negate(width) => {
-                let end = width_name(width);
-                write!(f, "neg{end}")
-            }
-            Word::MoveSigned(width, size) => {
-                let (size, end) = (size_name(size), width_name(width));
-                write!(f, "movs{size}{end}")
-            }
-            Word::Convert(order, size) => {
-                let (order, bits) = (order_name(order), bits_name(size));
-                write!(f, "{order}{bits}")
-            }
-            Word::LoadImmediate => write!(f, "lddw"),
-            Word::Load(size, extension) => {
-                let (stem, size) = (load_name(extension), size_name(size));
-                write!(f, "{stem}{size}")
-            }
-            Word::Store(size) => {
-                let size = size_name(size);
-                write!(f, "st{size}")
-            }
-            Word::StoreRegister(size) => {
-                let size = size_name(size);
-                write!(f, "stx{size}")
-            }
-            Word::Jump(width) => {
-                let end = width_name(width);
-                write!(f, "ja{end}")
-            }
-            Word::Branch(comparison, width) => {
-                let (stem, end) = (comparison_name(comparison), width_name(width));
-                write!(f, "{stem}{end}")
-            }
-            Word::Call => write!(f, "call"),
-            Word::Exit => write!(f, "exit"),
-        }
-    }
+/// The plus before a number that is not negative.
+fn plus_of(number: i64) -> &'static str
+    ensures { result.now ++ signed_decimal number ≡ with_sign number }
+{
+    if number < 0 { "" } else { "+" }
 }
 
+/// One operand.
 #[derive(Clone, Copy)]
-struct RegisterText(Register);
-
-impl fmt::Display for RegisterText {
-    ghost use Rattle.std.specs.Prelude.{Some};
-    ghost use Rattle.bpf_asm.specs.Canonical.{register_text};
-
-    ghost output = { λ text. Some (register_text text.0) };
-
-    fn fmt<W: fmt::Write>(&self, f: &mut fmt::Formatter<W>) -> fmt::Result {
-        let index = self.0.index();
-        write!(f, "r{index}")
-    }
+enum OperandText {
+    Register(Register),
+    /// An immediate, by its signed reading.
+    Immediate(u64),
+    /// An offset or a distance, which always has its sign.
+    Offset(u64),
+    /// The address of a load or a store.
+    Place(Register, u64),
+    /// A number that has no sign.
+    Natural(u64),
 }
-
-/// An immediate, by its signed reading.
-#[derive(Clone, Copy)]
-struct ImmediateText(u64);
-
-impl fmt::Display for ImmediateText {
-    ghost use Rattle.std.specs.Prelude.{Some};
-    ghost use Rattle.bpf_asm.specs.Canonical.{immediate_text};
-
-    ghost output = { λ text. Some (immediate_text text.0) };
-
-    fn fmt<W: fmt::Write>(&self, f: &mut fmt::Formatter<W>) -> fmt::Result {
-        let number = self.0.cast_signed();
-        write!(f, "{number}")
-    }
-}
-
-/// An offset or a distance, which always has its sign.
-#[derive(Clone, Copy)]
-struct OffsetText(u64);
-
-impl fmt::Display for OffsetText {
-    ghost use Rattle.std.specs.Prelude.{Some};
-    ghost use Rattle.bpf_asm.specs.Canonical.{offset_text};
-
-    ghost output = { λ text. Some (offset_text text.0) };
-
-    fn fmt<W: fmt::Write>(&self, f: &mut fmt::Formatter<W>) -> fmt::Result {
-        let number = self.0.cast_signed();
-        if number < 0 {
-            write!(f, "{number}")
-        } else {
-            write!(f, "+{number}")
-        }
-    }
-}
-
-#[derive(Clone, Copy)]
-struct OperandText(Operand);
 
 impl fmt::Display for OperandText {
     ghost use Rattle.std.specs.Prelude.{Some};
-    ghost use Rattle.bpf_asm.specs.Canonical.{operand_text};
+    ghost use Rattle.bpf_asm.specs.Printing.{shown};
 
-    ghost output = { λ text. Some (operand_text text.0) };
+    ghost output = { λ text. Some (shown text) };
 
     fn fmt<W: fmt::Write>(&self, f: &mut fmt::Formatter<W>) -> fmt::Result {
-        match self.0 {
-            Operand::Register(register) => {
-                let register = RegisterText(register);
-                write!(f, "{register}")
+        match *self {
+            OperandText::Register(register) => {
+                let index = register.index();
+                write!(f, "r{index}")
             }
-            Operand::Immediate(word) => {
-                let number = ImmediateText(word);
+            OperandText::Immediate(word) => {
+                let number = word.cast_signed();
                 write!(f, "{number}")
             }
+            OperandText::Offset(word) => {
+                let number = word.cast_signed();
+                let plus = plus_of(number);
+                write!(f, "{plus}{number}")
+            }
+            OperandText::Place(base, word) => {
+                let (index, number) = (base.index(), word.cast_signed());
+                let plus = plus_of(number);
+                write!(f, "[r{index}{plus}{number}]")
+            }
+            OperandText::Natural(number) => write!(f, "{number}"),
         }
-    }
-}
-
-/// The address of a load or a store.
-#[derive(Clone, Copy)]
-struct PlaceText {
-    base: Register,
-    offset: u64,
-}
-
-impl fmt::Display for PlaceText {
-    ghost use Rattle.std.specs.Prelude.{Some};
-    ghost use Rattle.bpf_asm.specs.Canonical.{place_text};
-
-    ghost output = { λ text. Some (place_text text.base text.offset) };
-
-    fn fmt<W: fmt::Write>(&self, f: &mut fmt::Formatter<W>) -> fmt::Result {
-        let base = RegisterText(self.base);
-        let offset = OffsetText(self.offset);
-        write!(f, "[{base}{offset}]")
     }
 }
 
@@ -195,77 +102,94 @@ fn word_of(instruction: &Instruction) -> Word
     }
 }
 
-/// The operands of an instruction, with the blank before them.
+/// The operands of an instruction, with the blank before them. None has more than three.
 #[derive(Clone, Copy)]
-struct OperandsText(Instruction);
+enum OperandsText {
+    Zero,
+    One(OperandText),
+    Two(OperandText, OperandText),
+    Three(OperandText, OperandText, OperandText),
+}
 
 impl fmt::Display for OperandsText {
     ghost use Rattle.std.specs.Prelude.{Some};
-    ghost use Rattle.bpf_asm.specs.Canonical.{operands_text};
+    ghost use Rattle.bpf_asm.specs.Printing.{all_shown};
 
-    ghost output = { λ text. Some (operands_text text.0) };
+    ghost output = { λ texts. Some (all_shown texts) };
 
     fn fmt<W: fmt::Write>(&self, f: &mut fmt::Formatter<W>) -> fmt::Result {
-        match self.0 {
-            Instruction::Arithmetic {
-                destination,
-                operand,
-                ..
-            } => {
-                let (destination, operand) = (RegisterText(destination), OperandText(operand));
-                write!(f, " {destination}, {operand}")
-            }
-            Instruction::Negate { destination, .. } | Instruction::Convert { destination, .. } => {
-                let destination = RegisterText(destination);
-                write!(f, " {destination}")
-            }
-            Instruction::MoveSigned {
-                destination,
-                source,
-                ..
-            } => {
-                let (destination, source) = (RegisterText(destination), RegisterText(source));
-                write!(f, " {destination}, {source}")
-            }
-            Instruction::LoadImmediate { destination, value } => {
-                let destination = RegisterText(destination);
-                write!(f, " {destination}, {value}")
-            }
-            Instruction::Load {
-                destination,
-                base,
-                offset,
-                ..
-            } => {
-                let (destination, place) = (RegisterText(destination), PlaceText { base, offset });
-                write!(f, " {destination}, {place}")
-            }
-            Instruction::Store {
-                base,
-                offset,
-                operand,
-                ..
-            } => {
-                let (place, operand) = (PlaceText { base, offset }, OperandText(operand));
-                write!(f, " {place}, {operand}")
-            }
-            Instruction::Jump { distance, .. } => {
-                let distance = OffsetText(distance);
-                write!(f, " {distance}")
-            }
-            Instruction::Branch {
-                left,
-                right,
-                distance,
-                ..
-            } => {
-                let (left, right) = (RegisterText(left), OperandText(right));
-                let distance = OffsetText(distance);
-                write!(f, " {left}, {right}, {distance}")
-            }
-            Instruction::Call { helper } => write!(f, " {helper}"),
-            Instruction::Exit => Ok(()),
+        match self {
+            OperandsText::Zero => Ok(()),
+            OperandsText::One(first) => write!(f, " {first}"),
+            OperandsText::Two(first, second) => write!(f, " {first}, {second}"),
+            OperandsText::Three(first, second, third) => write!(f, " {first}, {second}, {third}"),
         }
+    }
+}
+
+/// A register or an immediate.
+fn operand_of(operand: &Operand) -> OperandText
+    ensures { shown result ≡ operand_text operand.now }
+{
+    match *operand {
+        Operand::Register(register) => OperandText::Register(register),
+        Operand::Immediate(word) => OperandText::Immediate(word),
+    }
+}
+
+/// The operands that an instruction is written with.
+fn operands_of(instruction: &Instruction) -> OperandsText
+    ensures { all_shown result ≡ operands_text instruction.now }
+{
+    match *instruction {
+        Instruction::Arithmetic {
+            destination,
+            operand,
+            ..
+        } => OperandsText::Two(OperandText::Register(destination), operand_of(&operand)),
+        Instruction::Negate { destination, .. } | Instruction::Convert { destination, .. } => {
+            OperandsText::One(OperandText::Register(destination))
+        }
+        Instruction::MoveSigned {
+            destination,
+            source,
+            ..
+        } => OperandsText::Two(
+            OperandText::Register(destination),
+            OperandText::Register(source),
+        ),
+        Instruction::LoadImmediate { destination, value } => OperandsText::Two(
+            OperandText::Register(destination),
+            OperandText::Natural(value),
+        ),
+        Instruction::Load {
+            destination,
+            base,
+            offset,
+            ..
+        } => OperandsText::Two(
+            OperandText::Register(destination),
+            OperandText::Place(base, offset),
+        ),
+        Instruction::Store {
+            base,
+            offset,
+            operand,
+            ..
+        } => OperandsText::Two(OperandText::Place(base, offset), operand_of(&operand)),
+        Instruction::Jump { distance, .. } => OperandsText::One(OperandText::Offset(distance)),
+        Instruction::Branch {
+            left,
+            right,
+            distance,
+            ..
+        } => OperandsText::Three(
+            OperandText::Register(left),
+            operand_of(&right),
+            OperandText::Offset(distance),
+        ),
+        Instruction::Call { helper } => OperandsText::One(OperandText::Natural(u64::from(helper))),
+        Instruction::Exit => OperandsText::Zero,
     }
 }
 
@@ -273,6 +197,7 @@ impl fmt::Display for OperandsText {
 pub(crate) fn push_line(text: &mut String, instruction: &Instruction) -> Result<(), AllocError>
     ensures { IfOk result (λ _. string_bytes text.new ≡ string_bytes text.old ++ (line_of instruction.now ++ 10 ∷ [])) }
 {
-    let (word, operands) = (word_of(instruction), OperandsText(*instruction));
-    writeln!(text, "{word}{operands}")
+    let (stem, end) = name_parts(word_of(instruction));
+    let operands = operands_of(instruction);
+    writeln!(text, "{stem}{end}{operands}")
 }

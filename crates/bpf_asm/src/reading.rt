@@ -28,7 +28,7 @@ fn word_within(least: u64, most: u64, numeral: &Numeral) -> Result<u64, RefusalN
 fn immediate_of(numeral: &Numeral) -> Result<u64, RefusalNumber>
     ensures { result ≡ immediate_of numeral.now }
 {
-    if numeral.sign == Sign::Plus {
+    if matches!(numeral.sign, Sign::Plus) {
         return Err(RefusalNumber::BadOperand);
     }
     let word = word_within(1 << 31, 0xffff_ffff, numeral)?;
@@ -40,7 +40,7 @@ fn immediate_of(numeral: &Numeral) -> Result<u64, RefusalNumber>
 fn wide_of(numeral: &Numeral) -> Result<u64, RefusalNumber>
     ensures { result ≡ wide_of numeral.now }
 {
-    if numeral.sign == Sign::Plus {
+    if matches!(numeral.sign, Sign::Plus) {
         return Err(RefusalNumber::BadOperand);
     }
     word_within(1 << 63, u64::MAX, numeral)
@@ -50,7 +50,7 @@ fn wide_of(numeral: &Numeral) -> Result<u64, RefusalNumber>
 fn helper_of(numeral: &Numeral) -> Result<u32, RefusalNumber>
     ensures { result ≡ helper_of numeral.now }
 {
-    if numeral.sign == Sign::Plus {
+    if matches!(numeral.sign, Sign::Plus) {
         return Err(RefusalNumber::BadOperand);
     }
     Ok(word_within(0, 0xffff_ffff, numeral)? as u32)

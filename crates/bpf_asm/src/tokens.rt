@@ -1,10 +1,11 @@
 //! A line of text as tokens.
-ghost use Rattle.std.specs.Prelude.{◌≡◌, ◌≤◌, ◌+◌, ◌*◌, ◌++◌, ◌∷◌, ◌==◌, [], take, option_and_then, option_to_list};
+ghost use Rattle.std.specs.Prelude.{◌≡◌, ◌<◌, ◌≤◌, ◌+◌, ◌*◌, ◌++◌, ◌∷◌, ◌==◌, [], take, option_and_then, option_to_list, Some, None, if◌then◌else◌, codes};
+ghost use Rattle.std.specs.Str.{bytes_eq};
 ghost use Rattle.std.specs.List.{position};
 ghost use Rattle.bpf_asm.specs.Tokens.{bounded, numeral, number_of, register_named, token_of, run_tokens, mark_of, ends_run, tokens_after, without_return, content_of, tokens_of};
 ghost use Rattle.bpf_asm.specs.Assembly.{small_letters};
 
-use crate::words::{Word, word_named};
+use crate::words::{Word, is_text, word_named};
 use arrayvec::ArrayVec;
 use bpf_profile::Register;
 
@@ -65,45 +66,45 @@ fn number_of(run: &[u8]) -> Option<Option<u64>>
     numeral(10, run)
 }
 
+/// The register of one digit, if this is its name, and else what was found before.
+fn register_or(name: &[u8], digit: u8, found: Option<Register>) -> Option<Register>
+    requires { digit < 10 }
+    ensures { result ≡ if bytes_eq (small_letters name.now) (small_letters (114 ∷ (48 + digit) ∷ [])) then Some digit else found }
+{
+    if name.eq_ignore_ascii_case(&[b'r', b'0' + digit]) {
+        Some(Register::new(digit))
+    } else {
+        found
+    }
+}
+
+/// The register of two digits.
+fn last_register(name: &[u8]) -> Option<Register>
+    ensures { result ≡ if bytes_eq (small_letters name.now) (codes "r10") then Some 10 else None }
+{
+    if is_text(name, "r10") {
+        Some(Register::new(10))
+    } else {
+        None
+    }
+}
+
 /// The register of a name (RFC 9669, section 2).
 #[tactic(auto, unfolding(crate::specs::Tokens::register_named))]
 fn register_named(name: &[u8]) -> Option<Register>
     ensures { result ≡ register_named (small_letters name.now) }
 {
-    if name.eq_ignore_ascii_case(b"r0") {
-        return Some(Register::new(0));
-    }
-    if name.eq_ignore_ascii_case(b"r1") {
-        return Some(Register::new(1));
-    }
-    if name.eq_ignore_ascii_case(b"r2") {
-        return Some(Register::new(2));
-    }
-    if name.eq_ignore_ascii_case(b"r3") {
-        return Some(Register::new(3));
-    }
-    if name.eq_ignore_ascii_case(b"r4") {
-        return Some(Register::new(4));
-    }
-    if name.eq_ignore_ascii_case(b"r5") {
-        return Some(Register::new(5));
-    }
-    if name.eq_ignore_ascii_case(b"r6") {
-        return Some(Register::new(6));
-    }
-    if name.eq_ignore_ascii_case(b"r7") {
-        return Some(Register::new(7));
-    }
-    if name.eq_ignore_ascii_case(b"r8") {
-        return Some(Register::new(8));
-    }
-    if name.eq_ignore_ascii_case(b"r9") {
-        return Some(Register::new(9));
-    }
-    if name.eq_ignore_ascii_case(b"r10") {
-        return Some(Register::new(10));
-    }
-    None
+    let found = last_register(name);
+    let found = register_or(name, 9, found);
+    let found = register_or(name, 8, found);
+    let found = register_or(name, 7, found);
+    let found = register_or(name, 6, found);
+    let found = register_or(name, 5, found);
+    let found = register_or(name, 4, found);
+    let found = register_or(name, 3, found);
+    let found = register_or(name, 2, found);
+    let found = register_or(name, 1, found);
+    register_or(name, 0, found)
 }
 
 /// What a run of characters is.
@@ -189,11 +190,11 @@ fn without_return(line: &[u8]) -> &[u8]
     }
 }
 
-/// Where a comment begins.
-fn comment_start(line: &[u8]) -> Option<usize>
-    ensures { result ≡ position (λ c. c == 59) line.now }
+/// The first place of a character.
+pub(crate) fn place_of(character: u8, text: &[u8]) -> Option<usize>
+    ensures { result ≡ position (λ c. c == character) text.now }
 {
-    line.iter().position(|character| *character == b';')
+    text.iter().position(|other| *other == character)
 }
 
 /// A line without its end and its comment.
@@ -201,7 +202,7 @@ fn content_of(line: &[u8]) -> &[u8]
     ensures { result.now ≡ content_of line.now }
 {
     let line = without_return(line);
-    match comment_start(line) {
+    match place_of(b';', line) {
         Some(end) => &line[..end],
         None => line,
     }

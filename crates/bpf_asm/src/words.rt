@@ -1,6 +1,7 @@
 //! The words that instructions are written with, from a word to its name and back.
-ghost use Rattle.std.specs.Prelude.{◌≡◌};
-ghost use Rattle.bpf_asm.specs.Names.{operation_name, comparison_name, width_name, size_name, bits_name, order_name, load_name, operation_named, comparison_named, extended_named, bits_named, ordered_named, convert_named, load_named, store_named, single_named, width_of, stem_of, extended_word, stem_named, word_named};
+ghost use Rattle.std.specs.Prelude.{◌≡◌, ◌++◌, Some, if◌then◌else◌, codes};
+ghost use Rattle.std.specs.Str.{bytes_eq};
+ghost use Rattle.bpf_asm.specs.Names.{operation_name, comparison_name, width_name, size_name, bits_name, order_name, load_name, word_name, operation_named, comparison_named, extended_named, convert_named, load_named, store_named, single_named, width_of, stem_of, extended_word, stem_named, word_named};
 ghost use Rattle.bpf_asm.specs.Assembly.{small_letters};
 
 use bpf_profile::{ByteOrder, Comparison, Extension, Operation, Size, Width};
@@ -113,234 +114,196 @@ pub(crate) fn load_name(extension: Extension) -> &'static str
     }
 }
 
+/// The name of a move with sign extension, without its width.
+fn extended_name(size: Size) -> &'static str
+    ensures { result.now ≡ codes "movs" ++ size_name size }
+{
+    match size {
+        Size::Byte => "movsb",
+        Size::HalfWord => "movsh",
+        Size::Word => "movsw",
+        Size::DoubleWord => "movsdw",
+    }
+}
+
+/// The name of a word, in two parts that stand one behind the other.
+pub(crate) fn name_parts(word: Word) -> (&'static str, &'static str)
+    ensures { result.0.now ++ result.1.now ≡ word_name word }
+{
+    match word {
+        Word::Arithmetic(operation, width) => (operation_name(operation), width_name(width)),
+        Word::Negate(width) => ("neg", width_name(width)),
+        Word::MoveSigned(width, size) => (extended_name(size), width_name(width)),
+        Word::Convert(order, size) => (order_name(order), bits_name(size)),
+        Word::LoadImmediate => ("lddw", ""),
+        Word::Load(size, extension) => (load_name(extension), size_name(size)),
+        Word::Store(size) => ("st", size_name(size)),
+        Word::StoreRegister(size) => ("stx", size_name(size)),
+        Word::Jump(width) => ("ja", width_name(width)),
+        Word::Branch(comparison, width) => (comparison_name(comparison), width_name(width)),
+        Word::Call => ("call", ""),
+        Word::Exit => ("exit", ""),
+    }
+}
+
+/// Whether a name is this text, capitals being as good as small letters.
+pub(crate) fn is_text(name: &[u8], text: &str) -> bool
+    ensures { result ≡ bytes_eq (small_letters name.now) (small_letters text.now) }
+{
+    name.eq_ignore_ascii_case(text.as_bytes())
+}
+
+/// Whether a name is that of a word, capitals being as good as small letters.
+fn is_named(name: &[u8], word: Word) -> bool
+    ensures { result ≡ bytes_eq (small_letters name.now) (small_letters (word_name word)) }
+{
+    let (stem, end) = name_parts(word);
+    let Some((front, back)) = name.split_at_checked(stem.len()) else {
+        return false;
+    };
+    if is_text(front, stem) {
+        is_text(back, end)
+    } else {
+        false
+    }
+}
+
+/// The operation, if this is its name, and else what was found before.
+fn operation_or(name: &[u8], operation: Operation, found: Option<Operation>) -> Option<Operation>
+    ensures { result ≡ if bytes_eq (small_letters name.now) (small_letters (operation_name operation)) then Some operation else found }
+{
+    if is_text(name, operation_name(operation)) {
+        Some(operation)
+    } else {
+        found
+    }
+}
+
 #[tactic(auto, unfolding(crate::specs::Names::operation_named))]
 fn operation_named(name: &[u8]) -> Option<Operation>
     ensures { result ≡ operation_named (small_letters name.now) }
 {
-    if name.eq_ignore_ascii_case(b"add") {
-        return Some(Operation::Add);
+    let found = operation_or(name, Operation::ArithmeticShiftRight, None);
+    let found = operation_or(name, Operation::Move, found);
+    let found = operation_or(name, Operation::Xor, found);
+    let found = operation_or(name, Operation::SignedModulo, found);
+    let found = operation_or(name, Operation::Modulo, found);
+    let found = operation_or(name, Operation::ShiftRight, found);
+    let found = operation_or(name, Operation::ShiftLeft, found);
+    let found = operation_or(name, Operation::And, found);
+    let found = operation_or(name, Operation::Or, found);
+    let found = operation_or(name, Operation::SignedDivide, found);
+    let found = operation_or(name, Operation::Divide, found);
+    let found = operation_or(name, Operation::Multiply, found);
+    let found = operation_or(name, Operation::Subtract, found);
+    operation_or(name, Operation::Add, found)
+}
+
+/// The comparison, if this is its name, and else what was found before.
+fn comparison_or(
+    name: &[u8],
+    comparison: Comparison,
+    found: Option<Comparison>,
+) -> Option<Comparison>
+    ensures { result ≡ if bytes_eq (small_letters name.now) (small_letters (comparison_name comparison)) then Some comparison else found }
+{
+    if is_text(name, comparison_name(comparison)) {
+        Some(comparison)
+    } else {
+        found
     }
-    if name.eq_ignore_ascii_case(b"sub") {
-        return Some(Operation::Subtract);
-    }
-    if name.eq_ignore_ascii_case(b"mul") {
-        return Some(Operation::Multiply);
-    }
-    if name.eq_ignore_ascii_case(b"div") {
-        return Some(Operation::Divide);
-    }
-    if name.eq_ignore_ascii_case(b"sdiv") {
-        return Some(Operation::SignedDivide);
-    }
-    if name.eq_ignore_ascii_case(b"or") {
-        return Some(Operation::Or);
-    }
-    if name.eq_ignore_ascii_case(b"and") {
-        return Some(Operation::And);
-    }
-    if name.eq_ignore_ascii_case(b"lsh") {
-        return Some(Operation::ShiftLeft);
-    }
-    if name.eq_ignore_ascii_case(b"rsh") {
-        return Some(Operation::ShiftRight);
-    }
-    if name.eq_ignore_ascii_case(b"mod") {
-        return Some(Operation::Modulo);
-    }
-    if name.eq_ignore_ascii_case(b"smod") {
-        return Some(Operation::SignedModulo);
-    }
-    if name.eq_ignore_ascii_case(b"xor") {
-        return Some(Operation::Xor);
-    }
-    if name.eq_ignore_ascii_case(b"mov") {
-        return Some(Operation::Move);
-    }
-    if name.eq_ignore_ascii_case(b"arsh") {
-        return Some(Operation::ArithmeticShiftRight);
-    }
-    None
 }
 
 #[tactic(auto, unfolding(crate::specs::Names::comparison_named))]
 fn comparison_named(name: &[u8]) -> Option<Comparison>
     ensures { result ≡ comparison_named (small_letters name.now) }
 {
-    if name.eq_ignore_ascii_case(b"jeq") {
-        return Some(Comparison::Equal);
-    }
-    if name.eq_ignore_ascii_case(b"jgt") {
-        return Some(Comparison::Greater);
-    }
-    if name.eq_ignore_ascii_case(b"jge") {
-        return Some(Comparison::GreaterOrEqual);
-    }
-    if name.eq_ignore_ascii_case(b"jset") {
-        return Some(Comparison::BitsSet);
-    }
-    if name.eq_ignore_ascii_case(b"jne") {
-        return Some(Comparison::NotEqual);
-    }
-    if name.eq_ignore_ascii_case(b"jsgt") {
-        return Some(Comparison::SignedGreater);
-    }
-    if name.eq_ignore_ascii_case(b"jsge") {
-        return Some(Comparison::SignedGreaterOrEqual);
-    }
-    if name.eq_ignore_ascii_case(b"jlt") {
-        return Some(Comparison::Less);
-    }
-    if name.eq_ignore_ascii_case(b"jle") {
-        return Some(Comparison::LessOrEqual);
-    }
-    if name.eq_ignore_ascii_case(b"jslt") {
-        return Some(Comparison::SignedLess);
-    }
-    if name.eq_ignore_ascii_case(b"jsle") {
-        return Some(Comparison::SignedLessOrEqual);
-    }
-    None
+    let found = comparison_or(name, Comparison::SignedLessOrEqual, None);
+    let found = comparison_or(name, Comparison::SignedLess, found);
+    let found = comparison_or(name, Comparison::LessOrEqual, found);
+    let found = comparison_or(name, Comparison::Less, found);
+    let found = comparison_or(name, Comparison::SignedGreaterOrEqual, found);
+    let found = comparison_or(name, Comparison::SignedGreater, found);
+    let found = comparison_or(name, Comparison::NotEqual, found);
+    let found = comparison_or(name, Comparison::BitsSet, found);
+    let found = comparison_or(name, Comparison::GreaterOrEqual, found);
+    let found = comparison_or(name, Comparison::Greater, found);
+    comparison_or(name, Comparison::Equal, found)
 }
 
 #[tactic(auto, unfolding(crate::specs::Names::extended_named))]
 fn extended_named(name: &[u8]) -> Option<Size>
     ensures { result ≡ extended_named (small_letters name.now) }
 {
-    if name.eq_ignore_ascii_case(b"movsb") {
+    if is_text(name, "movsb") {
         return Some(Size::Byte);
     }
-    if name.eq_ignore_ascii_case(b"movsh") {
+    if is_text(name, "movsh") {
         return Some(Size::HalfWord);
     }
-    if name.eq_ignore_ascii_case(b"movsw") {
+    if is_text(name, "movsw") {
         return Some(Size::Word);
     }
     None
 }
 
-#[tactic(auto, unfolding(crate::specs::Names::bits_named))]
-fn bits_named(name: &[u8]) -> Option<Size>
-    ensures { result ≡ bits_named (small_letters name.now) }
+/// The word, if this is its name, and else what was found before.
+fn word_or(name: &[u8], word: Word, found: Option<Word>) -> Option<Word>
+    ensures { result ≡ if bytes_eq (small_letters name.now) (small_letters (word_name word)) then Some word else found }
 {
-    if name.eq_ignore_ascii_case(b"16") {
-        return Some(Size::HalfWord);
-    }
-    if name.eq_ignore_ascii_case(b"32") {
-        return Some(Size::Word);
-    }
-    if name.eq_ignore_ascii_case(b"64") {
-        return Some(Size::DoubleWord);
-    }
-    None
-}
-
-/// The size that follows the name of an order.
-#[tactic(auto, unfolding(crate::specs::Names::ordered_named))]
-fn ordered_named(order: ByteOrder, name: &[u8]) -> Option<Size>
-    ensures { result ≡ ordered_named order (small_letters name.now) }
-{
-    let word = order_name(order).as_bytes();
-    let (front, bits) = name.split_at_checked(word.len())?;
-    if front.eq_ignore_ascii_case(word) {
-        bits_named(bits)
+    if is_named(name, word) {
+        Some(word)
     } else {
-        None
+        found
     }
 }
 
-#[tactic(auto, unfolding(crate::specs::Names::convert_named))]
 fn convert_named(order: ByteOrder, name: &[u8]) -> Option<Word>
     ensures { result ≡ convert_named order (small_letters name.now) }
 {
-    let size = ordered_named(order, name)?;
-    Some(Word::Convert(order, size))
+    let found = word_or(name, Word::Convert(order, Size::DoubleWord), None);
+    let found = word_or(name, Word::Convert(order, Size::Word), found);
+    word_or(name, Word::Convert(order, Size::HalfWord), found)
 }
 
 #[tactic(auto, unfolding(crate::specs::Names::load_named))]
 fn load_named(name: &[u8]) -> Option<Word>
     ensures { result ≡ load_named (small_letters name.now) }
 {
-    if name.eq_ignore_ascii_case(b"ldxb") {
-        return Some(Word::Load(Size::Byte, Extension::Zero));
-    }
-    if name.eq_ignore_ascii_case(b"ldxh") {
-        return Some(Word::Load(Size::HalfWord, Extension::Zero));
-    }
-    if name.eq_ignore_ascii_case(b"ldxw") {
-        return Some(Word::Load(Size::Word, Extension::Zero));
-    }
-    if name.eq_ignore_ascii_case(b"ldxdw") {
-        return Some(Word::Load(Size::DoubleWord, Extension::Zero));
-    }
-    if name.eq_ignore_ascii_case(b"ldxsb") {
-        return Some(Word::Load(Size::Byte, Extension::Sign));
-    }
-    if name.eq_ignore_ascii_case(b"ldxsh") {
-        return Some(Word::Load(Size::HalfWord, Extension::Sign));
-    }
-    if name.eq_ignore_ascii_case(b"ldxsw") {
-        return Some(Word::Load(Size::Word, Extension::Sign));
-    }
-    None
+    let found = word_or(name, Word::Load(Size::Word, Extension::Sign), None);
+    let found = word_or(name, Word::Load(Size::HalfWord, Extension::Sign), found);
+    let found = word_or(name, Word::Load(Size::Byte, Extension::Sign), found);
+    let found = word_or(name, Word::Load(Size::DoubleWord, Extension::Zero), found);
+    let found = word_or(name, Word::Load(Size::Word, Extension::Zero), found);
+    let found = word_or(name, Word::Load(Size::HalfWord, Extension::Zero), found);
+    word_or(name, Word::Load(Size::Byte, Extension::Zero), found)
 }
 
 #[tactic(auto, unfolding(crate::specs::Names::store_named))]
 fn store_named(name: &[u8]) -> Option<Word>
     ensures { result ≡ store_named (small_letters name.now) }
 {
-    if name.eq_ignore_ascii_case(b"stb") {
-        return Some(Word::Store(Size::Byte));
-    }
-    if name.eq_ignore_ascii_case(b"sth") {
-        return Some(Word::Store(Size::HalfWord));
-    }
-    if name.eq_ignore_ascii_case(b"stw") {
-        return Some(Word::Store(Size::Word));
-    }
-    if name.eq_ignore_ascii_case(b"stdw") {
-        return Some(Word::Store(Size::DoubleWord));
-    }
-    if name.eq_ignore_ascii_case(b"stxb") {
-        return Some(Word::StoreRegister(Size::Byte));
-    }
-    if name.eq_ignore_ascii_case(b"stxh") {
-        return Some(Word::StoreRegister(Size::HalfWord));
-    }
-    if name.eq_ignore_ascii_case(b"stxw") {
-        return Some(Word::StoreRegister(Size::Word));
-    }
-    if name.eq_ignore_ascii_case(b"stxdw") {
-        return Some(Word::StoreRegister(Size::DoubleWord));
-    }
-    None
+    let found = word_or(name, Word::StoreRegister(Size::DoubleWord), None);
+    let found = word_or(name, Word::StoreRegister(Size::Word), found);
+    let found = word_or(name, Word::StoreRegister(Size::HalfWord), found);
+    let found = word_or(name, Word::StoreRegister(Size::Byte), found);
+    let found = word_or(name, Word::Store(Size::DoubleWord), found);
+    let found = word_or(name, Word::Store(Size::Word), found);
+    let found = word_or(name, Word::Store(Size::HalfWord), found);
+    word_or(name, Word::Store(Size::Byte), found)
 }
 
 #[tactic(auto, unfolding(crate::specs::Names::single_named))]
 fn single_named(name: &[u8]) -> Option<Word>
     ensures { result ≡ single_named (small_letters name.now) }
 {
-    if name.eq_ignore_ascii_case(b"call") {
-        return Some(Word::Call);
-    }
-    if name.eq_ignore_ascii_case(b"exit") {
-        return Some(Word::Exit);
-    }
-    if name.eq_ignore_ascii_case(b"lddw") {
-        return Some(Word::LoadImmediate);
-    }
-    if name.eq_ignore_ascii_case(b"ja") {
-        return Some(Word::Jump(Width::Bits64));
-    }
-    if name.eq_ignore_ascii_case(b"ja32") {
-        return Some(Word::Jump(Width::Bits32));
-    }
-    if name.eq_ignore_ascii_case(b"neg") {
-        return Some(Word::Negate(Width::Bits64));
-    }
-    if name.eq_ignore_ascii_case(b"neg32") {
-        return Some(Word::Negate(Width::Bits32));
-    }
-    None
+    let found = word_or(name, Word::Negate(Width::Bits32), None);
+    let found = word_or(name, Word::Negate(Width::Bits64), found);
+    let found = word_or(name, Word::Jump(Width::Bits32), found);
+    let found = word_or(name, Word::Jump(Width::Bits64), found);
+    let found = word_or(name, Word::LoadImmediate, found);
+    let found = word_or(name, Word::Exit, found);
+    word_or(name, Word::Call, found)
 }
 
 /// A name without the 32 at its end, and the width that this says.
