@@ -1,10 +1,12 @@
 //! Answers as JSON values. Every error is want of memory.
 ghost use Rattle.std.specs.Prelude.{◌≡◌, IfOk};
 ghost use Rattle.serde_json.specs.View.{view};
+ghost use Rattle.service_profile.specs.declared.replies.Reply.TheVariants as replied;
 ghost use Rattle.answers.specs.Texts.{rate, refusal_data, program_refusal_data, handed_out_data, reply_data, reading_data};
 
 use crate::names::{fate_name, state_name, verdict_name};
-use book::{Reading, Reply};
+use book::{Fate, Reading, Reply, State};
+use bpf_profile::Verdict;
 use refusals::RefusalNumber;
 use serde_json::{Value, json};
 use std::alloc::{AllocError, Global};
@@ -42,6 +44,49 @@ pub(crate) fn handed_out(alloc: Global, count: u64) -> Result<Value, AllocError>
     json!(in alloc; {"entries": count})
 }
 
+fn permitted(alloc: Global, ticket: u64, version: u64, state: State) -> Result<Value, AllocError>
+    ensures { IfOk result (λ value. view value ≡ reply_data (replied.Permitted ticket version state)) }
+{
+    let state = state_name(state);
+    json!(in alloc; {"state": state, "ticket": ticket, "version": version})
+}
+
+fn finished(
+    alloc: Global,
+    fate: Fate,
+    verdict: Verdict,
+    steps: u32,
+    version: u64,
+    state: State,
+) -> Result<Value, AllocError>
+    ensures { IfOk result (λ value. view value ≡ reply_data (replied.Finished fate verdict steps version state)) }
+{
+    let fate = fate_name(fate);
+    let verdict = verdict_name(verdict);
+    let state = state_name(state);
+    json!(in alloc; {"fate": fate, "state": state, "steps": steps, "verdict": verdict, "version": version})
+}
+
+fn released(alloc: Global, state: State) -> Result<Value, AllocError>
+    ensures { IfOk result (λ value. view value ≡ reply_data (replied.Released state)) }
+{
+    let state = state_name(state);
+    json!(in alloc; {"fate": "released", "state": state})
+}
+
+fn installed(alloc: Global, version: u64, budget: u32) -> Result<Value, AllocError>
+    ensures { IfOk result (λ value. view value ≡ reply_data (replied.Installed version budget)) }
+{
+    json!(in alloc; {"budget": budget, "version": version})
+}
+
+fn moved(alloc: Global, state: State, period: u64) -> Result<Value, AllocError>
+    ensures { IfOk result (λ value. view value ≡ reply_data (replied.Moved state period)) }
+{
+    let state = state_name(state);
+    json!(in alloc; {"period": period, "state": state})
+}
+
 pub(crate) fn reply(alloc: Global, reply: Reply) -> Result<Value, AllocError>
     ensures { IfOk result (λ value. view value ≡ reply_data reply) }
 {
@@ -51,33 +96,17 @@ pub(crate) fn reply(alloc: Global, reply: Reply) -> Result<Value, AllocError>
             ticket,
             version,
             state,
-        } => {
-            let state = state_name(state);
-            json!(in alloc; {"state": state, "ticket": ticket, "version": version})
-        }
+        } => permitted(alloc, ticket, version, state),
         Reply::Finished {
             fate,
             verdict,
             steps,
             version,
             state,
-        } => {
-            let fate = fate_name(fate);
-            let verdict = verdict_name(verdict);
-            let state = state_name(state);
-            json!(in alloc; {"fate": fate, "state": state, "steps": steps, "verdict": verdict, "version": version})
-        }
-        Reply::Released { state } => {
-            let state = state_name(state);
-            json!(in alloc; {"fate": "released", "state": state})
-        }
-        Reply::Installed { version, budget } => {
-            json!(in alloc; {"budget": budget, "version": version})
-        }
-        Reply::Moved { state, period } => {
-            let state = state_name(state);
-            json!(in alloc; {"period": period, "state": state})
-        }
+        } => finished(alloc, fate, verdict, steps, version, state),
+        Reply::Released { state } => released(alloc, state),
+        Reply::Installed { version, budget } => installed(alloc, version, budget),
+        Reply::Moved { state, period } => moved(alloc, state, period),
     }
 }
 
