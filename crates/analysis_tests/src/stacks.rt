@@ -1,11 +1,14 @@
 //! Stacks by hand, over any domain, with the flat domain in its place.
-use crate::checks::{is_true, same, same_at};
+ghost use Rattle.std.specs.Prelude.{◌≤◌, ◌+◌};
+
+use crate::checks::{same, same_at};
 use abs_domain::{Domain, Flat};
 use abs_regs::{AbsVal, Address};
 use bpf_profile::{Extension, Size};
 use refusals::RefusalNumber;
 use stack_track::{Cell, StackState};
 use std::alloc::Global;
+use std::fmt::Debug;
 use std::process::Abort;
 use std::test::*;
 
@@ -70,6 +73,24 @@ fn refusal_of_store<D: Domain>(
     copy(state).store(address, value, size).err()
 }
 
+/// The list of the cells in the text of a state.
+fn cells_of<'a>(rt: &impl Abort, text: &'a str) -> &'a str {
+    let (_, cells) = text.split_once('[').expect(rt, "a list of cells");
+    let (cells, _) = cells.split_once(']').expect(rt, "the end of the list");
+    cells
+}
+
+/// Checks a cell in a list of 64.
+fn is_listed(rt: &impl Abort, cells: &str, index: usize, wanted: &str) {
+    same_at(rt, cells.split(", ").count(), 64, &cells);
+    same_at(rt, cells.split(", ").nth(index), Some(wanted), &index);
+}
+
+/// The text that shows a value.
+fn text_of<T: Debug>(rt: &impl Abort, alloc: Global, value: &T) -> String {
+    format!(in alloc; "{value:?}").expect(rt, "memory for a text")
+}
+
 /// Checks what is known of a cell, the first one's index being 0: the text of the state has each cell's.
 fn has_cell(
     rt: &impl Abort,
@@ -77,19 +98,10 @@ fn has_cell(
     state: &StackState<Flat>,
     index: usize,
     wanted: Cell<Flat>,
-) -> Result<(), Fail> {
-    let text = format!(in alloc; "{state:?}")?;
-    let wanted = format!(in alloc; "{wanted:?}")?;
-    let (_, cells) = text.split_once('[').expect(rt, "a list of cells");
-    let (cells, _) = cells.split_once(']').expect(rt, "the end of the list");
-    same_at(rt, cells.split(", ").count(), 64, &text);
-    same_at(
-        rt,
-        cells.split(", ").nth(index),
-        Some(wanted.as_str()),
-        &index,
-    );
-    Ok(())
+) {
+    let text = text_of(rt, alloc, state);
+    let wanted = text_of(rt, alloc, &wanted);
+    is_listed(rt, cells_of(rt, &text), index, &wanted);
 }
 
 /// A stack of which only the last cell is known, as this one.
@@ -108,245 +120,343 @@ fn last_cell(cell: Cell<Flat>) -> StackState<Flat> {
     }
 }
 
+/// Checks what is loaded of a seven that was stored in some size.
+fn is_loaded(rt: &impl Abort, size: Size, read: Size, wanted: Loaded<Flat>) {
+    let state = store(StackState::entry(), 16, number(7), size);
+    same_at(rt, load(&state, 16, read), wanted, (&size, &read));
+}
+
+/// Checks what each size loads of a seven that was stored in some size.
+fn are_loaded(rt: &impl Abort, size: Size, wanted: [Loaded<Flat>; 4]) {
+    is_loaded(rt, size, Size::Byte, wanted[0]);
+    is_loaded(rt, size, Size::HalfWord, wanted[1]);
+    is_loaded(rt, size, Size::Word, wanted[2]);
+    is_loaded(rt, size, Size::DoubleWord, wanted[3]);
+}
+
+/// Checks that a store sets nothing beside its own bytes.
+fn bytes_beside_are_unset(rt: &impl Abort, size: Size) {
+    let unset = Err(RefusalNumber::UnsetStack);
+    let state = store(StackState::entry(), 16, number::<Flat>(7), size);
+    same_at(rt, load(&state, 8, Size::Byte), unset, &size);
+    same_at(rt, load(&state, 17, Size::Byte), unset, &size);
+}
+
 #[test]
 fn numbers_load_in_each_size(rt: HostRuntime) -> Result<(), Fail> {
-    for size in SIZES {
-        let state = store(StackState::entry(), 16, number::<Flat>(7), size);
-        let whole = match size {
-            Size::DoubleWord => Ok(number(7)),
-            _ => Err(RefusalNumber::UnsetStack),
-        };
-        same_at(&rt, load(&state, 16, Size::DoubleWord), whole, &size);
-        for read in SIZES {
-            let found = load(&state, 16, read);
-            let expected = if read.bytes() > size.bytes() {
-                Err(RefusalNumber::UnsetStack)
-            } else if read == Size::DoubleWord {
-                Ok(number(7))
-            } else {
-                Ok(ANY)
-            };
-            same_at(&rt, found, expected, (&size, &read));
-        }
-        same(
-            &rt,
-            load(&state, 8, Size::Byte),
-            Err(RefusalNumber::UnsetStack),
-        );
-        same(
-            &rt,
-            load(&state, 17, Size::Byte),
-            Err(RefusalNumber::UnsetStack),
-        );
-    }
+    let any = Ok(ANY);
+    let seven = Ok(number(7));
+    let unset = Err(RefusalNumber::UnsetStack);
+    are_loaded(&rt, Size::Byte, [any, unset, unset, unset]);
+    are_loaded(&rt, Size::HalfWord, [any, any, unset, unset]);
+    are_loaded(&rt, Size::Word, [any, any, any, unset]);
+    are_loaded(&rt, Size::DoubleWord, [any, any, any, seven]);
+    bytes_beside_are_unset(&rt, Size::Byte);
+    bytes_beside_are_unset(&rt, Size::HalfWord);
+    bytes_beside_are_unset(&rt, Size::Word);
+    bytes_beside_are_unset(&rt, Size::DoubleWord);
     Ok(())
+}
+
+/// Checks that of a pointer in the last cell no part is loaded, and that no part of one is stored.
+fn has_no_part(rt: &impl Abort, pointer: AbsVal<Flat>, bytes_before: u64, size: Size) {
+    let used = RefusalNumber::PointerUsed;
+    let state = store(StackState::entry(), 8, pointer, Size::DoubleWord);
+    same_at(rt, load(&state, bytes_before, size), Err(used), &size);
+    let address = Address::Stack(before(bytes_before));
+    let refused = refusal_of_store(&state, address, pointer, size);
+    same_at(rt, refused, Some(used), &size);
+}
+
+/// Checks that a pointer is stored and loaded whole, or not at all.
+fn is_loaded_whole(rt: &impl Abort, pointer: AbsVal<Flat>) {
+    let state = store(StackState::entry(), 8, pointer, Size::DoubleWord);
+    same(rt, load(&state, 8, Size::DoubleWord), Ok(pointer));
+    has_no_part(rt, pointer, 8, Size::Word);
+    has_no_part(rt, pointer, 4, Size::Word);
+    has_no_part(rt, pointer, 2, Size::HalfWord);
+    has_no_part(rt, pointer, 1, Size::Byte);
 }
 
 #[test]
 fn pointers_load_whole(rt: HostRuntime) -> Result<(), Fail> {
-    for pointer in [AbsVal::Stack(before(24)), AbsVal::Context(Flat::One(4))] {
-        let state = store(StackState::entry(), 8, pointer, Size::DoubleWord);
-        same(&rt, load(&state, 8, Size::DoubleWord), Ok(pointer));
-        for (bytes_before, size) in [
-            (8, Size::Word),
-            (4, Size::Word),
-            (2, Size::HalfWord),
-            (1, Size::Byte),
-        ] {
-            let found = load(&state, bytes_before, size);
-            same_at(&rt, found, Err(RefusalNumber::PointerUsed), &size);
-            let offset = Address::Stack(before(bytes_before));
-            let refused = refusal_of_store(&state, offset, pointer, size);
-            same_at(&rt, refused, Some(RefusalNumber::PointerUsed), &size);
-        }
-    }
+    is_loaded_whole(&rt, AbsVal::Stack(before(24)));
+    is_loaded_whole(&rt, AbsVal::Context(Flat::One(4)));
     Ok(())
 }
+
+/// Checks why nothing is loaded from an offset of the stack at the entry, and that nothing is stored there
+/// for the same reason, unless it is that nothing was.
+fn is_refused(rt: &impl Abort, offset: u64, size: Size, expected: RefusalNumber) {
+    let state = StackState::<Flat>::entry();
+    let found = state.load(CONTEXT, Address::Stack(offset), Extension::Zero, size);
+    same_at(rt, found, Err(expected), (&offset, &size));
+    let stored = if expected == RefusalNumber::UnsetStack {
+        None
+    } else {
+        Some(expected)
+    };
+    let refused = refusal_of_store(&state, Address::Stack(offset), number(1), size);
+    same_at(rt, refused, stored, (&offset, &size));
+}
+
+/// Checks why each size is refused at an offset.
+fn are_refused(rt: &impl Abort, offset: u64, refusals: &[RefusalNumber; 4]) {
+    is_refused(rt, offset, Size::Byte, refusals[0]);
+    is_refused(rt, offset, Size::HalfWord, refusals[1]);
+    is_refused(rt, offset, Size::Word, refusals[2]);
+    is_refused(rt, offset, Size::DoubleWord, refusals[3]);
+}
+
+/// Checks why each size is refused at offsets that lie so many bytes before the stack's end.
+fn are_refused_before(rt: &impl Abort, rows: &[(u64, [RefusalNumber; 4])]) {
+    for row in rows {
+        are_refused(rt, before(row.0), &row.1);
+    }
+}
+
+const NOT_SET: RefusalNumber = RefusalNumber::UnsetStack;
+
+const IS_OUTSIDE: RefusalNumber = RefusalNumber::OutOfBounds;
+
+const IS_MISALIGNED: RefusalNumber = RefusalNumber::Misaligned;
+
+/// Each size lies outside.
+const ALL_OUTSIDE: [RefusalNumber; 4] = [IS_OUTSIDE, IS_OUTSIDE, IS_OUTSIDE, IS_OUTSIDE];
+
+/// A byte lies outside, and each other size is asked for its alignment before.
+const ALL_BUT_ONE: [RefusalNumber; 4] = [IS_OUTSIDE, IS_MISALIGNED, IS_MISALIGNED, IS_MISALIGNED];
 
 #[test]
 fn offsets_are_aligned_and_inside(rt: HostRuntime) -> Result<(), Fail> {
-    let unset = RefusalNumber::UnsetStack;
-    let outside = RefusalNumber::OutOfBounds;
-    let misaligned = RefusalNumber::Misaligned;
-    for (offset, refusals) in [
-        (before(520), [outside, outside, outside, outside]),
-        (before(513), [outside, misaligned, misaligned, misaligned]),
-        (before(512), [unset, unset, unset, unset]),
-        (before(4), [unset, unset, unset, misaligned]),
-        (before(2), [unset, unset, misaligned, misaligned]),
-        (before(1), [unset, misaligned, misaligned, misaligned]),
-        (0, [outside, outside, outside, outside]),
-        (1, [outside, misaligned, misaligned, misaligned]),
-        (1 << 63, [outside, outside, outside, outside]),
-    ] {
-        for (size, expected) in SIZES.into_iter().zip(refusals) {
-            let state = StackState::<Flat>::entry();
-            let found = state.load(CONTEXT, Address::Stack(offset), Extension::Zero, size);
-            same_at(&rt, found, Err(expected), (&offset, &size));
-            let refused = refusal_of_store(&state, Address::Stack(offset), number(1), size);
-            let stored = if expected == unset {
-                None
-            } else {
-                Some(expected)
-            };
-            same_at(&rt, refused, stored, (&offset, &size));
-        }
-    }
+    are_refused_before(
+        &rt,
+        &[
+            (520, ALL_OUTSIDE),
+            (513, ALL_BUT_ONE),
+            (512, [NOT_SET, NOT_SET, NOT_SET, NOT_SET]),
+            (4, [NOT_SET, NOT_SET, NOT_SET, IS_MISALIGNED]),
+            (2, [NOT_SET, NOT_SET, IS_MISALIGNED, IS_MISALIGNED]),
+            (1, [NOT_SET, IS_MISALIGNED, IS_MISALIGNED, IS_MISALIGNED]),
+        ],
+    );
+    are_refused(&rt, 0, &ALL_OUTSIDE);
+    are_refused(&rt, 1, &ALL_BUT_ONE);
+    are_refused(&rt, 1 << 63, &ALL_OUTSIDE);
     Ok(())
 }
 
+/// The bytes of a context, an offset, a size, and what is loaded.
+type OfContext = (u64, Flat, Size, Loaded<Flat>);
+
+/// Checks what is loaded from contexts.
+fn are_loaded_of_context(rt: &impl Abort, rows: &[OfContext]) {
+    let state = StackState::entry();
+    for row in rows {
+        let (context_size, offset, size, expected) = *row;
+        let found = load_context(&state, context_size, offset, size);
+        same_at(rt, found, expected, (&context_size, &offset, &size));
+    }
+}
+
+/// A load that is refused, since it goes past the end.
+const OUTSIDE: Loaded<Flat> = Err(RefusalNumber::OutOfBounds);
+
+/// A load that is refused for its offset.
+const MISALIGNED: Loaded<Flat> = Err(RefusalNumber::Misaligned);
+
 #[test]
 fn the_context_is_aligned_inside_and_read_only(rt: HostRuntime) -> Result<(), Fail> {
-    let state = StackState::entry();
-    let outside = Err(RefusalNumber::OutOfBounds);
-    let misaligned = Err(RefusalNumber::Misaligned);
-    for (context_size, offset, size, expected) in [
-        (CONTEXT, Flat::One(0), Size::DoubleWord, Ok(ANY)),
-        (CONTEXT, Flat::One(120), Size::DoubleWord, Ok(ANY)),
-        (CONTEXT, Flat::One(124), Size::DoubleWord, misaligned),
-        (CONTEXT, Flat::One(127), Size::Byte, Ok(ANY)),
-        (CONTEXT, Flat::One(128), Size::Byte, outside),
-        (CONTEXT, Flat::One(129), Size::HalfWord, misaligned),
-        (CONTEXT, Flat::One(u64::MAX), Size::Byte, outside),
-        (CONTEXT, Flat::Any, Size::Word, misaligned),
-        (124, Flat::One(120), Size::Word, Ok(ANY)),
-        (124, Flat::One(120), Size::DoubleWord, outside),
-        (3, Flat::One(0), Size::Word, outside),
-        (0, Flat::One(0), Size::Byte, outside),
-        (u64::MAX, Flat::One(u64::MAX), Size::Byte, outside),
-    ] {
-        let found = load_context(&state, context_size, offset, size);
-        same_at(&rt, found, expected, (&context_size, &offset, &size));
-    }
+    are_loaded_of_context(
+        &rt,
+        &[
+            (CONTEXT, Flat::One(0), Size::DoubleWord, Ok(ANY)),
+            (CONTEXT, Flat::One(120), Size::DoubleWord, Ok(ANY)),
+            (CONTEXT, Flat::One(124), Size::DoubleWord, MISALIGNED),
+            (CONTEXT, Flat::One(127), Size::Byte, Ok(ANY)),
+            (CONTEXT, Flat::One(128), Size::Byte, OUTSIDE),
+            (CONTEXT, Flat::One(129), Size::HalfWord, MISALIGNED),
+            (CONTEXT, Flat::One(u64::MAX), Size::Byte, OUTSIDE),
+            (CONTEXT, Flat::Any, Size::Word, MISALIGNED),
+            (124, Flat::One(120), Size::Word, Ok(ANY)),
+            (124, Flat::One(120), Size::DoubleWord, OUTSIDE),
+            (3, Flat::One(0), Size::Word, OUTSIDE),
+            (0, Flat::One(0), Size::Byte, OUTSIDE),
+            (u64::MAX, Flat::One(u64::MAX), Size::Byte, OUTSIDE),
+        ],
+    );
     let offset = Address::Context(Flat::One(1));
-    let written = refusal_of_store(&state, offset, AbsVal::Unset, Size::Word);
+    let written = refusal_of_store(&StackState::entry(), offset, AbsVal::Unset, Size::Word);
     same(&rt, written, Some(RefusalNumber::ContextWrite));
     Ok(())
 }
 
+/// Checks why an unset value is not stored at an offset.
+fn unset_is_not_stored(rt: &impl Abort, size: Size, offset: u64, wanted: RefusalNumber) {
+    let state = StackState::<Flat>::entry();
+    let refused = refusal_of_store(&state, Address::Stack(offset), AbsVal::Unset, size);
+    same_at(rt, refused, Some(wanted), (&size, &offset));
+}
+
 #[test]
 fn unset_values_are_not_stored(rt: HostRuntime) -> Result<(), Fail> {
-    let state = StackState::<Flat>::entry();
-    for size in SIZES {
-        let inside = refusal_of_store(&state, Address::Stack(before(8)), AbsVal::Unset, size);
-        same(&rt, inside, Some(RefusalNumber::UnsetRegister));
-        let outside = refusal_of_store(&state, Address::Stack(8), AbsVal::Unset, size);
-        same(&rt, outside, Some(RefusalNumber::OutOfBounds));
+    for size in &SIZES {
+        unset_is_not_stored(&rt, *size, before(8), RefusalNumber::UnsetRegister);
+        unset_is_not_stored(&rt, *size, 8, RefusalNumber::OutOfBounds);
     }
     Ok(())
+}
+
+/// Checks what is left of a value in the last cell once one byte of it is stored.
+fn part_is_kept(rt: &impl Abort, alloc: Global, old: AbsVal<Flat>, mask: u8) {
+    let kept = store(StackState::entry(), 8, old, Size::DoubleWord);
+    let state = store(kept, 6, number(1), Size::Byte);
+    has_cell(rt, alloc, &state, 63, Cell::Bytes(mask));
+    has_cell(rt, alloc, &state, 62, Cell::Bytes(0));
+}
+
+/// The stack with zeros stored, once the bytes of its last cell that are set by then are checked.
+fn zeros_are_stored(
+    rt: &impl Abort,
+    alloc: Global,
+    state: StackState<Flat>,
+    bytes_before: u64,
+    size: Size,
+    mask: u8,
+) -> StackState<Flat> {
+    let state = store(state, bytes_before, number(0), size);
+    has_cell(rt, alloc, &state, 63, Cell::Bytes(mask));
+    state
 }
 
 #[test]
 fn parts_keep_the_bytes_that_were_set(rt: HostRuntime) -> Result<(), Fail> {
-    for (old, mask) in [
-        (number::<Flat>(5), 255),
-        (AbsVal::Stack(before(8)), 4),
-        (AbsVal::Context(Flat::One(0)), 4),
-    ] {
-        let kept = store(StackState::entry(), 8, old, Size::DoubleWord);
-        let state = store(kept, 6, number(1), Size::Byte);
-        has_cell(&rt, rt.alloc(), &state, 63, Cell::Bytes(mask))?;
-        has_cell(&rt, rt.alloc(), &state, 62, Cell::Bytes(0))?;
-    }
-    let mut state = StackState::<Flat>::entry();
-    for (bytes_before, size, mask) in [
-        (8, Size::Byte, 0x01),
-        (6, Size::HalfWord, 0x0d),
-        (4, Size::Word, 0xfd),
-        (7, Size::Byte, 0xff),
-    ] {
-        state = store(state, bytes_before, number(0), size);
-        has_cell(&rt, rt.alloc(), &state, 63, Cell::Bytes(mask))?;
-    }
+    let alloc = rt.alloc();
+    part_is_kept(&rt, alloc, number(5), 255);
+    part_is_kept(&rt, alloc, AbsVal::Stack(before(8)), 4);
+    part_is_kept(&rt, alloc, AbsVal::Context(Flat::One(0)), 4);
+    let state = StackState::entry();
+    let state = zeros_are_stored(&rt, alloc, state, 8, Size::Byte, 0x01);
+    let state = zeros_are_stored(&rt, alloc, state, 6, Size::HalfWord, 0x0d);
+    let state = zeros_are_stored(&rt, alloc, state, 4, Size::Word, 0xfd);
+    let state = zeros_are_stored(&rt, alloc, state, 7, Size::Byte, 0xff);
     same(&rt, load(&state, 8, Size::DoubleWord), Ok(ANY));
     let whole = store(state, 8, number(9), Size::DoubleWord);
-    has_cell(&rt, rt.alloc(), &whole, 63, Cell::Kept(number(9)))?;
+    has_cell(&rt, alloc, &whole, 63, Cell::Kept(number(9)));
     Ok(())
 }
 
+/// Checks the join of two stacks of which the last cell is known.
+fn is_joined(rt: &impl Abort, alloc: Global, a: Cell<Flat>, b: Cell<Flat>, joined: Cell<Flat>) {
+    let mut state = last_cell(a);
+    state.join(&last_cell(b));
+    has_cell(rt, alloc, &state, 63, joined);
+}
+
+/// Two cells, and what is known where either may be.
+type Joined = (Cell<Flat>, Cell<Flat>, Cell<Flat>);
+
+/// Checks the joins of cells.
+fn are_joined(rt: &impl Abort, alloc: Global, rows: &[Joined]) {
+    for row in rows {
+        let (a, b, joined) = *row;
+        is_joined(rt, alloc, a, b, joined);
+        is_joined(rt, alloc, b, a, joined);
+    }
+}
+
+/// A pointer to the last cell.
+const LAST: Cell<Flat> = Cell::Kept(AbsVal::Stack(0xffff_ffff_ffff_fff8));
+
+/// A pointer to the cell before it.
+const BEFORE_IT: Cell<Flat> = Cell::Kept(AbsVal::Stack(0xffff_ffff_ffff_fff0));
+
+/// Byte 4 of the context.
+const BYTE_4: Cell<Flat> = Cell::Kept(AbsVal::Context(Flat::One(4)));
+
+const START_OF_CONTEXT: Cell<Flat> = Cell::Kept(AbsVal::Context(Flat::One(0)));
+
+const ANY_OF_CONTEXT: Cell<Flat> = Cell::Kept(AbsVal::Context(Flat::Any));
+
+const FIVE: Cell<Flat> = Cell::Kept(AbsVal::Number(Flat::One(5)));
+
+const SIX: Cell<Flat> = Cell::Kept(AbsVal::Number(Flat::One(6)));
+
+/// No byte is set.
+const NONE: Cell<Flat> = Cell::Bytes(0);
+
 #[test]
 fn cells_are_joined_by_kind(rt: HostRuntime) -> Result<(), Fail> {
-    let stack = Cell::Kept(AbsVal::Stack(before(8)));
-    let other = Cell::Kept(AbsVal::Stack(before(16)));
-    let context = Cell::Kept(AbsVal::Context(Flat::One(4)));
-    let five = Cell::Kept(number(5));
-    for (a, b, joined) in [
-        (Cell::Bytes(12), Cell::Bytes(10), Cell::Bytes(8)),
-        (Cell::Bytes(12), five, Cell::Bytes(12)),
-        (Cell::Bytes(12), stack, Cell::Bytes(0)),
-        (Cell::Bytes(12), context, Cell::Bytes(0)),
-        (five, five, five),
-        (five, Cell::Kept(number(6)), Cell::Kept(ANY)),
-        (five, stack, Cell::Bytes(0)),
-        (five, context, Cell::Bytes(0)),
-        (stack, stack, stack),
-        (stack, other, Cell::Bytes(0)),
-        (stack, context, Cell::Bytes(0)),
-        (context, context, context),
-        (
-            context,
-            Cell::Kept(AbsVal::Context(Flat::One(0))),
-            Cell::Kept(AbsVal::Context(Flat::Any)),
-        ),
-    ] {
-        let mut one = last_cell(a);
-        one.join(&last_cell(b));
-        has_cell(&rt, rt.alloc(), &one, 63, joined)?;
-        let mut other = last_cell(b);
-        other.join(&last_cell(a));
-        has_cell(&rt, rt.alloc(), &other, 63, joined)?;
-    }
+    are_joined(
+        &rt,
+        rt.alloc(),
+        &[
+            (Cell::Bytes(12), Cell::Bytes(10), Cell::Bytes(8)),
+            (Cell::Bytes(12), FIVE, Cell::Bytes(12)),
+            (Cell::Bytes(12), LAST, NONE),
+            (Cell::Bytes(12), BYTE_4, NONE),
+            (FIVE, FIVE, FIVE),
+            (FIVE, SIX, Cell::Kept(ANY)),
+            (FIVE, LAST, NONE),
+            (FIVE, BYTE_4, NONE),
+            (LAST, LAST, LAST),
+            (LAST, BEFORE_IT, NONE),
+            (LAST, BYTE_4, NONE),
+            (BYTE_4, BYTE_4, BYTE_4),
+            (BYTE_4, START_OF_CONTEXT, ANY_OF_CONTEXT),
+        ],
+    );
     Ok(())
+}
+
+/// The join of two stacks.
+fn joined(mut state: StackState<Flat>, other: &StackState<Flat>) -> StackState<Flat> {
+    state.join(other);
+    state
 }
 
 #[test]
 fn stacks_are_joined_cell_by_cell(rt: HostRuntime) -> Result<(), Fail> {
-    let one = store(StackState::entry(), 8, number::<Flat>(1), Size::DoubleWord);
+    let alloc = rt.alloc();
+    let one = store(StackState::entry(), 8, number(1), Size::DoubleWord);
     let both = store(copy(&one), 512, number(2), Size::Word);
-    let mut joined = copy(&both);
-    joined.join(&one);
-    has_cell(&rt, rt.alloc(), &joined, 63, Cell::Kept(number(1)))?;
-    has_cell(&rt, rt.alloc(), &joined, 0, Cell::Bytes(0))?;
-    let mut again = both;
-    again.join(&store(one, 510, number(3), Size::HalfWord));
-    has_cell(&rt, rt.alloc(), &again, 0, Cell::Bytes(12))?;
-    has_cell(&rt, rt.alloc(), &again, 1, Cell::Bytes(0))?;
+    let state = joined(copy(&both), &one);
+    has_cell(&rt, alloc, &state, 63, Cell::Kept(number(1)));
+    has_cell(&rt, alloc, &state, 0, Cell::Bytes(0));
+    let again = joined(both, &store(one, 510, number(3), Size::HalfWord));
+    has_cell(&rt, alloc, &again, 0, Cell::Bytes(12));
+    has_cell(&rt, alloc, &again, 1, Cell::Bytes(0));
     Ok(())
+}
+
+/// Checks whether each byte of a stretch is set.
+fn stretch_is_set(rt: &impl Abort, state: &StackState<Flat>, place: u64, count: u64, wanted: bool)
+    requires { place + count ≤ 512 }
+{
+    let found = state.stretch_is_set(place, count);
+    same_at(rt, found, wanted, (&place, &count));
 }
 
 #[test]
 fn stretches_cross_cells(rt: HostRuntime) -> Result<(), Fail> {
-    let state = store(
-        StackState::entry(),
-        504,
-        number::<Flat>(1),
-        Size::DoubleWord,
-    );
+    let alloc = rt.alloc();
+    let state = store(StackState::entry(), 504, number(1), Size::DoubleWord);
     let mut written = copy(&state);
     written.write_stretch(6, 13);
-    has_cell(&rt, rt.alloc(), &written, 0, Cell::Bytes(0xc0))?;
-    has_cell(&rt, rt.alloc(), &written, 1, Cell::Bytes(0xff))?;
-    has_cell(&rt, rt.alloc(), &written, 2, Cell::Bytes(0x07))?;
-    for (place, count, set) in [
-        (6, 13, true),
-        (5, 1, false),
-        (5, 3, false),
-        (18, 1, true),
-        (18, 2, false),
-        (6, 0, true),
-        (5, 0, true),
-        (511, 1, false),
-    ] {
-        same_at(
-            &rt,
-            written.stretch_is_set(place, count),
-            set,
-            (&place, &count),
-        );
-    }
-    is_true(&rt, state.stretch_is_set(8, 8));
+    has_cell(&rt, alloc, &written, 0, Cell::Bytes(0xc0));
+    has_cell(&rt, alloc, &written, 1, Cell::Bytes(0xff));
+    has_cell(&rt, alloc, &written, 2, Cell::Bytes(0x07));
+    stretch_is_set(&rt, &written, 6, 13, true);
+    stretch_is_set(&rt, &written, 5, 1, false);
+    stretch_is_set(&rt, &written, 5, 3, false);
+    stretch_is_set(&rt, &written, 18, 1, true);
+    stretch_is_set(&rt, &written, 18, 2, false);
+    stretch_is_set(&rt, &written, 6, 0, true);
+    stretch_is_set(&rt, &written, 5, 0, true);
+    stretch_is_set(&rt, &written, 511, 1, false);
+    stretch_is_set(&rt, &state, 8, 8, true);
     let mut all = state;
     all.write_stretch(0, 512);
-    is_true(&rt, all.stretch_is_set(0, 512));
+    stretch_is_set(&rt, &all, 0, 512, true);
     Ok(())
 }

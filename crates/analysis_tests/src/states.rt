@@ -34,6 +34,24 @@ const STACK: AbsVal<Flat> = AbsVal::Stack(0xffff_ffff_ffff_fff0);
 /// Byte 24 of the context.
 const CONTEXT: AbsVal<Flat> = AbsVal::Context(Flat::One(24));
 
+/// The end of the stack.
+const END: AbsVal<Flat> = AbsVal::Stack(0);
+
+/// The first byte of the stack.
+const START: AbsVal<Flat> = AbsVal::Stack(MINUS_512);
+
+/// One byte before the first of the stack.
+const BEFORE_START: AbsVal<Flat> = AbsVal::Stack(0xffff_ffff_ffff_fdff);
+
+/// -1 as a word.
+const MINUS_1: u64 = u64::MAX;
+
+/// -8 as a word.
+const MINUS_8: u64 = 0xffff_ffff_ffff_fff8;
+
+/// -512 as a word.
+const MINUS_512: u64 = 0xffff_ffff_ffff_fe00;
+
 type Found = Result<AbsState<Flat>, RefusalNumber>;
 
 /// The number that is one word.

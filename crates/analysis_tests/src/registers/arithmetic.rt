@@ -5,9 +5,10 @@ use abs_domain::{Domain, Flat};
 use abs_regs::AbsVal;
 use bpf_profile::{ByteOrder, Operation, Size, Width};
 use refusals::RefusalNumber;
+use std::process::Abort;
 use std::test::*;
 
-const WIDTHS: [Width; 2] = [Width::Bits32, Width::Bits64];
+type Value = AbsVal<Flat>;
 
 /// The operations that neither copy nor move a pointer.
 const ON_NUMBERS_ALONE: [Operation; 11] = [
@@ -37,241 +38,344 @@ fn refusal<D: Domain>(
     }
 }
 
+/// Checks that an operation is refused.
+fn is_refused(
+    rt: &impl Abort,
+    operation: Operation,
+    width: Width,
+    a: Value,
+    b: Value,
+    wanted: RefusalNumber,
+) {
+    let found = refusal(operation, width, a, b);
+    same_at(rt, found, Some(wanted), (&operation, &width, &a, &b));
+}
+
+/// Checks that an operation is refused, and with its operands exchanged, too.
+fn both_are_refused(
+    rt: &impl Abort,
+    operation: Operation,
+    width: Width,
+    a: Value,
+    b: Value,
+    wanted: RefusalNumber,
+) {
+    is_refused(rt, operation, width, a, b, wanted);
+    is_refused(rt, operation, width, b, a, wanted);
+}
+
+/// Checks that no operand may be unset.
+fn unset_is_refused(rt: &impl Abort, operation: Operation, width: Width) {
+    let unset = RefusalNumber::UnsetRegister;
+    both_are_refused(rt, operation, width, UNSET, UNSET, unset);
+    both_are_refused(rt, operation, width, UNSET, EIGHT, unset);
+    both_are_refused(rt, operation, width, UNSET, ANY, unset);
+    both_are_refused(rt, operation, width, UNSET, STACK, unset);
+    both_are_refused(rt, operation, width, UNSET, CONTEXT, unset);
+}
+
 #[test]
 fn unset_values_are_refused_first(rt: HostRuntime) -> Result<(), Fail> {
-    let unset = Some(RefusalNumber::UnsetRegister);
-    for operation in [Operation::Add, Operation::Subtract, Operation::Multiply] {
-        for width in WIDTHS {
-            for value in [UNSET, EIGHT, ANY, STACK, CONTEXT] {
-                let left = refusal(operation, width, UNSET, value);
-                same_at(&rt, left, unset, (&operation, &width, &value));
-                let right = refusal(operation, width, value, UNSET);
-                same_at(&rt, right, unset, (&operation, &width, &value));
-            }
-        }
+    for operation in &[Operation::Add, Operation::Subtract, Operation::Multiply] {
+        unset_is_refused(&rt, *operation, Width::Bits32);
+        unset_is_refused(&rt, *operation, Width::Bits64);
     }
     Ok(())
 }
 
+/// Checks that an operation takes no pointer beside a number.
+fn pointers_are_refused(rt: &impl Abort, operation: Operation, width: Width) {
+    let used = RefusalNumber::PointerUsed;
+    // A number that isn't known makes no other refusal of it.
+    both_are_refused(rt, operation, width, STACK, EIGHT, used);
+    both_are_refused(rt, operation, width, CONTEXT, EIGHT, used);
+    both_are_refused(rt, operation, width, STACK, ANY, used);
+    both_are_refused(rt, operation, width, CONTEXT, ANY, used);
+}
+
 #[test]
 fn pointers_take_part_in_no_other_operation(rt: HostRuntime) -> Result<(), Fail> {
-    let used = Some(RefusalNumber::PointerUsed);
-    for operation in ON_NUMBERS_ALONE {
-        for width in WIDTHS {
-            // A number that isn't known makes no other refusal of it.
-            for number in [EIGHT, ANY] {
-                for pointer in [STACK, CONTEXT] {
-                    let left = refusal(operation, width, pointer, number);
-                    same_at(&rt, left, used, (&operation, &width, &pointer));
-                    let right = refusal(operation, width, number, pointer);
-                    same_at(&rt, right, used, (&operation, &width, &pointer));
-                }
-            }
-        }
+    for operation in &ON_NUMBERS_ALONE {
+        pointers_are_refused(&rt, *operation, Width::Bits32);
+        pointers_are_refused(&rt, *operation, Width::Bits64);
     }
     Ok(())
 }
 
 #[test]
 fn sums_of_32_bits_take_no_pointer(rt: HostRuntime) -> Result<(), Fail> {
-    let used = Some(RefusalNumber::PointerUsed);
-    for operation in [Operation::Add, Operation::Subtract] {
-        for number in [EIGHT, ANY] {
-            for pointer in [STACK, CONTEXT] {
-                let left = refusal(operation, Width::Bits32, pointer, number);
-                same_at(&rt, left, used, (&operation, &pointer, &number));
-                let right = refusal(operation, Width::Bits32, number, pointer);
-                same_at(&rt, right, used, (&operation, &number, &pointer));
-            }
-        }
-    }
+    pointers_are_refused(&rt, Operation::Add, Width::Bits32);
+    pointers_are_refused(&rt, Operation::Subtract, Width::Bits32);
     Ok(())
+}
+
+/// Checks that an operation takes no two pointers.
+fn two_pointers_are_refused(rt: &impl Abort, operation: Operation, width: Width) {
+    let used = RefusalNumber::PointerUsed;
+    is_refused(rt, operation, width, STACK, STACK, used);
+    is_refused(rt, operation, width, STACK, CONTEXT, used);
+    is_refused(rt, operation, width, CONTEXT, STACK, used);
+    is_refused(rt, operation, width, CONTEXT, CONTEXT, used);
 }
 
 #[test]
 fn differences_of_two_pointers_or_from_a_number_are_refused(rt: HostRuntime) -> Result<(), Fail> {
-    let used = Some(RefusalNumber::PointerUsed);
-    for pointer in [STACK, CONTEXT] {
-        for number in [EIGHT, ANY] {
-            let found = refusal(Operation::Subtract, Width::Bits64, number, pointer);
-            same_at(&rt, found, used, (&number, &pointer));
-        }
-        for other in [STACK, CONTEXT] {
-            for operation in [Operation::Add, Operation::Subtract, Operation::Xor] {
-                for width in WIDTHS {
-                    let found = refusal(operation, width, pointer, other);
-                    same_at(&rt, found, used, (&operation, &pointer, &other));
-                }
-            }
-        }
+    let (difference, whole) = (Operation::Subtract, Width::Bits64);
+    let used = RefusalNumber::PointerUsed;
+    is_refused(&rt, difference, whole, EIGHT, STACK, used);
+    is_refused(&rt, difference, whole, ANY, STACK, used);
+    is_refused(&rt, difference, whole, EIGHT, CONTEXT, used);
+    is_refused(&rt, difference, whole, ANY, CONTEXT, used);
+    for operation in &[Operation::Add, Operation::Subtract, Operation::Xor] {
+        two_pointers_are_refused(&rt, *operation, Width::Bits32);
+        two_pointers_are_refused(&rt, *operation, Width::Bits64);
     }
     Ok(())
 }
 
 #[test]
 fn unknown_numbers_move_no_stack_pointer(rt: HostRuntime) -> Result<(), Fail> {
-    let bad = Some(RefusalNumber::BadPointerSum);
-    for (operation, a, b) in [
-        (Operation::Add, STACK, ANY),
-        (Operation::Subtract, STACK, ANY),
-        (Operation::Add, ANY, STACK),
-    ] {
-        same_at(
-            &rt,
-            refusal(operation, Width::Bits64, a, b),
-            bad,
-            (&operation, &a),
-        );
-    }
+    let bad = RefusalNumber::BadPointerSum;
+    is_refused(&rt, Operation::Add, Width::Bits64, STACK, ANY, bad);
+    is_refused(&rt, Operation::Subtract, Width::Bits64, STACK, ANY, bad);
+    is_refused(&rt, Operation::Add, Width::Bits64, ANY, STACK, bad);
     Ok(())
 }
 
+/// An operation, its operands, and the pointer that it makes.
+type Moved = (Operation, Value, Value, Value);
+
+/// Checks how pointers are moved.
+fn are_moved(rt: &impl Abort, rows: &[Moved]) {
+    for row in rows {
+        let (operation, a, b, moved) = *row;
+        let found = a.arithmetic(operation, Width::Bits64, b);
+        same_at(rt, found, Ok(moved), row);
+    }
+}
+
+const TWENTY_FOUR: Value = AbsVal::Number(Flat::One(24));
+
+const THIRTY_TWO: Value = AbsVal::Number(Flat::One(32));
+
+/// The number -16.
+const BACK_BY_16: Value = AbsVal::Number(Flat::One(MINUS_16));
+
 #[test]
 fn numbers_move_pointers(rt: HostRuntime) -> Result<(), Fail> {
-    let any_of_context = AbsVal::Context(Flat::Any);
-    for (operation, a, b, moved) in [
-        (Operation::Add, STACK, EIGHT, AbsVal::Stack(MINUS_8)),
-        (Operation::Add, EIGHT, STACK, AbsVal::Stack(MINUS_8)),
-        (Operation::Add, STACK, number(24), AbsVal::Stack(8)),
-        (Operation::Add, AbsVal::Stack(0), number(MINUS_16), STACK),
-        (Operation::Subtract, AbsVal::Stack(MINUS_8), EIGHT, STACK),
-        (
-            Operation::Subtract,
-            AbsVal::Stack(0),
-            EIGHT,
-            AbsVal::Stack(MINUS_8),
-        ),
-        (
-            Operation::Subtract,
-            STACK,
-            number(MINUS_16),
-            AbsVal::Stack(0),
-        ),
-        (
-            Operation::Add,
-            CONTEXT,
-            EIGHT,
-            AbsVal::Context(Flat::One(32)),
-        ),
-        (
-            Operation::Add,
-            EIGHT,
-            CONTEXT,
-            AbsVal::Context(Flat::One(32)),
-        ),
-        (
-            Operation::Subtract,
-            CONTEXT,
-            EIGHT,
-            AbsVal::Context(Flat::One(16)),
-        ),
-        (
-            Operation::Subtract,
-            CONTEXT,
-            number(32),
-            AbsVal::Context(Flat::One(MINUS_8)),
-        ),
-        (Operation::Add, CONTEXT, ANY, any_of_context),
-        (Operation::Add, ANY, CONTEXT, any_of_context),
-        (Operation::Subtract, CONTEXT, ANY, any_of_context),
-    ] {
-        let found = a.arithmetic(operation, Width::Bits64, b);
-        same_at(&rt, found, Ok(moved), (&operation, &a, &b));
-    }
+    are_moved(
+        &rt,
+        &[
+            (Operation::Add, STACK, EIGHT, AbsVal::Stack(MINUS_8)),
+            (Operation::Add, EIGHT, STACK, AbsVal::Stack(MINUS_8)),
+            (Operation::Add, STACK, TWENTY_FOUR, AbsVal::Stack(8)),
+            (Operation::Add, AbsVal::Stack(0), BACK_BY_16, STACK),
+            (Operation::Subtract, AbsVal::Stack(MINUS_8), EIGHT, STACK),
+            (
+                Operation::Subtract,
+                AbsVal::Stack(0),
+                EIGHT,
+                AbsVal::Stack(MINUS_8),
+            ),
+            (Operation::Subtract, STACK, BACK_BY_16, AbsVal::Stack(0)),
+            (
+                Operation::Add,
+                CONTEXT,
+                EIGHT,
+                AbsVal::Context(Flat::One(32)),
+            ),
+            (
+                Operation::Add,
+                EIGHT,
+                CONTEXT,
+                AbsVal::Context(Flat::One(32)),
+            ),
+            (
+                Operation::Subtract,
+                CONTEXT,
+                EIGHT,
+                AbsVal::Context(Flat::One(16)),
+            ),
+            (
+                Operation::Subtract,
+                CONTEXT,
+                THIRTY_TWO,
+                AbsVal::Context(Flat::One(MINUS_8)),
+            ),
+            (Operation::Add, CONTEXT, ANY, AbsVal::Context(Flat::Any)),
+            (Operation::Add, ANY, CONTEXT, AbsVal::Context(Flat::Any)),
+            (
+                Operation::Subtract,
+                CONTEXT,
+                ANY,
+                AbsVal::Context(Flat::Any),
+            ),
+        ],
+    );
     Ok(())
+}
+
+/// An operation, its width, two words and what it makes of them.
+type Computed = (Operation, Width, u64, u64, u64);
+
+/// Checks what is computed of two numbers, and that nothing is known where the second isn't.
+fn are_computed(rt: &impl Abort, rows: &[Computed]) {
+    for row in rows {
+        let (operation, width, a, b, result) = *row;
+        let found = number(a).arithmetic(operation, width, number(b));
+        same_at(rt, found, Ok(number(result)), row);
+        let unknown = number(a).arithmetic(operation, width, ANY);
+        same_at(rt, unknown, Ok(ANY), row);
+    }
 }
 
 #[test]
 fn numbers_are_computed(rt: HostRuntime) -> Result<(), Fail> {
-    for (operation, width, a, b, result) in [
-        (Operation::Add, Width::Bits64, MINUS_8, 8, 0),
-        (Operation::Add, Width::Bits64, 0xffff_ffff, 1, 0x1_0000_0000),
-        (Operation::Add, Width::Bits32, 0xffff_ffff, 1, 0),
-        (Operation::Subtract, Width::Bits64, 8, 16, MINUS_8),
-        (Operation::Subtract, Width::Bits32, 8, 16, 0xffff_fff8),
-        (Operation::Divide, Width::Bits64, 8, 0, 0),
-        (Operation::Modulo, Width::Bits64, 8, 0, 8),
-    ] {
-        let found = number(a).arithmetic(operation, width, number(b));
-        same_at(&rt, found, Ok(number(result)), (&operation, &width, &a, &b));
-        let unknown = number(a).arithmetic(operation, width, ANY);
-        same_at(&rt, unknown, Ok(ANY), (&operation, &width, &a));
-    }
+    are_computed(
+        &rt,
+        &[
+            (Operation::Add, Width::Bits64, MINUS_8, 8, 0),
+            (Operation::Add, Width::Bits64, 0xffff_ffff, 1, 0x1_0000_0000),
+            (Operation::Add, Width::Bits32, 0xffff_ffff, 1, 0),
+            (Operation::Subtract, Width::Bits64, 8, 16, MINUS_8),
+            (Operation::Subtract, Width::Bits32, 8, 16, 0xffff_fff8),
+            (Operation::Divide, Width::Bits64, 8, 0, 0),
+            (Operation::Modulo, Width::Bits64, 8, 0, 8),
+        ],
+    );
     Ok(())
 }
 
+type Found = Result<Value, RefusalNumber>;
+
+/// Checks a move to one destination.
+fn is_moved(rt: &impl Abort, destination: Value, width: Width, operand: Value, moved: Found) {
+    let found = destination.arithmetic(Operation::Move, width, operand);
+    same_at(rt, found, moved, (&width, &destination, &operand));
+}
+
+/// A width, an operand and what is moved.
+type OfMove = (Width, Value, Found);
+
+/// Checks moves, whatever was there before.
+fn are_moved_anywhere(rt: &impl Abort, rows: &[OfMove]) {
+    for row in rows {
+        let (width, operand, moved) = *row;
+        is_moved(rt, UNSET, width, operand, moved);
+        is_moved(rt, EIGHT, width, operand, moved);
+        is_moved(rt, STACK, width, operand, moved);
+        is_moved(rt, CONTEXT, width, operand, moved);
+    }
+}
+
+const USED: Found = Err(RefusalNumber::PointerUsed);
+
+const REFUSED: Found = Err(RefusalNumber::UnsetRegister);
+
+/// The number -8.
+const BACK_BY_8: Value = AbsVal::Number(Flat::One(MINUS_8));
+
+/// The number -8 of 32 bits.
+const HALF_BACK_BY_8: Value = AbsVal::Number(Flat::One(0xffff_fff8));
+
 #[test]
 fn moves_read_the_operand_alone(rt: HostRuntime) -> Result<(), Fail> {
-    let used = Err(RefusalNumber::PointerUsed);
-    let unset = Err(RefusalNumber::UnsetRegister);
-    for destination in [UNSET, EIGHT, STACK, CONTEXT] {
-        for (width, operand, moved) in [
-            (Width::Bits64, UNSET, unset),
-            (Width::Bits64, number(MINUS_8), Ok(number(MINUS_8))),
+    are_moved_anywhere(
+        &rt,
+        &[
+            (Width::Bits64, UNSET, REFUSED),
+            (Width::Bits64, BACK_BY_8, Ok(BACK_BY_8)),
             (Width::Bits64, ANY, Ok(ANY)),
             (Width::Bits64, STACK, Ok(STACK)),
             (Width::Bits64, CONTEXT, Ok(CONTEXT)),
-            (Width::Bits32, UNSET, unset),
-            (Width::Bits32, number(MINUS_8), Ok(number(0xffff_fff8))),
+            (Width::Bits32, UNSET, REFUSED),
+            (Width::Bits32, BACK_BY_8, Ok(HALF_BACK_BY_8)),
             (Width::Bits32, ANY, Ok(ANY)),
-            (Width::Bits32, STACK, used),
-            (Width::Bits32, CONTEXT, used),
-        ] {
-            let found = destination.arithmetic(Operation::Move, width, operand);
-            same_at(&rt, found, moved, (&width, &destination, &operand));
-        }
-    }
+            (Width::Bits32, STACK, USED),
+            (Width::Bits32, CONTEXT, USED),
+        ],
+    );
     Ok(())
+}
+
+/// A number for signs and byte orders.
+const ODD: u64 = 0x1234_8091;
+
+/// Checks the number with the sign of its low bytes.
+fn are_extended(rt: &impl Abort, rows: &[(Width, Size, u64)]) {
+    for row in rows {
+        let (width, size, wanted) = *row;
+        let found = number(ODD).moved_signed(width, size);
+        same_at(rt, found, Ok(number(wanted)), row);
+    }
+}
+
+/// Checks the number with its low bytes in some order.
+fn are_reordered(rt: &impl Abort, rows: &[(ByteOrder, Size, u64)]) {
+    for row in rows {
+        let (order, size, wanted) = *row;
+        let found = number(ODD).converted(order, size);
+        same_at(rt, found, Ok(number(wanted)), row);
+    }
 }
 
 #[test]
 fn numbers_are_negated_extended_and_reordered(rt: HostRuntime) -> Result<(), Fail> {
-    same(&rt, EIGHT.negated(Width::Bits64), Ok(number(MINUS_8)));
-    same(&rt, EIGHT.negated(Width::Bits32), Ok(number(0xffff_fff8)));
-    let odd = number(0x1234_8091);
-    for (width, size, result) in [
-        (Width::Bits64, Size::Byte, 0xffff_ffff_ffff_ff91),
-        (Width::Bits64, Size::HalfWord, 0xffff_ffff_ffff_8091),
-        (Width::Bits64, Size::Word, 0x1234_8091),
-        (Width::Bits32, Size::Byte, 0xffff_ff91),
-        (Width::Bits32, Size::HalfWord, 0xffff_8091),
-    ] {
-        let found = odd.moved_signed(width, size);
-        same_at(&rt, found, Ok(number(result)), (&width, &size));
-    }
-    for (order, size, result) in [
-        (ByteOrder::Little, Size::HalfWord, 0x8091),
-        (ByteOrder::Big, Size::HalfWord, 0x9180),
-        (ByteOrder::Swap, Size::HalfWord, 0x9180),
-        (ByteOrder::Little, Size::Word, 0x1234_8091),
-        (ByteOrder::Big, Size::Word, 0x9180_3412),
-        (ByteOrder::Swap, Size::DoubleWord, 0x9180_3412_0000_0000),
-    ] {
-        let found = odd.converted(order, size);
-        same_at(&rt, found, Ok(number(result)), (&order, &size));
-    }
+    are_extended(
+        &rt,
+        &[
+            (Width::Bits64, Size::Byte, 0xffff_ffff_ffff_ff91),
+            (Width::Bits64, Size::HalfWord, 0xffff_ffff_ffff_8091),
+            (Width::Bits64, Size::Word, 0x1234_8091),
+            (Width::Bits32, Size::Byte, 0xffff_ff91),
+            (Width::Bits32, Size::HalfWord, 0xffff_8091),
+        ],
+    );
+    are_reordered(
+        &rt,
+        &[
+            (ByteOrder::Little, Size::HalfWord, 0x8091),
+            (ByteOrder::Big, Size::HalfWord, 0x9180),
+            (ByteOrder::Swap, Size::HalfWord, 0x9180),
+            (ByteOrder::Little, Size::Word, 0x1234_8091),
+            (ByteOrder::Big, Size::Word, 0x9180_3412),
+            (ByteOrder::Swap, Size::DoubleWord, 0x9180_3412_0000_0000),
+        ],
+    );
+    same(&rt, EIGHT.negated(Width::Bits64), Ok(BACK_BY_8));
+    same(&rt, EIGHT.negated(Width::Bits32), Ok(HALF_BACK_BY_8));
     same(&rt, ANY.negated(Width::Bits32), Ok(ANY));
     same(&rt, ANY.moved_signed(Width::Bits32, Size::Byte), Ok(ANY));
     same(&rt, ANY.converted(ByteOrder::Big, Size::Word), Ok(ANY));
     Ok(())
 }
 
+/// Checks that no value is made of this one by a negation or by an extension of its sign.
+fn is_not_extended(rt: &impl Abort, value: Value, width: Width, refusal: RefusalNumber) {
+    same_at(rt, value.negated(width), Err(refusal), (&width, &value));
+    let extended = value.moved_signed(width, Size::HalfWord);
+    same_at(rt, extended, Err(refusal), (&width, &value));
+}
+
+/// Checks that the bytes of a value can't be put in this order.
+fn is_not_reordered(rt: &impl Abort, value: Value, order: ByteOrder, refusal: RefusalNumber) {
+    let reordered = value.converted(order, Size::DoubleWord);
+    same_at(rt, reordered, Err(refusal), (&order, &value));
+}
+
+/// Checks that a value is neither negated, extended nor reordered.
+fn is_no_number(rt: &impl Abort, value: Value, refusal: RefusalNumber) {
+    is_not_extended(rt, value, Width::Bits32, refusal);
+    is_not_extended(rt, value, Width::Bits64, refusal);
+    is_not_reordered(rt, value, ByteOrder::Little, refusal);
+    is_not_reordered(rt, value, ByteOrder::Big, refusal);
+    is_not_reordered(rt, value, ByteOrder::Swap, refusal);
+}
+
 #[test]
 fn pointers_are_neither_negated_extended_nor_reordered(rt: HostRuntime) -> Result<(), Fail> {
-    for (value, refusal) in [
-        (UNSET, RefusalNumber::UnsetRegister),
-        (STACK, RefusalNumber::PointerUsed),
-        (CONTEXT, RefusalNumber::PointerUsed),
-    ] {
-        for width in WIDTHS {
-            same_at(&rt, value.negated(width), Err(refusal), &value);
-            let extended = value.moved_signed(width, Size::HalfWord);
-            same_at(&rt, extended, Err(refusal), &value);
-        }
-        for order in [ByteOrder::Little, ByteOrder::Big, ByteOrder::Swap] {
-            let reordered = value.converted(order, Size::DoubleWord);
-            same_at(&rt, reordered, Err(refusal), (&order, &value));
-        }
-    }
+    is_no_number(&rt, UNSET, RefusalNumber::UnsetRegister);
+    is_no_number(&rt, STACK, RefusalNumber::PointerUsed);
+    is_no_number(&rt, CONTEXT, RefusalNumber::PointerUsed);
     Ok(())
 }

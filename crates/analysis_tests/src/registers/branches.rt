@@ -1,7 +1,7 @@
 //! What conditional jumps tell (RFC 9669, section 4.3).
 ghost use Rattle.std.specs.Prelude.{◌<◌};
 
-use super::{ANY, CONTEXT, EIGHT, STACK, UNSET, number};
+use super::{ANY, CONTEXT, EIGHT, STACK, UNSET};
 use crate::checks::{is_true_at, same_at};
 use abs_domain::Flat;
 use abs_regs::{AbsVal, RegFile};
@@ -14,6 +14,13 @@ type Pair = (AbsVal<Flat>, AbsVal<Flat>);
 
 const WIDTHS: [Width; 2] = [Width::Bits32, Width::Bits64];
 
+/// What is known of R2 and R3, and of no other register but those of the entry.
+fn having(pair: Pair) -> RegFile<Flat> {
+    RegFile::entry()
+        .with(Register::new(2), pair.0)
+        .with(Register::new(3), pair.1)
+}
+
 /// What is left of R2 and R3 where a comparison of R2 with the operand holds, or where it doesn't.
 fn branched(
     comparison: Comparison,
@@ -23,10 +30,9 @@ fn branched(
     right: &Operand,
 ) -> Result<Pair, RefusalNumber> {
     let two = Register::new(2);
-    let three = Register::new(3);
-    let mut registers = RegFile::entry().with(two, before.0).with(three, before.1);
+    let mut registers = having(before);
     registers.branch(comparison, width, holds, two, right)?;
-    Ok((registers.get(two), registers.get(three)))
+    Ok((registers.get(two), registers.get(Register::new(3))))
 }
 
 /// The register of a number, as an operand.
@@ -36,143 +42,250 @@ fn register(number: u8) -> Operand
     Operand::Register(Register::new(number))
 }
 
+/// A comparison, its width, whether it holds, and what is known of R2 and R3 before and after.
+type Told = (Comparison, Width, bool, Pair, Pair);
+
+/// Checks what comparisons of R2 with R3 tell.
+fn are_told(rt: &impl Abort, rows: &[Told]) {
+    for row in rows {
+        let (comparison, width, holds, before, after) = *row;
+        let found = branched(comparison, width, holds, before, &register(3));
+        same_at(rt, found, Ok(after), row);
+    }
+}
+
+const FIRST_ANY: Pair = (ANY, EIGHT);
+
+const SECOND_ANY: Pair = (EIGHT, ANY);
+
+const EIGHTS: Pair = (EIGHT, EIGHT);
+
 #[test]
 fn equal_registers_become_one_number(rt: HostRuntime) -> Result<(), Fail> {
-    let none = (ANY, EIGHT);
-    let both = (EIGHT, EIGHT);
-    for (comparison, width, holds, before, after) in [
-        (Comparison::Equal, Width::Bits64, true, none, both),
-        (Comparison::Equal, Width::Bits64, true, (EIGHT, ANY), both),
-        (Comparison::NotEqual, Width::Bits64, false, none, both),
-        (
-            Comparison::NotEqual,
-            Width::Bits64,
-            false,
-            (EIGHT, ANY),
-            both,
-        ),
-        // Nothing is learnt, and each register keeps its own.
-        (Comparison::Equal, Width::Bits64, false, none, none),
-        (Comparison::NotEqual, Width::Bits64, true, none, none),
-        (
-            Comparison::NotEqual,
-            Width::Bits64,
-            true,
-            (EIGHT, ANY),
-            (EIGHT, ANY),
-        ),
-        (Comparison::GreaterOrEqual, Width::Bits64, true, none, none),
-        (Comparison::BitsSet, Width::Bits64, true, none, none),
-        // Any word may have more than 32 bits.
-        (Comparison::Equal, Width::Bits32, true, none, none),
-    ] {
-        let found = branched(comparison, width, holds, before, &register(3));
-        same_at(
-            &rt,
-            found,
-            Ok(after),
-            (&comparison, &width, &holds, &before),
-        );
-    }
+    are_told(
+        &rt,
+        &[
+            (Comparison::Equal, Width::Bits64, true, FIRST_ANY, EIGHTS),
+            (Comparison::Equal, Width::Bits64, true, SECOND_ANY, EIGHTS),
+            (
+                Comparison::NotEqual,
+                Width::Bits64,
+                false,
+                FIRST_ANY,
+                EIGHTS,
+            ),
+            (
+                Comparison::NotEqual,
+                Width::Bits64,
+                false,
+                SECOND_ANY,
+                EIGHTS,
+            ),
+            // Nothing is learnt, and each register keeps its own.
+            (
+                Comparison::Equal,
+                Width::Bits64,
+                false,
+                FIRST_ANY,
+                FIRST_ANY,
+            ),
+            (
+                Comparison::NotEqual,
+                Width::Bits64,
+                true,
+                FIRST_ANY,
+                FIRST_ANY,
+            ),
+            (
+                Comparison::NotEqual,
+                Width::Bits64,
+                true,
+                SECOND_ANY,
+                SECOND_ANY,
+            ),
+            (
+                Comparison::GreaterOrEqual,
+                Width::Bits64,
+                true,
+                FIRST_ANY,
+                FIRST_ANY,
+            ),
+            (
+                Comparison::BitsSet,
+                Width::Bits64,
+                true,
+                FIRST_ANY,
+                FIRST_ANY,
+            ),
+            // Any word may have more than 32 bits.
+            (Comparison::Equal, Width::Bits32, true, FIRST_ANY, FIRST_ANY),
+        ],
+    );
     Ok(())
 }
 
+/// Checks what a comparison of any number in R2 with a word tells. R3 is compared with nothing.
+fn tells_of_word(
+    rt: &impl Abort,
+    comparison: Comparison,
+    holds: bool,
+    word: u64,
+    three: AbsVal<Flat>,
+    after: AbsVal<Flat>,
+) {
+    let right = Operand::Immediate(word);
+    let found = branched(comparison, Width::Bits64, holds, (ANY, three), &right);
+    same_at(rt, found, Ok((after, three)), (&comparison, &holds, &word));
+}
+
+/// A comparison, whether it holds, a word, and what is then known of any number.
+type ToldOfOne = (Comparison, bool, u64, AbsVal<Flat>);
+
+/// Checks what comparisons with words tell, whatever is in R3.
+fn are_told_of_one(rt: &impl Abort, rows: &[ToldOfOne]) {
+    for row in rows {
+        let (comparison, holds, word, after) = *row;
+        tells_of_word(rt, comparison, holds, word, ANY, after);
+        tells_of_word(rt, comparison, holds, word, STACK, after);
+    }
+}
+
+const SEVEN: AbsVal<Flat> = AbsVal::Number(Flat::One(7));
+
+const MOST: AbsVal<Flat> = AbsVal::Number(Flat::One(u64::MAX));
+
 #[test]
 fn a_register_equal_to_a_word_becomes_it(rt: HostRuntime) -> Result<(), Fail> {
-    for (comparison, holds, word, after) in [
-        (Comparison::Equal, true, 7, number(7)),
-        (Comparison::Equal, true, u64::MAX, number(u64::MAX)),
-        (Comparison::NotEqual, false, 7, number(7)),
-        (Comparison::Equal, false, 7, ANY),
-        (Comparison::NotEqual, true, 7, ANY),
-        (Comparison::Less, true, 7, ANY),
-    ] {
-        let right = &Operand::Immediate(word);
-        // R3 is compared with nothing.
-        let found = branched(comparison, Width::Bits64, holds, (ANY, ANY), right);
-        same_at(&rt, found, Ok((after, ANY)), (&comparison, &holds, &word));
-        let found = branched(comparison, Width::Bits64, holds, (ANY, STACK), right);
-        same_at(&rt, found, Ok((after, STACK)), (&comparison, &holds, &word));
-    }
+    are_told_of_one(
+        &rt,
+        &[
+            (Comparison::Equal, true, 7, SEVEN),
+            (Comparison::Equal, true, u64::MAX, MOST),
+            (Comparison::NotEqual, false, 7, SEVEN),
+            (Comparison::Equal, false, 7, ANY),
+            (Comparison::NotEqual, true, 7, ANY),
+            (Comparison::Less, true, 7, ANY),
+        ],
+    );
     Ok(())
+}
+
+/// Checks that a comparison of R2 with itself tells nothing.
+fn tells_nothing(rt: &impl Abort, comparison: Comparison, width: Width, holds: bool, before: Pair) {
+    let found = branched(comparison, width, holds, before, &register(2));
+    same_at(rt, found, Ok(before), (&comparison, &width, &before));
+}
+
+/// Checks that a comparison of R2 with itself tells nothing, at either width and on either way.
+fn never_tells(rt: &impl Abort, comparison: Comparison, before: Pair) {
+    tells_nothing(rt, comparison, Width::Bits32, true, before);
+    tells_nothing(rt, comparison, Width::Bits32, false, before);
+    tells_nothing(rt, comparison, Width::Bits64, true, before);
+    tells_nothing(rt, comparison, Width::Bits64, false, before);
 }
 
 #[test]
 fn of_a_register_and_itself_nothing_is_learnt(rt: HostRuntime) -> Result<(), Fail> {
-    for before in [(ANY, EIGHT), (EIGHT, ANY), (EIGHT, STACK)] {
-        for width in WIDTHS {
-            for holds in [true, false] {
-                for comparison in [Comparison::Equal, Comparison::Less, Comparison::BitsSet] {
-                    let found = branched(comparison, width, holds, before, &register(2));
-                    same_at(&rt, found, Ok(before), (&comparison, &width, &before));
-                }
-            }
-        }
+    for before in &[FIRST_ANY, SECOND_ANY, (EIGHT, STACK)] {
+        never_tells(&rt, Comparison::Equal, *before);
+        never_tells(&rt, Comparison::Less, *before);
+        never_tells(&rt, Comparison::BitsSet, *before);
     }
     Ok(())
 }
 
+/// Checks that the same is known of these registers.
+fn are_alike(rt: &impl Abort, one: RegFile<Flat>, other: RegFile<Flat>, numbers: &[u8]) {
+    for number in numbers {
+        assert!(rt; *number < 11);
+        let register = Register::new(*number);
+        same_at(rt, one.get(register), other.get(register), number);
+    }
+}
+
 #[test]
 fn other_registers_stay(rt: HostRuntime) -> Result<(), Fail> {
-    let two = Register::new(2);
-    let three = Register::new(3);
-    let registers = RegFile::entry().with(two, ANY).with(three, EIGHT);
+    let registers = having((ANY, EIGHT));
     let mut after = registers;
+    let two = Register::new(2);
     match after.branch(Comparison::Equal, Width::Bits64, true, two, &register(3)) {
-        Ok(()) => {
-            for number in [0, 1, 4, 5, 6, 7, 8, 9, 10] {
-                assert!(rt; number < 11);
-                let other = Register::new(number);
-                same_at(&rt, after.get(other), registers.get(other), &number);
-            }
-        }
+        Ok(()) => are_alike(&rt, after, registers, &[0, 1, 4, 5, 6, 7, 8, 9, 10]),
         Err(refusal) => is_true_at(&rt, false, &refusal),
     }
     Ok(())
 }
 
+/// Checks that a comparison of R2 with an operand is refused.
+fn is_refused(
+    rt: &impl Abort,
+    comparison: Comparison,
+    width: Width,
+    holds: bool,
+    before: Pair,
+    right: &Operand,
+    refusal: RefusalNumber,
+) {
+    let found = branched(comparison, width, holds, before, right);
+    same_at(rt, found, Err(refusal), (&comparison, &width, &before));
+}
+
+/// Checks that a comparison of R2 with R3 is refused, at either width and on either way.
+fn never_compares(rt: &impl Abort, comparison: Comparison, before: Pair, refusal: RefusalNumber) {
+    let right = &register(3);
+    for width in &WIDTHS {
+        is_refused(rt, comparison, *width, true, before, right, refusal);
+        is_refused(rt, comparison, *width, false, before, right, refusal);
+    }
+}
+
+/// What is known of R2 and R3, and why they aren't compared.
+type Refused = (AbsVal<Flat>, AbsVal<Flat>, RefusalNumber);
+
+/// Checks that R2 and R3 aren't compared.
+fn are_not_compared(rt: &impl Abort, rows: &[Refused]) {
+    for row in rows {
+        let (two, three, refusal) = *row;
+        never_compares(rt, Comparison::Equal, (two, three), refusal);
+        never_compares(rt, Comparison::SignedLess, (two, three), refusal);
+    }
+}
+
+/// Checks that a value is compared neither with a word nor with itself.
+fn is_not_compared(rt: &impl Abort, value: AbsVal<Flat>, refusal: RefusalNumber) {
+    let before = (value, EIGHT);
+    let (word, two) = (&Operand::Immediate(0), &register(2));
+    for width in &WIDTHS {
+        is_refused(rt, Comparison::Equal, *width, true, before, word, refusal);
+        is_refused(rt, Comparison::Equal, *width, true, before, two, refusal);
+    }
+}
+
+const UNSET_REGISTER: RefusalNumber = RefusalNumber::UnsetRegister;
+
+const USED: RefusalNumber = RefusalNumber::PointerUsed;
+
 #[test]
 fn comparisons_take_numbers_alone(rt: HostRuntime) -> Result<(), Fail> {
-    let unset = RefusalNumber::UnsetRegister;
-    let used = RefusalNumber::PointerUsed;
-    for (before, refusal) in [
-        ((UNSET, EIGHT), unset),
-        ((EIGHT, UNSET), unset),
-        // An unset register is refused before a pointer, on either side.
-        ((UNSET, STACK), unset),
-        ((STACK, UNSET), unset),
-        ((CONTEXT, UNSET), unset),
-        ((UNSET, UNSET), unset),
-        ((STACK, EIGHT), used),
-        ((EIGHT, STACK), used),
-        ((CONTEXT, ANY), used),
-        ((ANY, CONTEXT), used),
-        ((STACK, STACK), used),
-        ((STACK, CONTEXT), used),
-    ] {
-        for width in WIDTHS {
-            for holds in [true, false] {
-                for comparison in [Comparison::Equal, Comparison::SignedLess] {
-                    let found = branched(comparison, width, holds, before, &register(3));
-                    same_at(&rt, found, Err(refusal), (&comparison, &width, &before));
-                }
-            }
-        }
-    }
-    for (value, refusal) in [(UNSET, unset), (STACK, used), (CONTEXT, used)] {
-        for width in WIDTHS {
-            let before = (value, EIGHT);
-            let found = branched(
-                Comparison::Equal,
-                width,
-                true,
-                before,
-                &Operand::Immediate(0),
-            );
-            same_at(&rt, found, Err(refusal), (&width, &value));
-            let found = branched(Comparison::Equal, width, true, before, &register(2));
-            same_at(&rt, found, Err(refusal), (&width, &value));
-        }
-    }
+    are_not_compared(
+        &rt,
+        &[
+            (UNSET, EIGHT, UNSET_REGISTER),
+            (EIGHT, UNSET, UNSET_REGISTER),
+            // An unset register is refused before a pointer, on either side.
+            (UNSET, STACK, UNSET_REGISTER),
+            (STACK, UNSET, UNSET_REGISTER),
+            (CONTEXT, UNSET, UNSET_REGISTER),
+            (UNSET, UNSET, UNSET_REGISTER),
+            (STACK, EIGHT, USED),
+            (EIGHT, STACK, USED),
+            (CONTEXT, ANY, USED),
+            (ANY, CONTEXT, USED),
+            (STACK, STACK, USED),
+            (STACK, CONTEXT, USED),
+        ],
+    );
+    is_not_compared(&rt, UNSET, UNSET_REGISTER);
+    is_not_compared(&rt, STACK, USED);
+    is_not_compared(&rt, CONTEXT, USED);
     Ok(())
 }

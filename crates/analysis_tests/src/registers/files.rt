@@ -13,34 +13,50 @@ fn known<D: Domain>(rt: &impl Abort, registers: RegFile<D>, number: u8) -> AbsVa
     registers.get(Register::new(number))
 }
 
+/// Checks what is known of each register, R0 first.
+fn are_known(rt: &impl Abort, registers: RegFile<Flat>, wanted: &[AbsVal<Flat>; 11]) {
+    for number in 0..11u8 {
+        let found = known(rt, registers, number);
+        same_at(rt, found, wanted[number as usize], &number);
+    }
+}
+
+/// A pointer to the first byte of the context.
+const START: AbsVal<Flat> = AbsVal::Context(Flat::One(0));
+
+/// A pointer to the end of the stack.
+const END: AbsVal<Flat> = AbsVal::Stack(0);
+
 #[test]
 fn at_the_entry_two_pointers_are_known(rt: HostRuntime) -> Result<(), Fail> {
-    let entry = RegFile::entry();
-    for number in 0..11 {
-        let wanted = match number {
-            1 => AbsVal::Context(Flat::One(0)),
-            10 => AbsVal::Stack(0),
-            _ => UNSET,
-        };
-        same_at(&rt, known(&rt, entry, number), wanted, &number);
-    }
+    are_known(
+        &rt,
+        RegFile::entry(),
+        &[
+            UNSET, START, UNSET, UNSET, UNSET, UNSET, UNSET, UNSET, UNSET, UNSET, END,
+        ],
+    );
     Ok(())
+}
+
+/// Checks that one register has a value, and that the others have what they have at the entry.
+fn one_is_set(rt: &impl Abort, set: u8) {
+    assert!(rt; set < 11);
+    let registers = RegFile::entry().with(Register::new(set), EIGHT);
+    for number in 0..11u8 {
+        let wanted = if number == set {
+            EIGHT
+        } else {
+            known(rt, RegFile::entry(), number)
+        };
+        same_at(rt, known(rt, registers, number), wanted, (&set, &number));
+    }
 }
 
 #[test]
 fn one_register_is_set(rt: HostRuntime) -> Result<(), Fail> {
-    let entry = RegFile::entry();
     for set in 0..11u8 {
-        assert!(rt; set < 11);
-        let registers = entry.with(Register::new(set), EIGHT);
-        for number in 0..11 {
-            let wanted = if number == set {
-                EIGHT
-            } else {
-                known(&rt, entry, number)
-            };
-            same_at(&rt, known(&rt, registers, number), wanted, (&set, &number));
-        }
+        one_is_set(&rt, set);
     }
     Ok(())
 }
@@ -52,63 +68,62 @@ fn joined(one: RegFile<Flat>, other: RegFile<Flat>) -> RegFile<Flat> {
     registers
 }
 
-#[test]
-fn registers_are_joined_each_with_its_own(rt: HostRuntime) -> Result<(), Fail> {
-    let one = RegFile::entry()
+fn first_path() -> RegFile<Flat> {
+    RegFile::entry()
         .with(Register::new(0), EIGHT)
         .with(Register::new(2), EIGHT)
         .with(Register::new(3), STACK)
         .with(Register::new(4), CONTEXT)
-        .with(Register::new(5), EIGHT);
-    let other = RegFile::entry()
+        .with(Register::new(5), EIGHT)
+}
+
+fn second_path() -> RegFile<Flat> {
+    RegFile::entry()
         .with(Register::new(0), EIGHT)
         .with(Register::new(2), number(9))
         .with(Register::new(3), STACK)
         .with(Register::new(4), EIGHT)
         .with(Register::new(9), EIGHT)
-        .with(Register::new(10), STACK);
-    for (number, wanted) in [
-        (0, EIGHT),
-        (1, AbsVal::Context(Flat::One(0))),
-        (2, ANY),
-        (3, STACK),
-        (4, UNSET),
-        (5, UNSET),
-        (6, UNSET),
-        (7, UNSET),
-        (8, UNSET),
-        (9, UNSET),
-        (10, UNSET),
-    ] {
-        same_at(&rt, known(&rt, joined(one, other), number), wanted, &number);
-        same_at(&rt, known(&rt, joined(other, one), number), wanted, &number);
-    }
+        .with(Register::new(10), STACK)
+}
+
+#[test]
+fn registers_are_joined_each_with_its_own(rt: HostRuntime) -> Result<(), Fail> {
+    let wanted = &[
+        EIGHT, START, ANY, STACK, UNSET, UNSET, UNSET, UNSET, UNSET, UNSET, UNSET,
+    ];
+    are_known(&rt, joined(first_path(), second_path()), wanted);
+    are_known(&rt, joined(second_path(), first_path()), wanted);
     Ok(())
+}
+
+/// Checks what is read of an operand where the stack's address is in R2.
+fn reads(rt: &impl Abort, operand: Operand, wanted: AbsVal<Flat>) {
+    let registers = RegFile::entry().with(Register::new(2), STACK);
+    same(rt, registers.operand(operand), wanted);
 }
 
 #[test]
 fn operands_are_registers_or_words(rt: HostRuntime) -> Result<(), Fail> {
-    let registers = RegFile::entry().with(Register::new(2), STACK);
-    let two = Operand::Register(Register::new(2));
-    same(&rt, registers.operand(two), STACK);
-    let zero = Operand::Register(Register::new(0));
-    same(&rt, registers.operand(zero), UNSET);
+    reads(&rt, Operand::Register(Register::new(2)), STACK);
+    reads(&rt, Operand::Register(Register::new(0)), UNSET);
     // A word is taken whole: -1 of 32 bits is -1 of 64.
-    same(
-        &rt,
-        registers.operand(Operand::Immediate(u64::MAX)),
-        number(u64::MAX),
-    );
+    reads(&rt, Operand::Immediate(u64::MAX), number(u64::MAX));
     Ok(())
+}
+
+/// Checks that the same is known of each register.
+fn are_alike(rt: &impl Abort, one: RegFile<Flat>, other: RegFile<Flat>) {
+    for number in 0..11u8 {
+        let wanted = known(rt, other, number);
+        same_at(rt, known(rt, one, number), wanted, &number);
+    }
 }
 
 #[test]
 fn a_copy_is_the_same(rt: HostRuntime) -> Result<(), Fail> {
     let registers = RegFile::entry().with(Register::new(7), EIGHT);
     let copy = registers.clone()?;
-    for number in 0..11 {
-        let wanted = known(&rt, registers, number);
-        same_at(&rt, known(&rt, copy, number), wanted, &number);
-    }
+    are_alike(&rt, copy, registers);
     Ok(())
 }

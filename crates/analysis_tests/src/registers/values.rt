@@ -1,64 +1,70 @@
 //! Joins, and values that are read.
 use super::{ANY, CONTEXT, EIGHT, MINUS_8, STACK, UNSET, number};
-use crate::checks::{same, same_at};
+use crate::checks::same_at;
 use abs_domain::Flat;
 use abs_regs::AbsVal;
 use refusals::RefusalNumber;
+use std::process::Abort;
 use std::test::*;
+
+type Value = AbsVal<Flat>;
+
+/// Checks a join, and that of the same values exchanged.
+fn joins(rt: &impl Abort, a: Value, b: Value, joined: Value) {
+    same_at(rt, a.join(b), joined, (&a, &b));
+    same_at(rt, b.join(a), joined, (&b, &a));
+}
 
 #[test]
 fn values_of_one_kind_are_joined(rt: HostRuntime) -> Result<(), Fail> {
     let any_of_context = AbsVal::Context(Flat::Any);
-    for (a, b, joined) in [
-        (UNSET, UNSET, UNSET),
-        (EIGHT, EIGHT, EIGHT),
-        (EIGHT, number(9), ANY),
-        (EIGHT, ANY, ANY),
-        (STACK, STACK, STACK),
-        (STACK, AbsVal::Stack(MINUS_8), UNSET),
-        (CONTEXT, CONTEXT, CONTEXT),
-        (CONTEXT, AbsVal::Context(Flat::One(25)), any_of_context),
-        (CONTEXT, any_of_context, any_of_context),
-    ] {
-        same_at(&rt, a.join(b), joined, (&a, &b));
-        same_at(&rt, b.join(a), joined, (&b, &a));
-    }
+    let byte_25 = AbsVal::Context(Flat::One(25));
+    joins(&rt, UNSET, UNSET, UNSET);
+    joins(&rt, EIGHT, EIGHT, EIGHT);
+    joins(&rt, EIGHT, number(9), ANY);
+    joins(&rt, EIGHT, ANY, ANY);
+    joins(&rt, STACK, STACK, STACK);
+    joins(&rt, STACK, AbsVal::Stack(MINUS_8), UNSET);
+    joins(&rt, CONTEXT, CONTEXT, CONTEXT);
+    joins(&rt, CONTEXT, byte_25, any_of_context);
+    joins(&rt, CONTEXT, any_of_context, any_of_context);
     Ok(())
 }
 
 #[test]
 fn of_unlike_values_nothing_is_known(rt: HostRuntime) -> Result<(), Fail> {
     // The offsets are the same, so the kinds alone tell the values apart.
-    let values = [
-        UNSET,
-        number(8),
-        AbsVal::Stack(8),
-        AbsVal::Context(Flat::One(8)),
-    ];
-    for a in values {
-        for b in values {
-            if a != b {
-                same_at(&rt, a.join(b), UNSET, (&a, &b));
-            }
-        }
-    }
+    let number = EIGHT;
+    let stack = AbsVal::Stack(8);
+    let context = AbsVal::Context(Flat::One(8));
+    joins(&rt, UNSET, number, UNSET);
+    joins(&rt, UNSET, stack, UNSET);
+    joins(&rt, UNSET, context, UNSET);
+    joins(&rt, number, stack, UNSET);
+    joins(&rt, number, context, UNSET);
+    joins(&rt, stack, context, UNSET);
     Ok(())
+}
+
+/// Checks what is read of a value, as any and as a number.
+fn reads(
+    rt: &impl Abort,
+    value: Value,
+    set: Result<Value, RefusalNumber>,
+    number: Result<Flat, RefusalNumber>,
+) {
+    same_at(rt, value.set(), set, &value);
+    same_at(rt, value.number(), number, &value);
 }
 
 #[test]
 fn values_are_read(rt: HostRuntime) -> Result<(), Fail> {
-    same(&rt, UNSET.set(), Err(RefusalNumber::UnsetRegister));
-    for value in [EIGHT, ANY, STACK, CONTEXT] {
-        same_at(&rt, value.set(), Ok(value), &value);
-    }
-    for (value, read) in [
-        (UNSET, Err(RefusalNumber::UnsetRegister)),
-        (EIGHT, Ok(Flat::One(8))),
-        (ANY, Ok(Flat::Any)),
-        (STACK, Err(RefusalNumber::PointerUsed)),
-        (CONTEXT, Err(RefusalNumber::PointerUsed)),
-    ] {
-        same_at(&rt, value.number(), read, &value);
-    }
+    let unset = RefusalNumber::UnsetRegister;
+    let used = RefusalNumber::PointerUsed;
+    reads(&rt, UNSET, Err(unset), Err(unset));
+    reads(&rt, EIGHT, Ok(EIGHT), Ok(Flat::One(8)));
+    reads(&rt, ANY, Ok(ANY), Ok(Flat::Any));
+    reads(&rt, STACK, Ok(STACK), Err(used));
+    reads(&rt, CONTEXT, Ok(CONTEXT), Err(used));
     Ok(())
 }

@@ -1,37 +1,39 @@
 //! The end of a program (RFC 9669, section 4.3): its answer is a number of at most 2.
 use super::{ANY, CONTEXT, CONTEXT_SIZE, STACK, UNSET, copy, makes, number, sample, with};
 use crate::checks::is_true_at;
+use abs_domain::Flat;
 use abs_regs::AbsVal;
 use bpf_profile::{Instruction, Register};
 use refusals::RefusalNumber;
+use std::process::Abort;
 use std::test::*;
+
+/// Checks that a program may end with this answer, which changes nothing.
+fn is_answer(rt: &impl Abort, answer: u64) {
+    let state = with(&sample(), Register::new(0), number(answer));
+    let wanted = Ok(copy(&state));
+    let found = makes(&state, CONTEXT_SIZE, &Instruction::Exit, &wanted);
+    is_true_at(rt, found, &answer);
+}
+
+/// Checks why a program may not end with this answer.
+fn is_no_answer(rt: &impl Abort, answer: AbsVal<Flat>, refusal: RefusalNumber) {
+    let state = with(&sample(), Register::new(0), answer);
+    let found = makes(&state, CONTEXT_SIZE, &Instruction::Exit, &Err(refusal));
+    is_true_at(rt, found, &answer);
+}
 
 #[test]
 fn answers_are_numbers_of_at_most_two(rt: HostRuntime) -> Result<(), Fail> {
-    for answer in [0, 1, 2] {
-        let state = with(&sample(), Register::new(0), number(answer));
-        let wanted = Ok(copy(&state));
-        is_true_at(
-            &rt,
-            makes(&state, CONTEXT_SIZE, &Instruction::Exit, &wanted),
-            &answer,
-        );
-    }
-    for (answer, refusal) in [
-        (UNSET, RefusalNumber::UnsetRegister),
-        (STACK, RefusalNumber::PointerUsed),
-        (AbsVal::Stack(0), RefusalNumber::PointerUsed),
-        (CONTEXT, RefusalNumber::PointerUsed),
-        (number(3), RefusalNumber::AnswerRange),
-        (number(u64::MAX), RefusalNumber::AnswerRange),
-        (ANY, RefusalNumber::AnswerRange),
-    ] {
-        let state = with(&sample(), Register::new(0), answer);
-        is_true_at(
-            &rt,
-            makes(&state, CONTEXT_SIZE, &Instruction::Exit, &Err(refusal)),
-            &answer,
-        );
-    }
+    is_answer(&rt, 0);
+    is_answer(&rt, 1);
+    is_answer(&rt, 2);
+    is_no_answer(&rt, UNSET, RefusalNumber::UnsetRegister);
+    is_no_answer(&rt, STACK, RefusalNumber::PointerUsed);
+    is_no_answer(&rt, AbsVal::Stack(0), RefusalNumber::PointerUsed);
+    is_no_answer(&rt, CONTEXT, RefusalNumber::PointerUsed);
+    is_no_answer(&rt, number(3), RefusalNumber::AnswerRange);
+    is_no_answer(&rt, number(u64::MAX), RefusalNumber::AnswerRange);
+    is_no_answer(&rt, ANY, RefusalNumber::AnswerRange);
     Ok(())
 }

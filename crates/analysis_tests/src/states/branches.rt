@@ -9,7 +9,11 @@ use abs_regs::AbsVal;
 use abs_states::AbsState;
 use bpf_profile::{Comparison, Instruction, Operand, Register, Size, Width};
 use refusals::RefusalNumber;
+use std::process::Abort;
 use std::test::*;
+
+/// What is known of R2 and of R3.
+type Pair = (AbsVal<Flat>, AbsVal<Flat>);
 
 /// A comparison of R2.
 fn branch(comparison: Comparison, width: Width, right: Operand) -> Instruction {
@@ -29,74 +33,121 @@ fn compared(two: AbsVal<Flat>, three: AbsVal<Flat>) -> AbsState<Flat> {
     stored_before(&state, 8, EIGHT, Size::DoubleWord)
 }
 
+/// A comparison, its width, whether it jumps, and what is left of R2 and R3.
+type Left = (Comparison, Width, bool, Pair);
+
+/// Checks what comparisons of any number in R2 with an eight in R3 leave of them.
+fn are_left(rt: &impl Abort, rows: &[Left]) {
+    let state = compared(ANY, EIGHT);
+    for row in rows {
+        let (comparison, width, taken, after) = *row;
+        let instruction = branch(comparison, width, register(3));
+        let found = transferred(&state, CONTEXT_SIZE, taken, &instruction);
+        let wanted = Ok(compared(after.0, after.1));
+        is_true_at(rt, agree(&found, &wanted), row);
+    }
+}
+
+const ANY_AND_EIGHT: Pair = (ANY, EIGHT);
+
+const EIGHTS: Pair = (EIGHT, EIGHT);
+
 #[test]
 fn the_comparison_holds_at_the_target_alone(rt: HostRuntime) -> Result<(), Fail> {
-    let before = (ANY, EIGHT);
-    let both = (EIGHT, EIGHT);
-    for (comparison, width, target, next) in [
-        (Comparison::Equal, Width::Bits64, both, before),
-        (Comparison::NotEqual, Width::Bits64, before, both),
-        (Comparison::Less, Width::Bits64, before, before),
-        // Any word may have more than 32 bits.
-        (Comparison::Equal, Width::Bits32, before, before),
-    ] {
-        let state = compared(before.0, before.1);
-        let instruction = branch(comparison, width, register(3));
-        for (taken, after) in [(true, target), (false, next)] {
-            let found = transferred(&state, CONTEXT_SIZE, taken, &instruction);
-            let wanted = Ok(compared(after.0, after.1));
-            is_true_at(&rt, agree(&found, &wanted), (&comparison, &width, &taken));
-        }
-    }
+    are_left(
+        &rt,
+        &[
+            (Comparison::Equal, Width::Bits64, true, EIGHTS),
+            (Comparison::Equal, Width::Bits64, false, ANY_AND_EIGHT),
+            (Comparison::NotEqual, Width::Bits64, true, ANY_AND_EIGHT),
+            (Comparison::NotEqual, Width::Bits64, false, EIGHTS),
+            (Comparison::Less, Width::Bits64, true, ANY_AND_EIGHT),
+            (Comparison::Less, Width::Bits64, false, ANY_AND_EIGHT),
+            // Any word may have more than 32 bits.
+            (Comparison::Equal, Width::Bits32, true, ANY_AND_EIGHT),
+            (Comparison::Equal, Width::Bits32, false, ANY_AND_EIGHT),
+        ],
+    );
     Ok(())
+}
+
+/// Checks what a comparison of any number in R2 with the word 7 leaves in R2, on one way.
+fn leaves_one(
+    rt: &impl Abort,
+    comparison: Comparison,
+    three: AbsVal<Flat>,
+    taken: bool,
+    two: AbsVal<Flat>,
+) {
+    let state = compared(ANY, three);
+    let instruction = branch(comparison, Width::Bits64, Operand::Immediate(7));
+    let found = transferred(&state, CONTEXT_SIZE, taken, &instruction);
+    let wanted = Ok(compared(two, three));
+    is_true_at(rt, agree(&found, &wanted), (&comparison, &three, &taken));
+}
+
+/// Checks what a comparison of R2 with a word leaves at the target and next to it, whatever is in R3.
+fn tells_of_one(rt: &impl Abort, comparison: Comparison, target: AbsVal<Flat>, next: AbsVal<Flat>) {
+    leaves_one(rt, comparison, UNSET, true, target);
+    leaves_one(rt, comparison, UNSET, false, next);
+    leaves_one(rt, comparison, ANY, true, target);
+    leaves_one(rt, comparison, ANY, false, next);
+    leaves_one(rt, comparison, STACK, true, target);
+    leaves_one(rt, comparison, STACK, false, next);
 }
 
 #[test]
 fn a_comparison_with_a_word_tells_of_one_register(rt: HostRuntime) -> Result<(), Fail> {
-    for (comparison, target, next) in [
-        (Comparison::Equal, number(7), ANY),
-        (Comparison::NotEqual, ANY, number(7)),
-        (Comparison::SignedGreater, ANY, ANY),
-    ] {
-        for three in [UNSET, ANY, STACK] {
-            let state = compared(ANY, three);
-            let instruction = branch(comparison, Width::Bits64, Operand::Immediate(7));
-            for (taken, two) in [(true, target), (false, next)] {
-                let found = transferred(&state, CONTEXT_SIZE, taken, &instruction);
-                let wanted = Ok(compared(two, three));
-                is_true_at(&rt, agree(&found, &wanted), (&comparison, &three, &taken));
-            }
-        }
-    }
+    tells_of_one(&rt, Comparison::Equal, number(7), ANY);
+    tells_of_one(&rt, Comparison::NotEqual, ANY, number(7));
+    tells_of_one(&rt, Comparison::SignedGreater, ANY, ANY);
     Ok(())
+}
+
+/// Checks why R2 and R3 aren't compared.
+fn is_refused(
+    rt: &impl Abort,
+    comparison: Comparison,
+    width: Width,
+    before: Pair,
+    refusal: RefusalNumber,
+) {
+    let instruction = branch(comparison, width, register(3));
+    let state = compared(before.0, before.1);
+    let found = makes(&state, CONTEXT_SIZE, &instruction, &Err(refusal));
+    is_true_at(rt, found, (&comparison, &before));
+}
+
+/// What is in R2 and in R3, and why they aren't compared.
+type Refused = (AbsVal<Flat>, AbsVal<Flat>, RefusalNumber);
+
+/// Checks why R2 and R3 aren't compared in any of four ways.
+fn are_refused(rt: &impl Abort, rows: &[Refused]) {
+    for row in rows {
+        let (two, three, refusal) = *row;
+        let before = (two, three);
+        is_refused(rt, Comparison::Equal, Width::Bits32, before, refusal);
+        is_refused(rt, Comparison::Equal, Width::Bits64, before, refusal);
+        is_refused(rt, Comparison::BitsSet, Width::Bits32, before, refusal);
+        is_refused(rt, Comparison::BitsSet, Width::Bits64, before, refusal);
+    }
 }
 
 #[test]
 fn only_numbers_are_compared(rt: HostRuntime) -> Result<(), Fail> {
-    let unset = RefusalNumber::UnsetRegister;
-    let used = RefusalNumber::PointerUsed;
-    for (two, three, refusal) in [
-        (UNSET, EIGHT, unset),
-        (EIGHT, UNSET, unset),
-        // An unset register is refused before a pointer, on either side.
-        (STACK, UNSET, unset),
-        (UNSET, CONTEXT, unset),
-        (STACK, EIGHT, used),
-        (EIGHT, CONTEXT, used),
-        (STACK, STACK, used),
-        (CONTEXT, CONTEXT, used),
-    ] {
-        for comparison in [Comparison::Equal, Comparison::BitsSet] {
-            for width in [Width::Bits32, Width::Bits64] {
-                let instruction = branch(comparison, width, register(3));
-                let state = compared(two, three);
-                is_true_at(
-                    &rt,
-                    makes(&state, CONTEXT_SIZE, &instruction, &Err(refusal)),
-                    (&comparison, &two, &three),
-                );
-            }
-        }
-    }
+    are_refused(
+        &rt,
+        &[
+            (UNSET, EIGHT, RefusalNumber::UnsetRegister),
+            (EIGHT, UNSET, RefusalNumber::UnsetRegister),
+            // An unset register is refused before a pointer, on either side.
+            (STACK, UNSET, RefusalNumber::UnsetRegister),
+            (UNSET, CONTEXT, RefusalNumber::UnsetRegister),
+            (STACK, EIGHT, RefusalNumber::PointerUsed),
+            (EIGHT, CONTEXT, RefusalNumber::PointerUsed),
+            (STACK, STACK, RefusalNumber::PointerUsed),
+            (CONTEXT, CONTEXT, RefusalNumber::PointerUsed),
+        ],
+    );
     Ok(())
 }

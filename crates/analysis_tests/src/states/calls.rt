@@ -1,8 +1,8 @@
 //! Calls of helper functions (RFC 9669, section 4.3.1): the two that take a number, and what every call
 //! does to the registers.
 use super::{
-    ANY, CONTEXT, CONTEXT_SIZE, EIGHT, STACK, UNSET, before, makes, minus, number, sample,
-    stored_before, with,
+    ANY, CONTEXT, CONTEXT_SIZE, EIGHT, STACK, UNSET, before, makes, number, sample, stored_before,
+    with,
 };
 use crate::checks::is_true_at;
 use abs_domain::Flat;
@@ -10,18 +10,18 @@ use abs_regs::AbsVal;
 use abs_states::AbsState;
 use bpf_profile::{Instruction, Register, Size};
 use refusals::RefusalNumber;
+use std::process::Abort;
 use std::test::*;
 
 /// A state with the arguments in R1 and R2, values in every other register but R0, and the eight bytes
 /// 16 bytes before the stack's end set.
 pub(super) fn called_with(one: AbsVal<Flat>, two: AbsVal<Flat>) -> AbsState<Flat> {
-    let mut state = sample();
-    state.registers.set(Register::new(1), one);
-    state.registers.set(Register::new(2), two);
-    state.registers.set(Register::new(6), STACK);
-    state.registers.set(Register::new(7), CONTEXT);
-    state.registers.set(Register::new(8), EIGHT);
-    state.registers.set(Register::new(9), ANY);
+    let state = with(&sample(), Register::new(1), one);
+    let state = with(&state, Register::new(2), two);
+    let state = with(&state, Register::new(6), STACK);
+    let state = with(&state, Register::new(7), CONTEXT);
+    let state = with(&state, Register::new(8), EIGHT);
+    let state = with(&state, Register::new(9), ANY);
     stored_before(&state, 16, EIGHT, Size::DoubleWord)
 }
 
@@ -34,54 +34,48 @@ pub(super) fn after_call(state: &AbsState<Flat>) -> AbsState<Flat> {
     after
 }
 
-#[test]
-fn facts_have_the_numbers_0_to_15(rt: HostRuntime) -> Result<(), Fail> {
-    let argument = RefusalNumber::HelperArgument;
-    for fact in [0, 1, 15] {
-        // The second argument isn't read.
-        for two in [UNSET, EIGHT, STACK] {
-            let state = called_with(number(fact), two);
-            let wanted = Ok(after_call(&state));
-            let call = Instruction::Call { helper: 1 };
-            is_true_at(
-                &rt,
-                makes(&state, CONTEXT_SIZE, &call, &wanted),
-                (&fact, &two),
-            );
-        }
-    }
-    for (one, refusal) in [
-        (UNSET, RefusalNumber::UnsetRegister),
-        (number(16), argument),
-        (number(u64::MAX), argument),
-        (ANY, argument),
-        (STACK, argument),
-        (CONTEXT, argument),
-    ] {
-        let state = called_with(one, EIGHT);
-        let call = Instruction::Call { helper: 1 };
-        is_true_at(&rt, makes(&state, CONTEXT_SIZE, &call, &Err(refusal)), &one);
-    }
-    Ok(())
+/// Checks that a fact of this number is read, whatever the second argument is.
+fn fact_is_read(rt: &impl Abort, fact: u64, two: AbsVal<Flat>) {
+    let state = called_with(number(fact), two);
+    let wanted = Ok(after_call(&state));
+    let call = Instruction::Call { helper: 1 };
+    let found = makes(&state, CONTEXT_SIZE, &call, &wanted);
+    is_true_at(rt, found, (&fact, &two));
+}
+
+/// Checks why there is no fact of this number.
+fn fact_is_refused(rt: &impl Abort, one: AbsVal<Flat>, refusal: RefusalNumber) {
+    let state = called_with(one, EIGHT);
+    let call = Instruction::Call { helper: 1 };
+    let found = makes(&state, CONTEXT_SIZE, &call, &Err(refusal));
+    is_true_at(rt, found, &one);
 }
 
 #[test]
-fn front_bytes_lie_in_the_context_from_byte_64_on(rt: HostRuntime) -> Result<(), Fail> {
-    for (context_size, byte, is_inside) in [
-        (128, 0, true),
-        (128, 63, true),
-        (128, 64, false),
-        (192, 64, true),
-        (192, 127, true),
-        (192, 128, false),
-        (65, 0, true),
-        (65, 1, false),
-        (64, 0, false),
-        (0, 0, false),
-        // Sums of 64 and these numbers wrap.
-        (128, u64::MAX, false),
-        (128, minus(64), false),
-    ] {
+fn facts_have_the_numbers_0_to_15(rt: HostRuntime) -> Result<(), Fail> {
+    for fact in &[0, 1, 15] {
+        // The second argument isn't read.
+        fact_is_read(&rt, *fact, UNSET);
+        fact_is_read(&rt, *fact, EIGHT);
+        fact_is_read(&rt, *fact, STACK);
+    }
+    let argument = RefusalNumber::HelperArgument;
+    fact_is_refused(&rt, UNSET, RefusalNumber::UnsetRegister);
+    fact_is_refused(&rt, number(16), argument);
+    fact_is_refused(&rt, number(u64::MAX), argument);
+    fact_is_refused(&rt, ANY, argument);
+    fact_is_refused(&rt, STACK, argument);
+    fact_is_refused(&rt, CONTEXT, argument);
+    Ok(())
+}
+
+/// The bytes of a context, a front byte, and whether it lies inside.
+type FrontByte = (u64, u64, bool);
+
+/// Checks which front bytes lie inside of contexts.
+fn are_front_bytes(rt: &impl Abort, rows: &[FrontByte]) {
+    for row in rows {
+        let (context_size, byte, is_inside) = *row;
         let state = called_with(number(byte), UNSET);
         let wanted = if is_inside {
             Ok(after_call(&state))
@@ -89,47 +83,82 @@ fn front_bytes_lie_in_the_context_from_byte_64_on(rt: HostRuntime) -> Result<(),
             Err(RefusalNumber::HelperArgument)
         };
         let call = Instruction::Call { helper: 2 };
-        is_true_at(
-            &rt,
-            makes(&state, context_size, &call, &wanted),
-            (&context_size, &byte),
-        );
+        is_true_at(rt, makes(&state, context_size, &call, &wanted), row);
     }
+}
+
+/// -64 as a word.
+const MINUS_64: u64 = 0xffff_ffff_ffff_ffc0;
+
+#[test]
+fn front_bytes_lie_in_the_context_from_byte_64_on(rt: HostRuntime) -> Result<(), Fail> {
+    are_front_bytes(
+        &rt,
+        &[
+            (128, 0, true),
+            (128, 63, true),
+            (128, 64, false),
+            (192, 64, true),
+            (192, 127, true),
+            (192, 128, false),
+            (65, 0, true),
+            (65, 1, false),
+            (64, 0, false),
+            (0, 0, false),
+            // Sums of 64 and these numbers wrap.
+            (128, u64::MAX, false),
+            (128, MINUS_64, false),
+        ],
+    );
     Ok(())
+}
+
+/// Checks why there is no front byte of this number, in a context of so many bytes.
+fn front_byte_is_refused(
+    rt: &impl Abort,
+    one: AbsVal<Flat>,
+    context_size: u64,
+    refusal: RefusalNumber,
+) {
+    let state = called_with(one, EIGHT);
+    let call = Instruction::Call { helper: 2 };
+    let found = makes(&state, context_size, &call, &Err(refusal));
+    is_true_at(rt, found, (&one, &context_size));
+}
+
+/// Checks why there is no front byte of this number, in any of three contexts.
+fn is_no_front_byte(rt: &impl Abort, one: AbsVal<Flat>, refusal: RefusalNumber) {
+    front_byte_is_refused(rt, one, 0, refusal);
+    front_byte_is_refused(rt, one, 128, refusal);
+    front_byte_is_refused(rt, one, 192, refusal);
 }
 
 #[test]
 fn the_number_of_a_front_byte_is_known(rt: HostRuntime) -> Result<(), Fail> {
     let argument = RefusalNumber::HelperArgument;
-    for (one, refusal) in [
-        (UNSET, RefusalNumber::UnsetRegister),
-        (ANY, argument),
-        (STACK, argument),
-        (CONTEXT, argument),
-    ] {
-        for context_size in [0, 128, 192] {
-            let state = called_with(one, EIGHT);
-            let call = Instruction::Call { helper: 2 };
-            is_true_at(&rt, makes(&state, context_size, &call, &Err(refusal)), &one);
-        }
-    }
+    is_no_front_byte(&rt, UNSET, RefusalNumber::UnsetRegister);
+    is_no_front_byte(&rt, ANY, argument);
+    is_no_front_byte(&rt, STACK, argument);
+    is_no_front_byte(&rt, CONTEXT, argument);
     Ok(())
+}
+
+/// Checks that no helper of this number is known, whatever the arguments are.
+fn is_unknown(rt: &impl Abort, helper: u32, one: AbsVal<Flat>, two: AbsVal<Flat>) {
+    let unknown = Err(RefusalNumber::HelperUnknown);
+    let state = called_with(one, two);
+    let call = Instruction::Call { helper };
+    let found = makes(&state, CONTEXT_SIZE, &call, &unknown);
+    is_true_at(rt, found, (&helper, &one));
 }
 
 #[test]
 fn other_helpers_are_unknown(rt: HostRuntime) -> Result<(), Fail> {
-    let unknown = Err(RefusalNumber::HelperUnknown);
     // The helper is asked for before its arguments.
-    for (one, two) in [(UNSET, UNSET), (number(1), EIGHT), (before(16), EIGHT)] {
-        for helper in [0, 5, 6, 0x101, u32::MAX] {
-            let state = called_with(one, two);
-            let call = Instruction::Call { helper };
-            is_true_at(
-                &rt,
-                makes(&state, CONTEXT_SIZE, &call, &unknown),
-                (&helper, &one),
-            );
-        }
+    for helper in &[0, 5, 6, 0x101, u32::MAX] {
+        is_unknown(&rt, *helper, UNSET, UNSET);
+        is_unknown(&rt, *helper, number(1), EIGHT);
+        is_unknown(&rt, *helper, before(16), EIGHT);
     }
     Ok(())
 }

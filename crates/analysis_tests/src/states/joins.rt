@@ -1,4 +1,6 @@
 //! The state at the entry, and where two paths meet.
+ghost use Rattle.std.specs.Prelude.{◌<◌};
+
 use super::{
     ANY, CONTEXT, EIGHT, STACK, UNSET, cell_of, copy, number, registers_are_alike, sample,
     set_bytes_are, stacks_are_alike, stored_before,
@@ -10,6 +12,7 @@ use abs_states::AbsState;
 use bpf_profile::{Register, Size};
 use refusals::RefusalNumber;
 use stack_track::StackState;
+use std::process::Abort;
 use std::test::*;
 
 /// The same state with these values stored into cells 0 to 3.
@@ -21,31 +24,40 @@ fn with_cells(state: &AbsState<Flat>, values: [AbsVal<Flat>; 4]) -> AbsState<Fla
     changed
 }
 
+/// A pointer to the first byte of the context.
+const START: AbsVal<Flat> = AbsVal::Context(Flat::One(0));
+
+/// A pointer to the end of the stack.
+const END: AbsVal<Flat> = AbsVal::Stack(0);
+
+/// Checks what is known of each register, R0 first.
+fn are_known(rt: &impl Abort, state: &AbsState<Flat>, wanted: &[AbsVal<Flat>; 11]) {
+    for number in 0..11u8 {
+        let found = state.registers.get(Register::new(number));
+        same_at(rt, found, wanted[number as usize], &number);
+    }
+}
+
+/// Checks that nothing is known of the stack.
+fn no_cell_is_known(rt: &impl Abort, state: &AbsState<Flat>) {
+    for cell in 0..64 {
+        let unset = Err(RefusalNumber::UnsetStack);
+        same_at(rt, cell_of(state, cell), unset, &cell);
+    }
+    is_true(rt, set_bytes_are(state, 0, 0));
+}
+
 #[test]
 fn at_the_entry_two_pointers_are_known(rt: HostRuntime) -> Result<(), Fail> {
-    let entry: AbsState<Flat> = AbsState::entry();
-    for number in 0..11u8 {
-        let wanted = match number {
-            1 => AbsVal::Context(Flat::One(0)),
-            10 => AbsVal::Stack(0),
-            _ => UNSET,
-        };
-        same_at(
-            &rt,
-            entry.registers.get(Register::new(number)),
-            wanted,
-            &number,
-        );
-    }
-    for cell in 0..64 {
-        same_at(
-            &rt,
-            cell_of(&entry, cell),
-            Err(RefusalNumber::UnsetStack),
-            &cell,
-        );
-    }
-    is_true(&rt, set_bytes_are(&entry, 0, 0));
+    let entry = AbsState::entry();
+    are_known(
+        &rt,
+        &entry,
+        &[
+            UNSET, START, UNSET, UNSET, UNSET, UNSET, UNSET, UNSET, UNSET, UNSET, END,
+        ],
+    );
+    no_cell_is_known(&rt, &entry);
     Ok(())
 }
 
@@ -72,39 +84,39 @@ fn joined(mut state: AbsState<Flat>, other: &AbsState<Flat>) -> AbsState<Flat> {
     state
 }
 
+/// Checks what is known of a cell.
+fn has_cell(
+    rt: &impl Abort,
+    state: &AbsState<Flat>,
+    cell: u64,
+    wanted: Result<AbsVal<Flat>, RefusalNumber>,
+)
+    requires { cell < 64 }
+{
+    same_at(rt, cell_of(state, cell), wanted, &cell);
+}
+
+/// Checks what is known where the two paths meet.
+fn is_joined(rt: &impl Abort, state: &AbsState<Flat>) {
+    are_known(
+        rt,
+        state,
+        &[
+            UNSET, START, ANY, UNSET, STACK, UNSET, UNSET, UNSET, UNSET, UNSET, END,
+        ],
+    );
+    has_cell(rt, state, 0, Ok(EIGHT));
+    has_cell(rt, state, 1, Ok(ANY));
+    has_cell(rt, state, 2, Ok(STACK));
+    has_cell(rt, state, 3, Err(RefusalNumber::UnsetStack));
+    has_cell(rt, state, 4, Err(RefusalNumber::UnsetStack));
+    is_true(rt, set_bytes_are(state, 0, 16));
+}
+
 #[test]
 fn registers_and_stacks_are_joined(rt: HostRuntime) -> Result<(), Fail> {
-    for joined in [
-        joined(first_path(), &second_path()),
-        joined(second_path(), &first_path()),
-    ] {
-        for number in 0..11u8 {
-            let wanted = match number {
-                1 => AbsVal::Context(Flat::One(0)),
-                2 => ANY,
-                4 => STACK,
-                10 => AbsVal::Stack(0),
-                _ => UNSET,
-            };
-            same_at(
-                &rt,
-                joined.registers.get(Register::new(number)),
-                wanted,
-                &number,
-            );
-        }
-        for (cell, wanted) in [
-            (0, Ok(EIGHT)),
-            (1, Ok(ANY)),
-            (2, Ok(STACK)),
-            (3, Err(RefusalNumber::UnsetStack)),
-            (4, Err(RefusalNumber::UnsetStack)),
-        ] {
-            is_true(&rt, cell < 64);
-            same_at(&rt, cell_of(&joined, cell), wanted, &cell);
-        }
-        is_true(&rt, set_bytes_are(&joined, 0, 16));
-    }
+    is_joined(&rt, &joined(first_path(), &second_path()));
+    is_joined(&rt, &joined(second_path(), &first_path()));
     Ok(())
 }
 

@@ -1,7 +1,7 @@
 //! Loads (RFC 9669, sections 5.1 and 5.2).
 use super::{
-    ANY, CONTEXT, CONTEXT_SIZE, EIGHT, STACK, UNSET, before, makes, minus, sample, stored_before,
-    with,
+    ANY, BEFORE_START, CONTEXT, CONTEXT_SIZE, EIGHT, END, MINUS_1, MINUS_8, STACK, START, UNSET,
+    makes, sample, stored_before, with,
 };
 use crate::checks::{is_true, is_true_at};
 use abs_domain::Flat;
@@ -9,6 +9,7 @@ use abs_regs::AbsVal;
 use abs_states::AbsState;
 use bpf_profile::{Extension, Instruction, Register, Size};
 use refusals::RefusalNumber;
+use std::process::Abort;
 use std::test::*;
 
 /// A load of R2 through R4.
@@ -35,135 +36,250 @@ fn stored(value: AbsVal<Flat>) -> AbsState<Flat> {
     stored_before(&state, 16, EIGHT, Size::Word)
 }
 
-#[test]
-fn addresses_are_refused(rt: HostRuntime) -> Result<(), Fail> {
-    let context = AbsVal::Context(Flat::One(0));
-    let unset = RefusalNumber::UnsetRegister;
-    let number = RefusalNumber::NotPointer;
-    let misaligned = RefusalNumber::Misaligned;
-    let outside = RefusalNumber::OutOfBounds;
-    for (base, size, offset, refusal) in [
-        (UNSET, Size::Word, 1, unset),
-        (EIGHT, Size::Word, 1, number),
-        (ANY, Size::Byte, 0, number),
-        // Alignment is asked before bounds, on the context and on the stack.
-        (context, Size::Word, 129, misaligned),
-        (context, Size::DoubleWord, 124, misaligned),
-        (CONTEXT, Size::DoubleWord, 2, misaligned),
-        (AbsVal::Context(Flat::Any), Size::HalfWord, 0, misaligned),
-        (context, Size::Byte, 128, outside),
-        (context, Size::DoubleWord, 128, outside),
-        (context, Size::Byte, minus(1), outside),
-        (CONTEXT, Size::Byte, 104, outside),
-        (AbsVal::Stack(0), Size::Word, 2, misaligned),
-        (before(513), Size::HalfWord, 0, misaligned),
-        (STACK, Size::DoubleWord, 12, misaligned),
-        (AbsVal::Stack(0), Size::Byte, 0, outside),
-        (STACK, Size::Word, 16, outside),
-        (before(512), Size::DoubleWord, minus(8), outside),
-        (before(512), Size::Byte, minus(1), outside),
-        (STACK, Size::DoubleWord, 8, RefusalNumber::UnsetStack),
-        (before(512), Size::Byte, 0, RefusalNumber::UnsetStack),
-        (before(512), Size::Byte, 511, RefusalNumber::UnsetStack),
-    ] {
+/// A base, a size, an offset, and why a load of these is refused.
+type Refused = (AbsVal<Flat>, Size, u64, RefusalNumber);
+
+/// Checks why loads are refused.
+fn are_refused(rt: &impl Abort, rows: &[Refused]) {
+    for row in rows {
+        let (base, size, offset, refusal) = *row;
         let instruction = load(size, Extension::Zero, offset);
-        let state = based(base);
-        is_true_at(
-            &rt,
-            makes(&state, CONTEXT_SIZE, &instruction, &Err(refusal)),
-            (&base, &size, &offset),
-        );
+        let found = makes(&based(base), CONTEXT_SIZE, &instruction, &Err(refusal));
+        is_true_at(rt, found, row);
     }
-    Ok(())
 }
 
 #[test]
-fn numbers_are_loaded_from_the_context(rt: HostRuntime) -> Result<(), Fail> {
-    let context = AbsVal::Context(Flat::One(0));
-    for (base, size, extension, offset) in [
-        (context, Size::DoubleWord, Extension::Zero, 0),
-        (context, Size::DoubleWord, Extension::Zero, 120),
-        (context, Size::Word, Extension::Sign, 124),
-        (context, Size::HalfWord, Extension::Sign, 126),
-        (context, Size::Byte, Extension::Zero, 127),
-        (CONTEXT, Size::Byte, Extension::Sign, 103),
-        (CONTEXT, Size::DoubleWord, Extension::Zero, minus(24)),
-        (
-            AbsVal::Context(Flat::One(minus(8))),
-            Size::Word,
-            Extension::Zero,
-            8,
-        ),
-    ] {
+fn addresses_are_refused(rt: HostRuntime) -> Result<(), Fail> {
+    are_refused(
+        &rt,
+        &[
+            (UNSET, Size::Word, 1, RefusalNumber::UnsetRegister),
+            (EIGHT, Size::Word, 1, RefusalNumber::NotPointer),
+            (ANY, Size::Byte, 0, RefusalNumber::NotPointer),
+            // Alignment is asked before bounds, on the context and on the stack.
+            (
+                AbsVal::Context(Flat::One(0)),
+                Size::Word,
+                129,
+                RefusalNumber::Misaligned,
+            ),
+            (
+                AbsVal::Context(Flat::One(0)),
+                Size::DoubleWord,
+                124,
+                RefusalNumber::Misaligned,
+            ),
+            (CONTEXT, Size::DoubleWord, 2, RefusalNumber::Misaligned),
+            (
+                AbsVal::Context(Flat::Any),
+                Size::HalfWord,
+                0,
+                RefusalNumber::Misaligned,
+            ),
+            (
+                AbsVal::Context(Flat::One(0)),
+                Size::Byte,
+                128,
+                RefusalNumber::OutOfBounds,
+            ),
+            (
+                AbsVal::Context(Flat::One(0)),
+                Size::DoubleWord,
+                128,
+                RefusalNumber::OutOfBounds,
+            ),
+            (
+                AbsVal::Context(Flat::One(0)),
+                Size::Byte,
+                MINUS_1,
+                RefusalNumber::OutOfBounds,
+            ),
+            (CONTEXT, Size::Byte, 104, RefusalNumber::OutOfBounds),
+            (END, Size::Word, 2, RefusalNumber::Misaligned),
+            (BEFORE_START, Size::HalfWord, 0, RefusalNumber::Misaligned),
+            (STACK, Size::DoubleWord, 12, RefusalNumber::Misaligned),
+            (END, Size::Byte, 0, RefusalNumber::OutOfBounds),
+            (STACK, Size::Word, 16, RefusalNumber::OutOfBounds),
+            (START, Size::DoubleWord, MINUS_8, RefusalNumber::OutOfBounds),
+            (START, Size::Byte, MINUS_1, RefusalNumber::OutOfBounds),
+            (STACK, Size::DoubleWord, 8, RefusalNumber::UnsetStack),
+            (START, Size::Byte, 0, RefusalNumber::UnsetStack),
+            (START, Size::Byte, 511, RefusalNumber::UnsetStack),
+        ],
+    );
+    Ok(())
+}
+
+/// A base, a size, how the word is extended, and an offset.
+type OfLoad = (AbsVal<Flat>, Size, Extension, u64);
+
+/// Checks that loads make any number.
+fn make_any_number(rt: &impl Abort, rows: &[OfLoad]) {
+    for row in rows {
+        let (base, size, extension, offset) = *row;
         let state = based(base);
         let wanted = Ok(with(&state, Register::new(2), ANY));
         let instruction = load(size, extension, offset);
-        is_true_at(
-            &rt,
-            makes(&state, CONTEXT_SIZE, &instruction, &wanted),
-            (&base, &size, &offset),
-        );
+        let found = makes(&state, CONTEXT_SIZE, &instruction, &wanted);
+        is_true_at(rt, found, row);
     }
+}
+
+/// -24 as a word.
+const MINUS_24: u64 = 0xffff_ffff_ffff_ffe8;
+
+#[test]
+fn numbers_are_loaded_from_the_context(rt: HostRuntime) -> Result<(), Fail> {
+    make_any_number(
+        &rt,
+        &[
+            (
+                AbsVal::Context(Flat::One(0)),
+                Size::DoubleWord,
+                Extension::Zero,
+                0,
+            ),
+            (
+                AbsVal::Context(Flat::One(0)),
+                Size::DoubleWord,
+                Extension::Zero,
+                120,
+            ),
+            (
+                AbsVal::Context(Flat::One(0)),
+                Size::Word,
+                Extension::Sign,
+                124,
+            ),
+            (
+                AbsVal::Context(Flat::One(0)),
+                Size::HalfWord,
+                Extension::Sign,
+                126,
+            ),
+            (
+                AbsVal::Context(Flat::One(0)),
+                Size::Byte,
+                Extension::Zero,
+                127,
+            ),
+            (CONTEXT, Size::Byte, Extension::Sign, 103),
+            (CONTEXT, Size::DoubleWord, Extension::Zero, MINUS_24),
+            (
+                AbsVal::Context(Flat::One(MINUS_8)),
+                Size::Word,
+                Extension::Zero,
+                8,
+            ),
+        ],
+    );
     Ok(())
+}
+
+/// The bytes of a context, an offset, and whether it is inside.
+type OfContext = (u64, u64, bool);
+
+/// Checks which bytes contexts have.
+fn have_bytes(rt: &impl Abort, rows: &[OfContext]) {
+    let state = based(AbsVal::Context(Flat::One(0)));
+    let loaded = Ok(with(&state, Register::new(2), ANY));
+    let outside = Err(RefusalNumber::OutOfBounds);
+    for row in rows {
+        let (context_size, offset, is_inside) = *row;
+        let wanted = if is_inside { &loaded } else { &outside };
+        let instruction = load(Size::Byte, Extension::Zero, offset);
+        let found = makes(&state, context_size, &instruction, wanted);
+        is_true_at(rt, found, row);
+    }
 }
 
 #[test]
 fn the_context_has_so_many_bytes(rt: HostRuntime) -> Result<(), Fail> {
-    let state = based(AbsVal::Context(Flat::One(0)));
-    let loaded = Ok(with(&state, Register::new(2), ANY));
-    let outside = Err(RefusalNumber::OutOfBounds);
-    for (context_size, offset, is_inside) in [
-        (128, 127, true),
-        (128, 128, false),
-        (192, 128, true),
-        (192, 191, true),
-        (192, 192, false),
-        (0, 0, false),
-    ] {
-        let wanted = if is_inside { &loaded } else { &outside };
-        let instruction = load(Size::Byte, Extension::Zero, offset);
-        is_true_at(
-            &rt,
-            makes(&state, context_size, &instruction, wanted),
-            (&context_size, &offset),
-        );
-    }
+    have_bytes(
+        &rt,
+        &[
+            (128, 127, true),
+            (128, 128, false),
+            (192, 128, true),
+            (192, 191, true),
+            (192, 192, false),
+            (0, 0, false),
+        ],
+    );
     Ok(())
 }
 
+/// Checks what is loaded where a value was stored.
+fn loads(
+    rt: &impl Abort,
+    kept: AbsVal<Flat>,
+    size: Size,
+    offset: u64,
+    loaded: Result<AbsVal<Flat>, RefusalNumber>,
+) {
+    let state = stored(kept);
+    let wanted = match loaded {
+        Ok(value) => Ok(with(&state, Register::new(2), value)),
+        Err(refusal) => Err(refusal),
+    };
+    let instruction = load(size, Extension::Sign, offset);
+    let found = makes(&state, CONTEXT_SIZE, &instruction, &wanted);
+    is_true_at(rt, found, (&kept, &size, &offset));
+}
+
+/// A value, a size, an offset, and what is loaded where the value was stored.
+type Loaded = (AbsVal<Flat>, Size, u64, Result<AbsVal<Flat>, RefusalNumber>);
+
+/// Checks what is loaded.
+fn are_loaded(rt: &impl Abort, rows: &[Loaded]) {
+    for row in rows {
+        let (kept, size, offset, loaded) = *row;
+        loads(rt, kept, size, offset, loaded);
+    }
+}
+
+const USED: Result<AbsVal<Flat>, RefusalNumber> = Err(RefusalNumber::PointerUsed);
+
+const UNSET_BYTE: Result<AbsVal<Flat>, RefusalNumber> = Err(RefusalNumber::UnsetStack);
+
+/// -4 as a word.
+const MINUS_4: u64 = 0xffff_ffff_ffff_fffc;
+
+/// -12 as a word.
+const MINUS_12: u64 = 0xffff_ffff_ffff_fff4;
+
+/// -13 as a word.
+const MINUS_13: u64 = 0xffff_ffff_ffff_fff3;
+
+/// -16 as a word.
+const MINUS_16: u64 = 0xffff_ffff_ffff_fff0;
+
+/// -20 as a word.
+const MINUS_20: u64 = 0xffff_ffff_ffff_ffec;
+
 #[test]
 fn values_are_loaded_from_the_stack(rt: HostRuntime) -> Result<(), Fail> {
-    let used = Err(RefusalNumber::PointerUsed);
-    let unset = Err(RefusalNumber::UnsetStack);
-    for (kept, size, offset, loaded) in [
-        (EIGHT, Size::DoubleWord, minus(8), Ok(EIGHT)),
-        (EIGHT, Size::Word, minus(4), Ok(ANY)),
-        (EIGHT, Size::Byte, minus(1), Ok(ANY)),
-        (ANY, Size::DoubleWord, minus(8), Ok(ANY)),
-        (STACK, Size::DoubleWord, minus(8), Ok(STACK)),
-        (CONTEXT, Size::DoubleWord, minus(8), Ok(CONTEXT)),
-        (STACK, Size::Word, minus(8), used),
-        (STACK, Size::Byte, minus(1), used),
-        (CONTEXT, Size::HalfWord, minus(4), used),
-        // Of the cell before four bytes are set.
-        (EIGHT, Size::Word, minus(16), Ok(ANY)),
-        (EIGHT, Size::Byte, minus(13), Ok(ANY)),
-        (EIGHT, Size::Byte, minus(12), unset),
-        (EIGHT, Size::DoubleWord, minus(16), unset),
-        (EIGHT, Size::Word, minus(20), unset),
-    ] {
-        let state = stored(kept);
-        let wanted = match loaded {
-            Ok(value) => Ok(with(&state, Register::new(2), value)),
-            Err(refusal) => Err(refusal),
-        };
-        let instruction = load(size, Extension::Sign, offset);
-        is_true_at(
-            &rt,
-            makes(&state, CONTEXT_SIZE, &instruction, &wanted),
-            (&kept, &size, &offset),
-        );
-    }
+    are_loaded(
+        &rt,
+        &[
+            (EIGHT, Size::DoubleWord, MINUS_8, Ok(EIGHT)),
+            (EIGHT, Size::Word, MINUS_4, Ok(ANY)),
+            (EIGHT, Size::Byte, MINUS_1, Ok(ANY)),
+            (ANY, Size::DoubleWord, MINUS_8, Ok(ANY)),
+            (STACK, Size::DoubleWord, MINUS_8, Ok(STACK)),
+            (CONTEXT, Size::DoubleWord, MINUS_8, Ok(CONTEXT)),
+            (STACK, Size::Word, MINUS_8, USED),
+            (STACK, Size::Byte, MINUS_1, USED),
+            (CONTEXT, Size::HalfWord, MINUS_4, USED),
+            // Of the cell before four bytes are set.
+            (EIGHT, Size::Word, MINUS_16, Ok(ANY)),
+            (EIGHT, Size::Byte, MINUS_13, Ok(ANY)),
+            (EIGHT, Size::Byte, MINUS_12, UNSET_BYTE),
+            (EIGHT, Size::DoubleWord, MINUS_16, UNSET_BYTE),
+            (EIGHT, Size::Word, MINUS_20, UNSET_BYTE),
+        ],
+    );
     Ok(())
 }
 
@@ -175,7 +291,7 @@ fn a_load_may_replace_its_base(rt: HostRuntime) -> Result<(), Fail> {
         extension: Extension::Zero,
         destination: four,
         base: four,
-        offset: minus(8),
+        offset: MINUS_8,
     };
     let state = stored(CONTEXT);
     let wanted = Ok(with(&state, four, CONTEXT));

@@ -1,9 +1,10 @@
 //! Some instructions in a row, each from what is known after the one before.
 use super::{CONTEXT_SIZE, Found, minus, register};
-use crate::checks::{same, same_at};
+use crate::checks::same;
 use abs_states::AbsState;
 use bpf_profile::{Comparison, Extension, Instruction, Operand, Operation, Register, Size, Width};
 use refusals::RefusalNumber;
+use std::process::Abort;
 use std::test::*;
 
 /// A store of one byte so many bytes before the stack's end.
@@ -41,79 +42,103 @@ fn refusal_of(found: Found) -> Option<RefusalNumber> {
     }
 }
 
+/// Checks why some instructions are refused, if they are.
+fn ends(rt: &impl Abort, instructions: &[Instruction], wanted: Option<RefusalNumber>) {
+    same(rt, refusal_of(followed(instructions)), wanted);
+}
+
+/// The last eight bytes of the stack are pointed at by R1.
+fn point() -> Instruction {
+    arithmetic(Operation::Move, Register::new(1), register(10))
+}
+
+/// R1 points eight bytes further down.
+fn go_down() -> Instruction {
+    let distance = Operand::Immediate(minus(8));
+    arithmetic(Operation::Add, Register::new(1), distance)
+}
+
+/// There are two bytes to compare.
+fn count_two() -> Instruction {
+    arithmetic(Operation::Move, Register::new(2), Operand::Immediate(2))
+}
+
 #[test]
 fn a_tag_is_compared_with_two_bytes(rt: HostRuntime) -> Result<(), Fail> {
-    let one = Register::new(1);
-    let two = Register::new(2);
-    let compared = followed(&[
-        store_byte(8, 112),
-        store_byte(7, 97),
-        arithmetic(Operation::Move, one, register(10)),
-        arithmetic(Operation::Add, one, Operand::Immediate(minus(8))),
-        arithmetic(Operation::Move, two, Operand::Immediate(2)),
-        Instruction::Call { helper: 4 },
-    ]);
-    same(&rt, refusal_of(compared), None);
+    ends(
+        &rt,
+        &[
+            store_byte(8, 112),
+            store_byte(7, 97),
+            point(),
+            go_down(),
+            count_two(),
+            Instruction::Call { helper: 4 },
+        ],
+        None,
+    );
     // Without the second byte.
-    let unset = followed(&[
-        store_byte(8, 112),
-        arithmetic(Operation::Move, one, register(10)),
-        arithmetic(Operation::Add, one, Operand::Immediate(minus(8))),
-        arithmetic(Operation::Move, two, Operand::Immediate(2)),
-        Instruction::Call { helper: 4 },
-    ]);
-    same(&rt, refusal_of(unset), Some(RefusalNumber::HelperArgument));
+    ends(
+        &rt,
+        &[
+            store_byte(8, 112),
+            point(),
+            go_down(),
+            count_two(),
+            Instruction::Call { helper: 4 },
+        ],
+        Some(RefusalNumber::HelperArgument),
+    );
     Ok(())
+}
+
+/// A load of a byte or a word from the context.
+fn load(size: Size, destination: Register, base: Register, offset: u64) -> Instruction {
+    Instruction::Load {
+        size,
+        extension: Extension::Zero,
+        destination,
+        base,
+        offset,
+    }
+}
+
+/// A comparison of R0 with the word 1.
+fn branch(comparison: Comparison) -> Instruction {
+    Instruction::Branch {
+        comparison,
+        width: Width::Bits64,
+        left: Register::new(0),
+        right: Operand::Immediate(1),
+        distance: 1,
+    }
+}
+
+/// Checks whether a byte may be the answer once it is compared.
+fn answers(rt: &impl Abort, comparison: Comparison, wanted: Option<RefusalNumber>) {
+    let load = load(Size::Byte, Register::new(0), Register::new(1), 64);
+    ends(rt, &[load, branch(comparison), Instruction::Exit], wanted);
 }
 
 #[test]
 fn an_answer_is_known_where_it_was_compared(rt: HostRuntime) -> Result<(), Fail> {
-    let zero = Register::new(0);
-    for (comparison, is_known) in [(Comparison::NotEqual, true), (Comparison::Equal, false)] {
-        let load = Instruction::Load {
-            size: Size::Byte,
-            extension: Extension::Zero,
-            destination: zero,
-            base: Register::new(1),
-            offset: 64,
-        };
-        let branch = Instruction::Branch {
-            comparison,
-            width: Width::Bits64,
-            left: zero,
-            right: Operand::Immediate(1),
-            distance: 1,
-        };
-        let wanted = if is_known {
-            None
-        } else {
-            Some(RefusalNumber::AnswerRange)
-        };
-        let ended = followed(&[load, branch, Instruction::Exit]);
-        same_at(&rt, refusal_of(ended), wanted, &comparison);
-    }
+    answers(&rt, Comparison::NotEqual, None);
+    answers(&rt, Comparison::Equal, Some(RefusalNumber::AnswerRange));
     Ok(())
+}
+
+/// Checks whether the context is still at hand in a register, once R6 keeps it and a helper is called.
+fn is_kept(rt: &impl Abort, base: Register, wanted: Option<RefusalNumber>) {
+    let keep = arithmetic(Operation::Move, Register::new(6), register(1));
+    let fact = arithmetic(Operation::Move, Register::new(1), Operand::Immediate(15));
+    let call = Instruction::Call { helper: 1 };
+    let load = load(Size::DoubleWord, Register::new(7), base, 8);
+    ends(rt, &[keep, fact, call, load], wanted);
 }
 
 #[test]
 fn the_context_is_kept_over_a_call(rt: HostRuntime) -> Result<(), Fail> {
-    let one = Register::new(1);
-    let six = Register::new(6);
-    for (base, refusal) in [(six, None), (one, Some(RefusalNumber::UnsetRegister))] {
-        let load = Instruction::Load {
-            size: Size::DoubleWord,
-            extension: Extension::Zero,
-            destination: Register::new(7),
-            base,
-            offset: 8,
-        };
-        let loaded = followed(&[
-            arithmetic(Operation::Move, six, register(1)),
-            arithmetic(Operation::Move, one, Operand::Immediate(15)),
-            Instruction::Call { helper: 1 },
-            load,
-        ]);
-        same_at(&rt, refusal_of(loaded), refusal, &base);
-    }
+    is_kept(&rt, Register::new(6), None);
+    is_kept(&rt, Register::new(1), Some(RefusalNumber::UnsetRegister));
     Ok(())
 }

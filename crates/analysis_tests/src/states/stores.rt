@@ -1,14 +1,18 @@
 //! Stores (RFC 9669, section 5.1).
+ghost use Rattle.std.specs.Prelude.{◌<◌};
+
 use super::{
-    ANY, CONTEXT, CONTEXT_SIZE, EIGHT, Found, STACK, UNSET, before, cell_of, makes, minus, number,
-    register, registers_are_alike, sample, set_bytes_are, transferred, with,
+    ANY, BEFORE_START, CONTEXT, CONTEXT_SIZE, EIGHT, END, Found, MINUS_1, MINUS_8, MINUS_512,
+    STACK, START, UNSET, cell_of, makes, minus, number, register, registers_are_alike, sample,
+    set_bytes_are, transferred, with,
 };
-use crate::checks::{is_true, is_true_at, same, same_at};
+use crate::checks::{is_true, is_true_at, same_at};
 use abs_domain::Flat;
 use abs_regs::AbsVal;
 use abs_states::AbsState;
 use bpf_profile::{Instruction, Operand, Register, Size};
 use refusals::RefusalNumber;
+use std::process::Abort;
 use std::test::*;
 
 const SIZES: [Size; 4] = [Size::Byte, Size::HalfWord, Size::Word, Size::DoubleWord];
@@ -39,140 +43,201 @@ fn stored(state: &AbsState<Flat>, size: Size, offset: u64) -> Found {
     )
 }
 
+/// Checks why a store is refused.
+fn is_refused(
+    rt: &impl Abort,
+    base: AbsVal<Flat>,
+    value: AbsVal<Flat>,
+    size: Size,
+    offset: u64,
+    refusal: RefusalNumber,
+) {
+    let instruction = store(size, offset, register(6));
+    let state = based(base, value);
+    let found = makes(&state, CONTEXT_SIZE, &instruction, &Err(refusal));
+    is_true_at(rt, found, (&base, &value, &size, &offset));
+}
+
+/// Checks that a store with one of these unset is refused for that, whatever its size and its offset.
+fn is_unset(rt: &impl Abort, base: AbsVal<Flat>, value: AbsVal<Flat>) {
+    let unset = RefusalNumber::UnsetRegister;
+    for size in &SIZES {
+        is_refused(rt, base, value, *size, 0, unset);
+        is_refused(rt, base, value, *size, 1, unset);
+        is_refused(rt, base, value, *size, 16, unset);
+    }
+}
+
 #[test]
 fn base_and_value_are_set_before_all_else(rt: HostRuntime) -> Result<(), Fail> {
-    let unset = Err(RefusalNumber::UnsetRegister);
-    for (base, value) in [
-        (UNSET, UNSET),
-        (UNSET, EIGHT),
-        (UNSET, STACK),
-        (EIGHT, UNSET),
-        (CONTEXT, UNSET),
-        (STACK, UNSET),
-    ] {
-        for size in SIZES {
-            for offset in [0, 1, 16] {
-                let state = based(base, value);
-                let instruction = store(size, offset, register(6));
-                is_true_at(
-                    &rt,
-                    makes(&state, CONTEXT_SIZE, &instruction, &unset),
-                    (&base, &value, &size, &offset),
-                );
-            }
-        }
-    }
+    is_unset(&rt, UNSET, UNSET);
+    is_unset(&rt, UNSET, EIGHT);
+    is_unset(&rt, UNSET, STACK);
+    is_unset(&rt, EIGHT, UNSET);
+    is_unset(&rt, CONTEXT, UNSET);
+    is_unset(&rt, STACK, UNSET);
     // So it is with an immediate, which is set.
     let instruction = store(Size::Byte, 0, Operand::Immediate(1));
-    is_true(
-        &rt,
-        makes(&based(UNSET, EIGHT), CONTEXT_SIZE, &instruction, &unset),
-    );
+    let unset = Err(RefusalNumber::UnsetRegister);
+    let state = based(UNSET, EIGHT);
+    is_true(&rt, makes(&state, CONTEXT_SIZE, &instruction, &unset));
     Ok(())
+}
+
+/// A base, a value, a size, an offset, and why a store of these is refused.
+type Refused = (AbsVal<Flat>, AbsVal<Flat>, Size, u64, RefusalNumber);
+
+/// Checks why stores are refused.
+fn are_refused(rt: &impl Abort, rows: &[Refused]) {
+    for row in rows {
+        let (base, value, size, offset, refusal) = *row;
+        is_refused(rt, base, value, size, offset, refusal);
+    }
 }
 
 #[test]
 fn faults_come_in_their_order(rt: HostRuntime) -> Result<(), Fail> {
-    let number = RefusalNumber::NotPointer;
-    let written = RefusalNumber::ContextWrite;
-    let misaligned = RefusalNumber::Misaligned;
-    let outside = RefusalNumber::OutOfBounds;
-    let used = RefusalNumber::PointerUsed;
-    for (base, value, size, offset, refusal) in [
-        (EIGHT, STACK, Size::Word, 1, number),
-        (ANY, EIGHT, Size::DoubleWord, 0, number),
-        (CONTEXT, EIGHT, Size::Byte, 0, written),
-        (CONTEXT, EIGHT, Size::Word, 1, written),
-        (CONTEXT, EIGHT, Size::Byte, 1000, written),
-        (CONTEXT, STACK, Size::Word, 1, written),
-        (STACK, EIGHT, Size::Word, 2, misaligned),
-        (STACK, EIGHT, Size::Word, 17, misaligned),
-        (STACK, CONTEXT, Size::Word, 17, misaligned),
-        (before(513), EIGHT, Size::HalfWord, 0, misaligned),
-        (STACK, EIGHT, Size::Byte, 16, outside),
-        (STACK, STACK, Size::Byte, 16, outside),
-        (STACK, STACK, Size::DoubleWord, 16, outside),
-        (before(512), EIGHT, Size::DoubleWord, minus(8), outside),
-        (before(512), EIGHT, Size::Byte, minus(1), outside),
-        (STACK, STACK, Size::Byte, 0, used),
-        (STACK, STACK, Size::HalfWord, 2, used),
-        (STACK, CONTEXT, Size::Word, 12, used),
-    ] {
-        let state = based(base, value);
-        let instruction = store(size, offset, register(6));
-        is_true_at(
-            &rt,
-            makes(&state, CONTEXT_SIZE, &instruction, &Err(refusal)),
-            (&base, &value, &size, &offset),
-        );
-    }
+    are_refused(
+        &rt,
+        &[
+            (EIGHT, STACK, Size::Word, 1, RefusalNumber::NotPointer),
+            (ANY, EIGHT, Size::DoubleWord, 0, RefusalNumber::NotPointer),
+            (CONTEXT, EIGHT, Size::Byte, 0, RefusalNumber::ContextWrite),
+            (CONTEXT, EIGHT, Size::Word, 1, RefusalNumber::ContextWrite),
+            (
+                CONTEXT,
+                EIGHT,
+                Size::Byte,
+                1000,
+                RefusalNumber::ContextWrite,
+            ),
+            (CONTEXT, STACK, Size::Word, 1, RefusalNumber::ContextWrite),
+            (STACK, EIGHT, Size::Word, 2, RefusalNumber::Misaligned),
+            (STACK, EIGHT, Size::Word, 17, RefusalNumber::Misaligned),
+            (STACK, CONTEXT, Size::Word, 17, RefusalNumber::Misaligned),
+            (
+                BEFORE_START,
+                EIGHT,
+                Size::HalfWord,
+                0,
+                RefusalNumber::Misaligned,
+            ),
+            (STACK, EIGHT, Size::Byte, 16, RefusalNumber::OutOfBounds),
+            (STACK, STACK, Size::Byte, 16, RefusalNumber::OutOfBounds),
+            (
+                STACK,
+                STACK,
+                Size::DoubleWord,
+                16,
+                RefusalNumber::OutOfBounds,
+            ),
+            (
+                START,
+                EIGHT,
+                Size::DoubleWord,
+                MINUS_8,
+                RefusalNumber::OutOfBounds,
+            ),
+            (
+                START,
+                EIGHT,
+                Size::Byte,
+                MINUS_1,
+                RefusalNumber::OutOfBounds,
+            ),
+            (STACK, STACK, Size::Byte, 0, RefusalNumber::PointerUsed),
+            (STACK, STACK, Size::HalfWord, 2, RefusalNumber::PointerUsed),
+            (STACK, CONTEXT, Size::Word, 12, RefusalNumber::PointerUsed),
+        ],
+    );
     Ok(())
+}
+
+/// Checks that a value is in its cell once it is stored, that its bytes are set where it is a number, and
+/// that no register is changed.
+fn is_stored(rt: &impl Abort, base: AbsVal<Flat>, offset: u64, cell: u64, value: AbsVal<Flat>)
+    requires { cell < 64 }
+{
+    let state = based(base, value);
+    let (first, end) = match value {
+        AbsVal::Number(_) => (8 * cell, 8 * cell + 8),
+        _ => (0, 0),
+    };
+    match stored(&state, Size::DoubleWord, offset) {
+        Ok(after) => {
+            same_at(rt, cell_of(&after, cell), Ok(value), (&base, &offset));
+            is_true_at(rt, registers_are_alike(&after, &state), (&base, &offset));
+            is_true_at(rt, set_bytes_are(&after, first, end), (&base, &value));
+        }
+        Err(refusal) => is_true_at(rt, false, (&base, &value, &refusal)),
+    }
+}
+
+/// Checks that values of each kind are stored.
+fn are_stored(rt: &impl Abort, base: AbsVal<Flat>, offset: u64, cell: u64)
+    requires { cell < 64 }
+{
+    is_stored(rt, base, offset, cell, EIGHT);
+    is_stored(rt, base, offset, cell, ANY);
+    is_stored(rt, base, offset, cell, STACK);
+    is_stored(rt, base, offset, cell, CONTEXT);
 }
 
 #[test]
 fn values_are_stored_whole(rt: HostRuntime) -> Result<(), Fail> {
-    for (base, offset, cell) in [
-        (AbsVal::Stack(0), minus(8), 63),
-        (AbsVal::Stack(0), minus(512), 0),
-        (STACK, 0, 62),
-        (STACK, 8, 63),
-        (before(512), 16, 2),
-    ] {
-        is_true(&rt, cell < 64);
-        for value in [EIGHT, ANY, STACK, CONTEXT] {
-            let state = based(base, value);
-            match stored(&state, Size::DoubleWord, offset) {
-                Ok(after) => {
-                    same_at(&rt, cell_of(&after, cell), Ok(value), (&base, &offset));
-                    is_true_at(&rt, registers_are_alike(&after, &state), (&base, &offset));
-                    let (first, end) = match value {
-                        AbsVal::Number(_) => (8 * cell, 8 * cell + 8),
-                        _ => (0, 0),
-                    };
-                    is_true_at(&rt, set_bytes_are(&after, first, end), (&base, &value));
-                }
-                Err(refusal) => is_true_at(&rt, false, (&base, &value, &refusal)),
-            }
-        }
-    }
+    are_stored(&rt, END, MINUS_8, 63);
+    are_stored(&rt, END, MINUS_512, 0);
+    are_stored(&rt, STACK, 0, 62);
+    are_stored(&rt, STACK, 8, 63);
+    are_stored(&rt, START, 16, 2);
     Ok(())
+}
+
+/// Checks that a word is in its cell once it is stored, and that no register is changed.
+fn immediate_is_stored(rt: &impl Abort, word: u64) {
+    let state = based(STACK, UNSET);
+    let instruction = store(Size::DoubleWord, 8, Operand::Immediate(word));
+    match transferred(&state, CONTEXT_SIZE, true, &instruction) {
+        Ok(after) => {
+            same_at(rt, cell_of(&after, 63), Ok(number(word)), &word);
+            is_true_at(rt, registers_are_alike(&after, &state), &word);
+        }
+        Err(refusal) => is_true_at(rt, false, (&word, &refusal)),
+    }
 }
 
 #[test]
 fn an_immediate_is_stored_whole(rt: HostRuntime) -> Result<(), Fail> {
-    let state = based(STACK, UNSET);
-    for word in [0, 7, u64::MAX] {
-        let instruction = store(Size::DoubleWord, 8, Operand::Immediate(word));
-        match transferred(&state, CONTEXT_SIZE, true, &instruction) {
-            Ok(after) => {
-                same(&rt, cell_of(&after, 63), Ok(number(word)));
-                is_true(&rt, registers_are_alike(&after, &state));
-            }
-            Err(refusal) => is_true_at(&rt, false, (&word, &refusal)),
-        }
-    }
+    immediate_is_stored(&rt, 0);
+    immediate_is_stored(&rt, 7);
+    immediate_is_stored(&rt, u64::MAX);
     Ok(())
+}
+
+/// Checks which bytes are set once the low ones of a number are stored, and that no register is changed.
+fn sets_bytes(rt: &impl Abort, value: AbsVal<Flat>, size: Size, offset: u64, first: u64, end: u64) {
+    let state = based(STACK, value);
+    match stored(&state, size, offset) {
+        Ok(after) => {
+            is_true_at(rt, set_bytes_are(&after, first, end), (&size, &offset));
+            is_true_at(rt, registers_are_alike(&after, &state), (&size, &offset));
+        }
+        Err(refusal) => is_true_at(rt, false, (&size, &offset, &refusal)),
+    }
+}
+
+/// Checks which bytes are set once the low ones of a number are stored, whether it is known or not.
+fn both_set_bytes(rt: &impl Abort, size: Size, offset: u64, first: u64, end: u64) {
+    sets_bytes(rt, EIGHT, size, offset, first, end);
+    sets_bytes(rt, ANY, size, offset, first, end);
 }
 
 #[test]
 fn low_bytes_of_numbers_are_stored(rt: HostRuntime) -> Result<(), Fail> {
-    for (size, offset, first, end) in [
-        (Size::Byte, 15, 511, 512),
-        (Size::Byte, 0, 496, 497),
-        (Size::HalfWord, 2, 498, 500),
-        (Size::Word, 4, 500, 504),
-        (Size::Word, minus(496), 0, 4),
-    ] {
-        for value in [EIGHT, ANY] {
-            let state = based(STACK, value);
-            match stored(&state, size, offset) {
-                Ok(after) => {
-                    is_true_at(&rt, set_bytes_are(&after, first, end), (&size, &offset));
-                    is_true_at(&rt, registers_are_alike(&after, &state), (&size, &offset));
-                }
-                Err(refusal) => is_true_at(&rt, false, (&size, &offset, &refusal)),
-            }
-        }
-    }
+    both_set_bytes(&rt, Size::Byte, 15, 511, 512);
+    both_set_bytes(&rt, Size::Byte, 0, 496, 497);
+    both_set_bytes(&rt, Size::HalfWord, 2, 498, 500);
+    both_set_bytes(&rt, Size::Word, 4, 500, 504);
+    both_set_bytes(&rt, Size::Word, minus(496), 0, 4);
     Ok(())
 }

@@ -1,8 +1,9 @@
 //! The helper functions that take a stretch of the stack: helper 3 writes it, and helper 4 reads it.
 use super::calls::{after_call, called_with};
 use super::{
-    ANY, CONTEXT, CONTEXT_SIZE, EIGHT, Found, STACK, UNSET, agree, before, makes, minus, number,
-    registers_are_alike, sample, set_bytes_are, stored_before, transferred,
+    ANY, BEFORE_START, CONTEXT, CONTEXT_SIZE, EIGHT, END, Found, MINUS_1, STACK, UNSET, agree,
+    before, makes, number, registers_are_alike, sample, set_bytes_are, stored_before, transferred,
+    with,
 };
 use crate::checks::is_true_at;
 use abs_domain::Flat;
@@ -10,6 +11,7 @@ use abs_regs::AbsVal;
 use abs_states::AbsState;
 use bpf_profile::{Instruction, Register, Size};
 use refusals::RefusalNumber;
+use std::process::Abort;
 use std::test::*;
 
 /// A state with nothing known of the stack but for a value in the cell 16 bytes before its end.
@@ -24,171 +26,265 @@ fn call(state: &AbsState<Flat>, helper: u32) -> Found {
     transferred(state, CONTEXT_SIZE, false, &Instruction::Call { helper })
 }
 
+/// Checks why a helper refuses its arguments.
+fn helper_refuses(
+    rt: &impl Abort,
+    helper: u32,
+    one: AbsVal<Flat>,
+    two: AbsVal<Flat>,
+    refusal: RefusalNumber,
+) {
+    let state = called_with(one, two);
+    let instruction = Instruction::Call { helper };
+    let found = makes(&state, CONTEXT_SIZE, &instruction, &Err(refusal));
+    is_true_at(rt, found, (&helper, &one, &two));
+}
+
+/// What is in R1 and in R2, and why both helpers refuse it.
+type Refused = (AbsVal<Flat>, AbsVal<Flat>, RefusalNumber);
+
+/// Checks why both helpers refuse their arguments.
+fn are_refused(rt: &impl Abort, rows: &[Refused]) {
+    for row in rows {
+        let (one, two, refusal) = *row;
+        helper_refuses(rt, 3, one, two, refusal);
+        helper_refuses(rt, 4, one, two, refusal);
+    }
+}
+
+const ONE: AbsVal<Flat> = AbsVal::Number(Flat::One(1));
+
+/// -16 as a word.
+const MINUS_16: u64 = 0xffff_ffff_ffff_fff0;
+
+/// 31 bytes before the stack's end.
+const BEFORE_31: AbsVal<Flat> = AbsVal::Stack(0xffff_ffff_ffff_ffe1);
+
+/// 64 bytes before the stack's end.
+const BEFORE_64: AbsVal<Flat> = AbsVal::Stack(0xffff_ffff_ffff_ffc0);
+
+/// 520 bytes before the stack's end.
+const BEFORE_520: AbsVal<Flat> = AbsVal::Stack(0xffff_ffff_ffff_fdf8);
+
 #[test]
 fn arguments_are_refused_in_their_order(rt: HostRuntime) -> Result<(), Fail> {
-    let unset = RefusalNumber::UnsetRegister;
-    let argument = RefusalNumber::HelperArgument;
-    for (one, two, refusal) in [
-        (UNSET, UNSET, unset),
-        (UNSET, number(33), unset),
-        (UNSET, STACK, unset),
-        // R1 is no pointer into the stack, whatever R2 is.
-        (number(minus(16)), UNSET, argument),
-        (ANY, UNSET, argument),
-        (CONTEXT, UNSET, argument),
-        (CONTEXT, EIGHT, argument),
-        (ANY, EIGHT, argument),
-        // R2 is unset, wherever R1 points.
-        (STACK, UNSET, unset),
-        (AbsVal::Stack(0), UNSET, unset),
-        (before(513), UNSET, unset),
-        // R2 is no number of 1 to 32.
-        (STACK, STACK, argument),
-        (STACK, CONTEXT, argument),
-        (STACK, ANY, argument),
-        (STACK, number(0), argument),
-        (before(64), number(33), argument),
-        (STACK, number(minus(1)), argument),
-        (STACK, number(0x1_0000_0001), argument),
-        // The bytes lie past the stack's end or before its start.
-        (STACK, number(17), argument),
-        (before(31), number(32), argument),
-        (AbsVal::Stack(0), number(1), argument),
-        (AbsVal::Stack(8), number(1), argument),
-        (before(513), number(1), argument),
-        (before(513), number(32), argument),
-        (before(520), EIGHT, argument),
-        (AbsVal::Stack(1 << 63), number(1), argument),
-    ] {
-        for helper in [3, 4] {
-            let state = called_with(one, two);
-            let instruction = Instruction::Call { helper };
-            is_true_at(
-                &rt,
-                makes(&state, CONTEXT_SIZE, &instruction, &Err(refusal)),
-                (&helper, &one, &two),
-            );
-        }
-    }
+    are_refused(
+        &rt,
+        &[
+            (UNSET, UNSET, RefusalNumber::UnsetRegister),
+            (
+                UNSET,
+                AbsVal::Number(Flat::One(33)),
+                RefusalNumber::UnsetRegister,
+            ),
+            (UNSET, STACK, RefusalNumber::UnsetRegister),
+            // R1 is no pointer into the stack, whatever R2 is.
+            (
+                AbsVal::Number(Flat::One(MINUS_16)),
+                UNSET,
+                RefusalNumber::HelperArgument,
+            ),
+            (ANY, UNSET, RefusalNumber::HelperArgument),
+            (CONTEXT, UNSET, RefusalNumber::HelperArgument),
+            (CONTEXT, EIGHT, RefusalNumber::HelperArgument),
+            (ANY, EIGHT, RefusalNumber::HelperArgument),
+            // R2 is unset, wherever R1 points.
+            (STACK, UNSET, RefusalNumber::UnsetRegister),
+            (END, UNSET, RefusalNumber::UnsetRegister),
+            (BEFORE_START, UNSET, RefusalNumber::UnsetRegister),
+            // R2 is no number of 1 to 32.
+            (STACK, STACK, RefusalNumber::HelperArgument),
+            (STACK, CONTEXT, RefusalNumber::HelperArgument),
+            (STACK, ANY, RefusalNumber::HelperArgument),
+            (
+                STACK,
+                AbsVal::Number(Flat::One(0)),
+                RefusalNumber::HelperArgument,
+            ),
+            (
+                BEFORE_64,
+                AbsVal::Number(Flat::One(33)),
+                RefusalNumber::HelperArgument,
+            ),
+            (
+                STACK,
+                AbsVal::Number(Flat::One(MINUS_1)),
+                RefusalNumber::HelperArgument,
+            ),
+            (
+                STACK,
+                AbsVal::Number(Flat::One(0x1_0000_0001)),
+                RefusalNumber::HelperArgument,
+            ),
+            // The bytes lie past the stack's end or before its start.
+            (
+                STACK,
+                AbsVal::Number(Flat::One(17)),
+                RefusalNumber::HelperArgument,
+            ),
+            (
+                BEFORE_31,
+                AbsVal::Number(Flat::One(32)),
+                RefusalNumber::HelperArgument,
+            ),
+            (END, ONE, RefusalNumber::HelperArgument),
+            (AbsVal::Stack(8), ONE, RefusalNumber::HelperArgument),
+            (BEFORE_START, ONE, RefusalNumber::HelperArgument),
+            (
+                BEFORE_START,
+                AbsVal::Number(Flat::One(32)),
+                RefusalNumber::HelperArgument,
+            ),
+            (BEFORE_520, EIGHT, RefusalNumber::HelperArgument),
+            (AbsVal::Stack(1 << 63), ONE, RefusalNumber::HelperArgument),
+        ],
+    );
     Ok(())
+}
+
+/// Checks which bytes a copied tag sets, and what is known of the registers then.
+fn sets_bytes(rt: &impl Abort, bytes_before: u64, count: u64, first: u64, end: u64) {
+    let state = AbsState {
+        registers: called_with(before(bytes_before), number(count)).registers,
+        stack: sample().stack,
+    };
+    let at = (bytes_before, count);
+    match call(&state, 3) {
+        Ok(after) => {
+            let called = after_call(&state);
+            is_true_at(rt, set_bytes_are(&after, first, end), at);
+            is_true_at(rt, registers_are_alike(&after, &called), at);
+        }
+        Err(refusal) => is_true_at(rt, false, (&at, &refusal)),
+    }
+}
+
+/// Checks which bytes copied tags set: where they lie before the stack's end, how many are copied, and
+/// the first of these and the end.
+fn set_bytes(rt: &impl Abort, rows: &[(u64, u64, u64, u64)]) {
+    for row in rows {
+        let (bytes_before, count, first, end) = *row;
+        sets_bytes(rt, bytes_before, count, first, end);
+    }
 }
 
 #[test]
 fn a_copied_tag_sets_its_bytes_alone(rt: HostRuntime) -> Result<(), Fail> {
-    for (bytes_before, count, first, end) in [
-        (1, 1, 511, 512),
-        (16, 1, 496, 497),
-        (16, 16, 496, 512),
-        (13, 7, 499, 506),
-        (32, 32, 480, 512),
-        (512, 1, 0, 1),
-        (512, 32, 0, 32),
-        (509, 30, 3, 33),
-    ] {
-        let state = AbsState {
-            registers: called_with(before(bytes_before), number(count)).registers,
-            stack: sample().stack,
-        };
-        match call(&state, 3) {
-            Ok(after) => {
-                is_true_at(
-                    &rt,
-                    set_bytes_are(&after, first, end),
-                    (&bytes_before, &count),
-                );
-                is_true_at(
-                    &rt,
-                    registers_are_alike(&after, &after_call(&state)),
-                    (&bytes_before, &count),
-                );
-            }
-            Err(refusal) => is_true_at(&rt, false, (&bytes_before, &count, &refusal)),
-        }
-    }
+    set_bytes(
+        &rt,
+        &[
+            (1, 1, 511, 512),
+            (16, 1, 496, 497),
+            (16, 16, 496, 512),
+            (13, 7, 499, 506),
+            (32, 32, 480, 512),
+            (512, 1, 0, 1),
+            (512, 32, 0, 32),
+            (509, 30, 3, 33),
+        ],
+    );
     Ok(())
+}
+
+/// Checks which bytes are set once a tag is copied over a part of a kept value.
+fn leaves_bytes(
+    rt: &impl Abort,
+    value: AbsVal<Flat>,
+    bytes_before: u64,
+    count: u64,
+    first: u64,
+    end: u64,
+) {
+    let state = kept(value, before(bytes_before), number(count));
+    match call(&state, 3) {
+        Ok(after) => is_true_at(
+            rt,
+            set_bytes_are(&after, first, end),
+            (&value, &bytes_before, &count),
+        ),
+        Err(refusal) => is_true_at(rt, false, (&value, &bytes_before, &refusal)),
+    }
 }
 
 #[test]
 fn a_copied_tag_leaves_of_a_kept_value_what_it_does_not_cover(rt: HostRuntime) -> Result<(), Fail> {
-    for (value, bytes_before, count, first, end) in [
-        (EIGHT, 14, 2, 496, 504),
-        (EIGHT, 8, 4, 496, 508),
-        (ANY, 20, 4, 492, 504),
-        (STACK, 14, 2, 498, 500),
-        (CONTEXT, 20, 8, 492, 500),
-        (STACK, 8, 4, 504, 508),
-    ] {
-        let state = kept(value, before(bytes_before), number(count));
-        match call(&state, 3) {
-            Ok(after) => is_true_at(
-                &rt,
-                set_bytes_are(&after, first, end),
-                (&value, &bytes_before, &count),
-            ),
-            Err(refusal) => is_true_at(&rt, false, (&value, &bytes_before, &refusal)),
-        }
-    }
+    leaves_bytes(&rt, EIGHT, 14, 2, 496, 504);
+    leaves_bytes(&rt, EIGHT, 8, 4, 496, 508);
+    leaves_bytes(&rt, ANY, 20, 4, 492, 504);
+    leaves_bytes(&rt, STACK, 14, 2, 498, 500);
+    leaves_bytes(&rt, CONTEXT, 20, 8, 492, 500);
+    leaves_bytes(&rt, STACK, 8, 4, 504, 508);
     Ok(())
+}
+
+/// What is wanted of a comparison in a state: its answer isn't known, or a byte isn't set.
+fn compared(state: &AbsState<Flat>, are_set: bool) -> Found {
+    if are_set {
+        Ok(after_call(state))
+    } else {
+        Err(RefusalNumber::HelperArgument)
+    }
+}
+
+/// A kept value, the place and the count of the bytes to compare, and whether these are set.
+type Compared = (AbsVal<Flat>, u64, u64, bool);
+
+/// Checks which bytes around a kept value can be compared.
+fn are_compared(rt: &impl Abort, rows: &[Compared]) {
+    for row in rows {
+        let (value, bytes_before, count, are_set) = *row;
+        let state = kept(value, before(bytes_before), number(count));
+        let wanted = compared(&state, are_set);
+        let instruction = Instruction::Call { helper: 4 };
+        let found = makes(&state, CONTEXT_SIZE, &instruction, &wanted);
+        is_true_at(rt, found, row);
+    }
 }
 
 #[test]
 fn bytes_that_are_compared_are_set(rt: HostRuntime) -> Result<(), Fail> {
-    for (value, bytes_before, count, are_set) in [
-        (EIGHT, 16, 8, true),
-        (ANY, 16, 8, true),
-        (EIGHT, 16, 1, true),
-        (EIGHT, 9, 1, true),
-        (EIGHT, 13, 5, true),
-        // The first or the last byte isn't set.
-        (EIGHT, 17, 1, false),
-        (EIGHT, 17, 9, false),
-        (EIGHT, 16, 9, false),
-        (EIGHT, 8, 1, false),
-        (EIGHT, 32, 32, false),
-        // A pointer has no bytes.
-        (STACK, 16, 8, false),
-        (STACK, 12, 1, false),
-        (CONTEXT, 16, 8, false),
-    ] {
-        let state = kept(value, before(bytes_before), number(count));
-        let wanted = if are_set {
-            Ok(after_call(&state))
-        } else {
-            Err(RefusalNumber::HelperArgument)
-        };
-        let instruction = Instruction::Call { helper: 4 };
-        is_true_at(
-            &rt,
-            makes(&state, CONTEXT_SIZE, &instruction, &wanted),
-            (&value, &bytes_before, &count),
-        );
-    }
+    are_compared(
+        &rt,
+        &[
+            (EIGHT, 16, 8, true),
+            (ANY, 16, 8, true),
+            (EIGHT, 16, 1, true),
+            (EIGHT, 9, 1, true),
+            (EIGHT, 13, 5, true),
+            // The first or the last byte isn't set.
+            (EIGHT, 17, 1, false),
+            (EIGHT, 17, 9, false),
+            (EIGHT, 16, 9, false),
+            (EIGHT, 8, 1, false),
+            (EIGHT, 32, 32, false),
+            // A pointer has no bytes.
+            (STACK, 16, 8, false),
+            (STACK, 12, 1, false),
+            (CONTEXT, 16, 8, false),
+        ],
+    );
     Ok(())
+}
+
+/// Checks whether bytes around those that helper 3 wrote can be compared.
+fn is_read(rt: &impl Abort, place: u64, count: u64, are_set: bool) {
+    match call(&called_with(before(40), number(10)), 3) {
+        Ok(after) => {
+            let state = with(&after, Register::new(1), before(place));
+            let state = with(&state, Register::new(2), number(count));
+            let wanted = compared(&state, are_set);
+            is_true_at(rt, agree(&call(&state, 4), &wanted), (&place, &count));
+        }
+        Err(refusal) => is_true_at(rt, false, &refusal),
+    }
 }
 
 #[test]
 fn what_helper_3_wrote_helper_4_reads(rt: HostRuntime) -> Result<(), Fail> {
-    for (place, count, are_set) in [
-        (40, 10, true),
-        (36, 6, true),
-        (41, 10, false),
-        (40, 11, false),
-        (30, 1, false),
-    ] {
-        match call(&called_with(before(40), number(10)), 3) {
-            Ok(after) => {
-                let mut state = after;
-                state.registers.set(Register::new(1), before(place));
-                state.registers.set(Register::new(2), number(count));
-                let wanted = if are_set {
-                    Ok(after_call(&state))
-                } else {
-                    Err(RefusalNumber::HelperArgument)
-                };
-                is_true_at(&rt, agree(&call(&state, 4), &wanted), (&place, &count));
-            }
-            Err(refusal) => is_true_at(&rt, false, &refusal),
-        }
-    }
+    is_read(&rt, 40, 10, true);
+    is_read(&rt, 36, 6, true);
+    is_read(&rt, 41, 10, false);
+    is_read(&rt, 40, 11, false);
+    is_read(&rt, 30, 1, false);
     Ok(())
 }
