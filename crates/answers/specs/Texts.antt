@@ -2,8 +2,6 @@
 use Rattle.std.specs.Prelude.{ℕ, List, [], ◌∷◌, Option, Some, None, negsuc, codes}
 use Rattle.serde_json.specs.Data.{Data, number, unsigned, negative, string, object, Members, no_members, member}
 use Rattle.serde_json.specs.Written.{compact_text}
-use Rattle.bpf_profile.specs.declared.machine.Verdict.{Verdict}
-use Rattle.bpf_profile.specs.declared.machine.Verdict.TheVariants as verdict
 use Rattle.refusals.specs.declared.RefusalNumber.{RefusalNumber}
 use Rattle.refusals.specs.Table.{number_of, name_of, status_of}
 use Rattle.verifier.specs.declared.refusal.Refusal.{Refusal}
@@ -14,6 +12,7 @@ use Rattle.service_profile.specs.declared.replies.Reply.{Reply}
 use Rattle.service_profile.specs.declared.replies.Reply.TheVariants as reply
 use Rattle.service_profile.specs.declared.states.State.{State}
 use Rattle.service_profile.specs.declared.states.State.TheVariants as state
+use Rattle.texts.specs.Verdicts.{verdict_name}
 use Rattle.answers.specs.declared.answer.Answer.{Answer}
 use Rattle.answers.specs.declared.answer.Answer.TheVariants as answer
 
@@ -32,11 +31,6 @@ fate_name fate.Recorded = codes "recorded"
 fate_name fate.Ignored = codes "ignored"
 fate_name fate.Off = codes "off"
 fate_name fate.Stale = codes "stale"
-
-abbrev pub verdict_name : Verdict → List ℕ
-verdict_name verdict.Success = codes "success"
-verdict_name verdict.Failure = codes "failure"
-verdict_name verdict.Ignored = codes "ignored"
 
 -- ---- values
 

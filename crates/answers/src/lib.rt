@@ -11,5 +11,4 @@ mod values;
 
 pub use answer::Answer;
 pub use entries::entry_text;
-pub use names::verdict_name;
 pub use pages::page_text;

@@ -1,9 +1,8 @@
-//! The words that answers have for states, fates and verdicts.
+//! The words that answers have for states and fates.
 ghost use Rattle.std.specs.Prelude.{◌≡◌};
-ghost use Rattle.answers.specs.Texts.{state_name, fate_name, verdict_name};
+ghost use Rattle.answers.specs.Texts.{state_name, fate_name};
 
 use book::{Fate, State};
-use bpf_profile::Verdict;
 
 /// The name of a state, as the CircuitBreaker of the Resilience4j documentation has it.
 pub(crate) fn state_name(state: State) -> &'static str
@@ -28,16 +27,5 @@ pub(crate) fn fate_name(fate: Fate) -> &'static str
         Fate::Ignored => "ignored",
         Fate::Off => "off",
         Fate::Stale => "stale",
-    }
-}
-
-/// The word for a verdict: `success`, `failure` or `ignored`.
-pub fn verdict_name(verdict: Verdict) -> &'static str
-    ensures { result.now ≡ verdict_name verdict }
-{
-    match verdict {
-        Verdict::Success => "success",
-        Verdict::Failure => "failure",
-        Verdict::Ignored => "ignored",
     }
 }

@@ -4,12 +4,13 @@ ghost use Rattle.serde_json.specs.View.{view};
 ghost use Rattle.service_profile.specs.declared.replies.Reply.TheVariants as replied;
 ghost use Rattle.answers.specs.Texts.{rate, refusal_data, program_refusal_data, handed_out_data, reply_data, reading_data};
 
-use crate::names::{fate_name, state_name, verdict_name};
+use crate::names::{fate_name, state_name};
 use book::{Fate, Reading, Reply, State};
 use bpf_profile::Verdict;
 use refusals::RefusalNumber;
 use serde_json::{Value, json};
 use std::alloc::{AllocError, Global};
+use texts::verdict_name;
 use verifier::Refusal;
 
 fn rate(percent: Option<u64>) -> Value

@@ -1,11 +1,12 @@
 //! That requests are read with ample memory, and what numbers in JSON are.
 use crate::checks::{is_true_at, same, same_at};
 use book::{ConfigParts, SlidingWindowType, State};
-use requests::{config, json, number_at, program, report, state, text_at};
+use requests::{config, number_at, program, report, state, text_at};
 use serde_json::Value;
 use std::alloc::Global;
 use std::process::Abort;
 use std::test::Fail;
+use texts::json;
 
 /// The value of a text that is JSON.
 fn value(rt: &impl Abort, alloc: Global, text: &str) -> Value {

@@ -5,7 +5,7 @@ use Rattle.serde_json.specs.Data.{Data}
 use Rattle.refusals.specs.declared.RefusalNumber.{RefusalNumber}
 use Rattle.refusals.specs.declared.RefusalNumber.TheVariants as refusal
 use Rattle.requests.specs.Reports.{report_of}
-use Rattle.requests.specs.Text.{json_of}
+use Rattle.texts.specs.JsonText.{json_of}
 use Rattle.requests.specs.Transitions.{state_of}
 use Rattle.requests.specs.Values.{number_at}
 use Rattle.service_profile.specs.Answers.{map_ok}

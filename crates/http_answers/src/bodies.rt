@@ -3,15 +3,16 @@ ghost use Rattle.std.specs.Prelude.{◌≡◌, IfOk, option_map};
 ghost use Rattle.serde_json.specs.View.{view};
 ghost use Rattle.service_profile.specs.Answers.{map_ok};
 ghost use Rattle.service.specs.Asked.{request_data};
-ghost use Rattle.requests.specs.Text.{json_of};
+ghost use Rattle.texts.specs.JsonText.{json_of};
 ghost use Rattle.http_answers.specs.Bodies.{value_asks, json_asks, page_asks, body_asks};
 
 use http_routes::{Route, entry_number};
 use refusals::RefusalNumber;
-use requests::{json, number_at, report, state};
+use requests::{number_at, report, state};
 use serde_json::Value;
 use service::Request;
 use std::alloc::{AllocError, Global};
+use texts::json;
 
 /// What a JSON value asks for by a route whose body is JSON.
 fn value_asks(route: Route, value: &Value) -> Option<Request>

@@ -8,7 +8,7 @@ use Rattle.refusals.specs.declared.RefusalNumber.TheVariants as refusal
 use Rattle.helpers.specs.Json.{◌>>=◌}
 use Rattle.requests.specs.Programs.{program_of}
 use Rattle.requests.specs.Reports.{report_of}
-use Rattle.requests.specs.Text.{json_of}
+use Rattle.texts.specs.JsonText.{json_of}
 use Rattle.requests.specs.Transitions.{state_of}
 use Rattle.requests.specs.Values.{number_at, text_at}
 use Rattle.replay.specs.declared.asking.Asked.{Asked}

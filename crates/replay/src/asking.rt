@@ -7,10 +7,11 @@ ghost use Rattle.service.specs.Asked.{install, request_data};
 ghost use Rattle.replay.specs.Asking.{wished, plain_named, want_named, asked_in, asked};
 
 use refusals::RefusalNumber;
-use requests::{json, number_at, program, report, state, text_at};
+use requests::{number_at, program, report, state, text_at};
 use serde_json::Value;
 use service::Request;
 use std::alloc::{AllocError, Global};
+use texts::json;
 
 /// What is asked for, and at which moment, in milliseconds.
 #[derive(Drop)]

@@ -11,9 +11,10 @@ use crate::error::ReplayError;
 use crate::lines::next_line;
 use book::{Book, Config};
 use counted_io::Counted;
-use requests::{config, json};
+use requests::config;
 use std::alloc::{AllocError, Global};
 use std::io::{Read, Write};
+use texts::json;
 use verifier::default_classifier;
 
 /// How a replay ended.

@@ -1,2 +1,1 @@
-pub mod JsonTexts
 pub mod Keys

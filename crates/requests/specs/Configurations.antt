@@ -9,7 +9,7 @@ use Rattle.service_profile.specs.declared.configuration.ConfigParts.{ConfigParts
 use Rattle.service_profile.specs.declared.configuration.SlidingWindowType.{SlidingWindowType}
 use Rattle.service_profile.specs.declared.configuration.SlidingWindowType.TheVariants as window
 use Rattle.service_profile.specs.Configuration.{configured, default_parts}
-use Rattle.requests.specs.Text.{json_of}
+use Rattle.texts.specs.JsonText.{json_of}
 use Rattle.requests.specs.Values.{number_or}
 
 -- ---- keys

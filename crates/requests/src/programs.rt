@@ -3,10 +3,10 @@ ghost use Rattle.std.specs.Prelude.{◌≡◌, IfOk, option_map};
 ghost use Rattle.serde_json.specs.View.{view};
 ghost use Rattle.requests.specs.Programs.{program_of};
 
-use crate::hexadecimal::hex_bytes;
 use crate::values::text_at;
 use serde_json::Value;
 use std::alloc::{AllocError, Global};
+use texts::hex_bytes;
 
 /// The bytecode that a JSON object has under `program`: hexadecimal text of either case, in which blanks
 /// don't count. Other keys are ignored. None where it is missing, of another kind or no hexadecimal:

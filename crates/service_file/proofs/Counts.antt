@@ -4,7 +4,7 @@ use Rattle.std.specs.Prelude.{IfSome, codes, ⊤}
 use Rattle.std.specs.List.{list_any}
 use Rattle.serde_json.specs.Data.{Data, Items, no_items, item}
 use Rattle.serde_json.specs.Find.{get, as_array}
-use Rattle.requests.specs.Text.{json_of}
+use Rattle.texts.specs.JsonText.{json_of}
 use Rattle.requests.specs.Values.{number_at, text_at}
 use Rattle.service_file.specs.declared.settings.ServiceSettings.{ServiceSettings}
 use Rattle.service_file.specs.declared.settings.Settings.{Settings}

@@ -9,7 +9,7 @@ use Rattle.service_profile.specs.declared.configuration.ConfigParts.{ConfigParts
 use Rattle.service_profile.specs.Configuration.{default_parts}
 use Rattle.requests.specs.Configurations.{config_of}
 use Rattle.requests.specs.Programs.{program_of}
-use Rattle.requests.specs.Text.{json_of}
+use Rattle.texts.specs.JsonText.{json_of}
 use Rattle.requests.specs.Values.{number_at, text_at}
 
 -- a service: its name, its configuration, and its program's bytes, where the file has a program

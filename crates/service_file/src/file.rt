@@ -7,9 +7,10 @@ ghost use Rattle.service_file.specs.Parts.{file_data};
 use crate::keys::has_file_keys;
 use crate::names::is_count;
 use crate::services::{ServicePart, services_at};
-use requests::{json, number_at, text_at};
+use requests::{number_at, text_at};
 use serde_json::Value;
 use std::alloc::{AllocError, Global};
+use texts::json;
 
 /// What the file has.
 #[derive(Drop)]

@@ -1,5 +1,2 @@
-pub mod Answers
 pub mod Commands
-pub mod Text
-pub mod Assembling
 pub mod Endings

@@ -1,192 +1,40 @@
 //! The commands that the program's words name.
-ghost use Rattle.std.specs.Prelude.{◌≡◌, ◌≢◌, ◌++◌, [], ◌∷◌, IsNone, IfOk, IfSome, string_bytes};
+ghost use Rattle.std.specs.Prelude.{◌≡◌, Decides, IfOk};
 ghost use Rattle.std.specs.Io.KnownBytes.{Appends};
+ghost use Rattle.classifier_commands.specs.Commands.{IsPrinted, IsSettled, usage};
+ghost use Rattle.classifier_commands.specs.Endings.{IsUsageShown};
 ghost use Rattle.replay.specs.Causes.{IsCause, IsWriteCause};
-ghost use Rattle.sidecar_commands.specs.Commands.{NamesNone, IsRequest, IsDone, IsPrinted, HasJudged, HasReplayed, HasAssembled, HasDisassembled, usage, code_of, status_of_error, IsSettled, HasAnswered};
-ghost use Rattle.sidecar_commands.specs.Endings.{IsUsageShown, IsEnded};
-ghost use Rattle.sidecar_commands.specs.Text.{answer_text};
+ghost use Rattle.sidecar_commands.specs.Commands.{NamesReplay, NamesNone, HasReplayed, HasAnswered, status_of_error, replay_error_of, bad_config};
+ghost use Rattle.sidecar_commands.specs.Endings.{IsEnded};
 
-use crate::answer::{Answer, Fault};
-use crate::assembling::{assembled, disassembled};
-use crate::input::read_all;
-use crate::judging::{judge, verify};
+use classifier_commands::{Answer, CommandError, Fault, Status, print};
 use counted_io::Counted;
 use refusals::RefusalNumber;
 use replay::{Ended, ReplayError, replay};
-use std::alloc::{AllocError, Global};
+use std::alloc::Global;
 use std::io::{Read, Write};
 
-/// What the program is asked for.
-#[derive(Drop)]
-enum Request<'a> {
-    /// `judge PROGRAM`: an outcome's JSON is read.
-    Judge(&'a str),
-    /// `verify PROGRAM`: nothing is read.
-    Verify(&'a str),
-    /// `replay`: a configuration and events are read.
-    Replay,
-    /// `asm`: assembler text is read.
-    Assemble,
-    /// `dis PROGRAM`: nothing is read.
-    Disassemble(&'a str),
-}
-
-impl<'a> Request<'a> {
-    /// What the words ask for.
-    fn from_words(words: &[&'a str]) -> Option<Request<'a>>
-        ensures some { IfSome result (λ request. IsRequest words.now request) }
-        ensures none { IsNone result → NamesNone words.now }
-    {
-        match *words {
-            ["judge", program] => Some(Request::Judge(program)),
-            ["verify", program] => Some(Request::Verify(program)),
-            ["replay"] => Some(Request::Replay),
-            ["asm"] => Some(Request::Assemble),
-            ["dis", program] => Some(Request::Disassemble(program)),
-            _ => None,
-        }
-    }
-
-    /// Does what is asked for.
-    fn fulfil<R: Read, O: Write>(
-        &self,
-        alloc: Global,
-        reader: &mut Counted<R>,
-        out: &mut Counted<O>,
-    ) -> Result<Status, ReplayError>
-        ensures done { IfOk result (λ status. IsDone self.now (R.remaining reader.old.inner) status (O.contents out.old.inner) (O.contents out.new.inner)) }
-        ensures settled { IfOk result IsSettled }
-        ensures cause { IsCause result reader.old.failures reader.new.failures out.old.failures out.new.failures (R.remaining reader.old.inner) }
-    {
-        match self {
-            Request::Judge(program) => judge_outcome(alloc, program, reader, out),
-            Request::Verify(program) => print(alloc, verify(alloc, program), out),
-            Request::Replay => replay_events(alloc, reader, out),
-            Request::Assemble => assemble_text(alloc, reader, out),
-            Request::Disassemble(program) => disassemble_program(alloc, program, out),
-        }
-    }
-}
-
-/// How a command ended.
-#[derive(Clone, Copy, Debug, PartialEq, Eq)]
-pub enum Status {
-    /// What was asked for was done, and printed.
-    Done,
-    /// It was refused, and the refusal was printed.
-    Refused,
-    /// The words name no command, and the usage was printed.
-    WrongArguments,
-    /// The words name no command, and writing the usage failed.
-    UsageFailed,
-    /// A read failed.
-    ReadFailed,
-    /// A write failed.
-    WriteFailed,
-    /// Memory ran out.
-    OutOfMemory,
-    /// The input has 2^64 - 1 lines or more.
-    TooLong,
-}
-
-impl Status {
-    /// The status with which the program ends: 0 where it is done, 1 where it is refused or failed,
-    /// 2 where the words name no command.
-    pub fn code(self) -> u8
-        ensures { result ≡ code_of self }
-    {
-        match self {
-            Status::Done => 0,
-            Status::Refused
-            | Status::ReadFailed
-            | Status::WriteFailed
-            | Status::OutOfMemory
-            | Status::TooLong => 1,
-            Status::WrongArguments | Status::UsageFailed => 2,
-        }
-    }
-
-    /// How a command ends that failed.
-    fn of_error(error: ReplayError) -> Status
-        ensures { result ≡ status_of_error error }
-    {
-        match error {
-            ReplayError::ReadFailed => Status::ReadFailed,
-            ReplayError::WriteFailed => Status::WriteFailed,
-            ReplayError::OutOfMemory => Status::OutOfMemory,
-            ReplayError::TooLong => Status::TooLong,
-        }
-    }
-}
-
-impl From<Answer> for Status {
-    ghost use Rattle.std.specs.Prelude.{◌≡◌};
-    ghost use Rattle.sidecar_commands.specs.Answers.{IsAllOf};
-    ghost use Rattle.sidecar_commands.specs.Commands.{status_of};
-
-    ghost from_gives = { λ answer status. status ≡ status_of answer };
-
-    fn from(answer: Answer) -> Status {
-        match answer {
-            Answer::Judged { .. } | Answer::Accepted { .. } => Status::Done,
-            Answer::Refused(_) => Status::Refused,
-        }
-    }
-}
-
-/// Writes a text.
-fn send<O: Write>(text: &str, out: &mut Counted<O>) -> Result<(), ReplayError>
-    ensures sent { IfOk result (λ done. Appends (O.contents out.old.inner) (O.contents out.new.inner) text.now) }
-    ensures cause { IsWriteCause result out.old.failures out.new.failures }
+/// How a replay ends that failed.
+fn status_of(error: ReplayError) -> Status
+    ensures { result ≡ status_of_error error }
 {
-    match out.send(text.as_bytes()) {
-        Ok(()) => Ok(()),
-        Err(_) => Err(ReplayError::WriteFailed),
+    match error {
+        ReplayError::ReadFailed => Status::ReadFailed,
+        ReplayError::WriteFailed => Status::WriteFailed,
+        ReplayError::OutOfMemory => Status::OutOfMemory,
+        ReplayError::TooLong => Status::TooLong,
     }
 }
 
-/// The line of an answer.
-fn answer_line(alloc: Global, answer: Answer) -> Result<String, AllocError>
-    ensures { IfOk result (λ line. string_bytes line ≡ answer_text answer ++ 10 ∷ []) }
+/// The error of a replay whose answer could not be printed.
+fn replay_error(error: CommandError) -> ReplayError
+    ensures { result ≡ replay_error_of error }
 {
-    format!(in alloc; "{answer}\n")
-}
-
-/// A text with a line feed behind it.
-fn with_end(alloc: Global, text: &str) -> Result<String, AllocError>
-    ensures { IfOk result (λ line. string_bytes line ≡ text.now ++ 10 ∷ []) }
-{
-    format!(in alloc; "{text}\n")
-}
-
-/// Prints an answer as a line.
-fn print<O: Write>(
-    alloc: Global,
-    answer: Answer,
-    out: &mut Counted<O>,
-) -> Result<Status, ReplayError>
-    ensures printed { IfOk result (λ status. IsPrinted answer status (O.contents out.old.inner) (O.contents out.new.inner)) }
-    ensures settled { IfOk result IsSettled }
-    ensures cause { IsWriteCause result out.old.failures out.new.failures }
-{
-    let line = answer_line(alloc, answer)?;
-    send(&line, out)?;
-    Ok(Status::from(answer))
-}
-
-/// Judges the outcome that is read.
-fn judge_outcome<R: Read, O: Write>(
-    alloc: Global,
-    program: &str,
-    reader: &mut Counted<R>,
-    out: &mut Counted<O>,
-) -> Result<Status, ReplayError>
-    ensures judged { IfOk result (λ status. HasJudged program.now (R.remaining reader.old.inner) status (O.contents out.old.inner) (O.contents out.new.inner)) }
-    ensures settled { IfOk result IsSettled }
-    ensures cause { IsCause result reader.old.failures reader.new.failures out.old.failures out.new.failures (R.remaining reader.old.inner) }
-{
-    let answer = judge(alloc, program, reader)?;
-    print(alloc, answer, out)
+    match error {
+        CommandError::ReadFailed => ReplayError::ReadFailed,
+        CommandError::WriteFailed => ReplayError::WriteFailed,
+        CommandError::OutOfMemory => ReplayError::OutOfMemory,
+    }
 }
 
 /// Why a replay is refused.
@@ -194,6 +42,18 @@ const NO_CONFIG: Fault = Fault {
     number: RefusalNumber::BadConfig,
     place: 0,
 };
+
+/// Prints that the configuration can't be used.
+fn refuse<O: Write>(alloc: Global, out: &mut Counted<O>) -> Result<Status, ReplayError>
+    ensures printed { IfOk result (λ status. IsPrinted bad_config status (O.contents out.old.inner) (O.contents out.new.inner)) }
+    ensures settled { IfOk result IsSettled }
+    ensures cause { IsWriteCause result out.old.failures out.new.failures }
+{
+    match print(alloc, Answer::Refused(NO_CONFIG), out) {
+        Ok(status) => Ok(status),
+        Err(error) => Err(replay_error(error)),
+    }
+}
 
 /// Answers the events that are read.
 fn replay_events<R: Read, O: Write>(
@@ -207,74 +67,15 @@ fn replay_events<R: Read, O: Write>(
 {
     match replay(alloc, reader, out)? {
         Ended::Done => Ok(Status::Done),
-        Ended::BadConfig => print(alloc, Answer::Refused(NO_CONFIG), out),
+        Ended::BadConfig => refuse(alloc, out),
     }
 }
 
-/// Assembles the text that is read.
-fn assemble_text<R: Read, O: Write>(
-    alloc: Global,
-    reader: &mut Counted<R>,
-    out: &mut Counted<O>,
-) -> Result<Status, ReplayError>
-    ensures assembled { IfOk result (λ status. HasAssembled (R.remaining reader.old.inner) status (O.contents out.old.inner) (O.contents out.new.inner)) }
-    ensures settled { IfOk result IsSettled }
-    ensures cause { IsCause result reader.old.failures reader.new.failures out.old.failures out.new.failures (R.remaining reader.old.inner) }
+/// Whether the words ask for a replay.
+fn is_replay(words: &[&str]) -> bool
+    ensures { Decides result (NamesReplay words.now) }
 {
-    let text = read_all(alloc, reader)?;
-    match assembled(alloc, &text) {
-        Ok(hex) => print_line(alloc, &hex, out),
-        Err(fault) => print(alloc, Answer::Refused(fault), out),
-    }
-}
-
-/// Prints a text as a line.
-fn print_line<O: Write>(
-    alloc: Global,
-    text: &str,
-    out: &mut Counted<O>,
-) -> Result<Status, ReplayError>
-    ensures printed { IfOk result (λ status. (status ≡ Status.Done) × Appends (O.contents out.old.inner) (O.contents out.new.inner) (text.now ++ 10 ∷ [])) }
-    ensures cause { IsWriteCause result out.old.failures out.new.failures }
-{
-    let line = with_end(alloc, text)?;
-    send(&line, out)?;
-    Ok(Status::Done)
-}
-
-/// Prints lines that end by themselves.
-fn print_lines<O: Write>(text: &str, out: &mut Counted<O>) -> Result<Status, ReplayError>
-    ensures printed { IfOk result (λ status. (status ≡ Status.Done) × Appends (O.contents out.old.inner) (O.contents out.new.inner) text.now) }
-    ensures cause { IsWriteCause result out.old.failures out.new.failures }
-{
-    send(text, out)?;
-    Ok(Status::Done)
-}
-
-/// Disassembles a program.
-fn disassemble_program<O: Write>(
-    alloc: Global,
-    program: &str,
-    out: &mut Counted<O>,
-) -> Result<Status, ReplayError>
-    ensures disassembled { IfOk result (λ status. HasDisassembled program.now status (O.contents out.old.inner) (O.contents out.new.inner)) }
-    ensures settled { IfOk result IsSettled }
-    ensures cause { IsWriteCause result out.old.failures out.new.failures }
-{
-    match disassembled(alloc, program) {
-        Ok(lines) => print_lines(&lines, out),
-        Err(fault) => print(alloc, Answer::Refused(fault), out),
-    }
-}
-
-/// Prints the usage.
-fn show_usage<E: Write>(err: &mut Counted<E>) -> Status
-    ensures { IsUsageShown result (E.contents err.old.inner) (E.contents err.new.inner) err.old.failures err.new.failures }
-{
-    match err.send("usage: sidecar judge|asm|dis|verify|replay|serve\n".as_bytes()) {
-        Ok(()) => Status::WrongArguments,
-        Err(_) => Status::UsageFailed,
-    }
+    matches!(*words, ["replay"])
 }
 
 /// Does what the words ask for, and answers how that ended.
@@ -304,11 +105,11 @@ pub fn command<R: Read, O: Write, E: Write>(
     // A failed read or write is answered where that count went up by one, and in no other case.
     ensures cause { IsEnded result reader.old.failures reader.new.failures out.old.failures out.new.failures (R.remaining reader.old.inner) }
 {
-    let Some(request) = Request::from_words(words) else {
-        return show_usage(err);
-    };
-    match request.fulfil(alloc, reader, out) {
+    if !is_replay(words) {
+        return classifier_commands::command(alloc, words, reader, out, err);
+    }
+    match replay_events(alloc, reader, out) {
         Ok(status) => status,
-        Err(error) => Status::of_error(error),
+        Err(error) => status_of(error),
     }
 }

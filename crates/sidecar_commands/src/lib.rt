@@ -1,12 +1,8 @@
-//! The commands of the program `sidecar`: they verify and judge by classifier programs, assemble and
-//! disassemble them, and replay events of a service.
+//! The commands of the program `sidecar`, but for `serve`: those on classifier programs, and the replay of
+//! a service's events.
 #![tactic(auto)]
 
-mod answer;
-mod assembling;
 mod commands;
-mod hexadecimal;
-mod input;
-mod judging;
 
-pub use commands::{Status, command};
+pub use classifier_commands::Status;
+pub use commands::command;

@@ -1,15 +1,8 @@
-use Rattle.std.proofs.Common.{subst}
-use Rattle.sidecar_commands.specs.declared.commands.Status.{Status}
-use Rattle.sidecar_commands.specs.Commands.{HasAnswered}
-use Rattle.sidecar_commands.proofs.Requests.{answered}
+use Rattle.std.proofs.Common.{rules}
+use Rattle.sidecar_commands.specs.Commands.{NamesReplay}
 use Rattle.sidecar_commands.proofs.commands.command.Goals as goal
 
-pub returns-in-Ok-clause-done : goal.returns-in-Ok-clause-done
-returns-in-Ok-clause-done g c =
-    λ same. subst (λ (ended : Status). HasAnswered c.args.words.now (g.R.Read.remaining c.args.reader.now.inner) ended (g.O.Write.contents c.args.out.now.inner) (g.O.Write.contents c.fulfil.new.out.inner)) same
-    (answered c.args.words.now c.in-Some.request _ c.in-Ok.status _ _ c.in-Some.ensures.some c.in-Ok.ensures.done)
-
-pub returns-in-Ok-clause-refused : goal.returns-in-Ok-clause-refused
-returns-in-Ok-clause-refused g c =
-    λ same. subst (λ (ended : Status). HasAnswered c.args.words.now (g.R.Read.remaining c.args.reader.now.inner) ended (g.O.Write.contents c.args.out.now.inner) (g.O.Write.contents c.fulfil.new.out.inner)) same
-    (answered c.args.words.now c.in-Some.request _ c.in-Ok.status _ _ c.in-Some.ensures.some c.in-Ok.ensures.done)
+pub returns-then-not-is_replay-clause-quiet : goal.returns-then-not-is_replay-clause-quiet
+returns-then-not-is_replay-clause-quiet g c =
+    let other : NamesReplay c.args.words.now → ⊥ = search rules in
+    λ named. c.command.ensures.quiet (λ none. named (none, other))

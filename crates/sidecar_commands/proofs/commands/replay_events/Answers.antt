@@ -12,4 +12,4 @@ returns-in-Done-clause-replayed g c =
 pub returns-in-BadConfig-clause-replayed : goal.returns-in-BadConfig-clause-replayed
 returns-in-BadConfig-clause-replayed g c =
     let replayed : IsReplayed (g.R.Read.remaining c.args.reader.now.inner) ended.BadConfig (g.O.Write.contents c.args.out.now.inner) (g.O.Write.contents c.replay.new.out.inner) = rw c.in-BadConfig.is at c.in_ok-replay.ensures.replayed in
-    IfOk-weaker c.print.result _ _ (λ status printed. (ended.BadConfig, g.O.Write.contents c.replay.new.out.inner, replayed, printed)) c.print.ensures.printed
+    IfOk-weaker c.refuse.result _ _ (λ status printed. (ended.BadConfig, g.O.Write.contents c.replay.new.out.inner, replayed, printed)) c.refuse.ensures.printed

@@ -1,0 +1,44 @@
+//! The program `classifier`: passes its arguments, its input and its output on to the commands on
+//! classifier programs. It is what `./sidecar` builds for these commands, and takes the same words.
+#![tactic(auto)]
+
+use classifier_commands::command;
+use counted_io::Counted;
+use std::alloc::AllocError;
+use std::io::BufReader;
+use std::process::ExitCode;
+use std::{env, io};
+
+/// The program's arguments, without its name.
+fn arguments(rt: &HostRuntime) -> io::Result<Vec<String>> {
+    let mut arguments = Vec::new(rt.alloc());
+    for argument in env::args(rt)?.skip(1) {
+        arguments.push(argument)?;
+    }
+    Ok(arguments)
+}
+
+/// The status with which the command of these words ends.
+fn run_command(rt: &HostRuntime, words: &[&str]) -> io::Result<u8> {
+    let mut reader = Counted::new(BufReader::new(rt.alloc(), rt.stdin())?);
+    let mut out = Counted::new(rt.stdout());
+    let mut err = Counted::new(rt.stderr());
+    Ok(command(rt.alloc(), words, &mut reader, &mut out, &mut err).code())
+}
+
+fn main(rt: HostRuntime) -> ExitCode {
+    let Ok(arguments) = arguments(&rt) else {
+        return ExitCode::FAILURE;
+    };
+    let collected = arguments
+        .iter()
+        .map(|word| word.as_str())
+        .collect(rt.alloc());
+    let Ok(words): Result<Vec<&str>, AllocError> = collected else {
+        return ExitCode::FAILURE;
+    };
+    match run_command(&rt, &words) {
+        Ok(code) => ExitCode::from(code),
+        Err(_) => ExitCode::FAILURE,
+    }
+}

@@ -1,0 +1,12 @@
+-- What was asked for was done: so what the words ask for.
+use Rattle.std.proofs.Common.{ℕ, List, Option, inl, inr, subst}
+use Rattle.classifier_commands.specs.declared.commands.Request.{Request}
+use Rattle.classifier_commands.specs.declared.commands.Request.TheVariants as request
+use Rattle.classifier_commands.specs.declared.commands.Status.{Status}
+use Rattle.classifier_commands.specs.Commands.{Words, IsRequest, IsDone, HasAnswered, HasJudged, HasVerified, HasDisassembled}
+
+pub answered : (words : Words) (r : Request) (known : Option (List ℕ)) (ended : Status) (before after : Option (List ℕ)) → IsRequest words r → IsDone r known ended before after → HasAnswered words known ended before after
+answered words (request.Judge program) known ended before after asked done = inl (asked.0, subst (λ (p : List ℕ). HasJudged p known ended before after) asked.1 done)
+answered words (request.Verify program) known ended before after asked done = inr (inl (asked.0, subst (λ (p : List ℕ). HasVerified p ended before after) asked.1 done))
+answered words request.Assemble known ended before after asked done = inr (inr (inl (asked, done)))
+answered words (request.Disassemble program) known ended before after asked done = inr (inr (inr (asked.0, subst (λ (p : List ℕ). HasDisassembled p ended before after) asked.1 done)))

@@ -1,0 +1,6 @@
+pub mod Answers
+pub mod Commands
+pub mod Text
+pub mod Assembling
+pub mod Causes
+pub mod Endings

@@ -1,0 +1,223 @@
+//! The commands that the program's words name.
+ghost use Rattle.std.specs.Prelude.{◌≡◌, IsNone, IfOk, IfSome};
+ghost use Rattle.std.specs.Io.KnownBytes.{Appends};
+ghost use Rattle.classifier_commands.specs.Causes.{IsCause, IsWriteCause};
+ghost use Rattle.classifier_commands.specs.Commands.{NamesNone, IsRequest, IsDone, HasJudged, HasAssembled, HasDisassembled, usage, code_of, status_of_error, IsSettled, HasAnswered};
+ghost use Rattle.classifier_commands.specs.Endings.{IsUsageShown, IsEnded};
+
+use crate::answer::Answer;
+use crate::assembling::{assembled, disassembled};
+use crate::error::CommandError;
+use crate::input::read_all;
+use crate::judging::{judge, verify};
+use crate::printing::{print, print_line, print_lines};
+use counted_io::Counted;
+use std::alloc::Global;
+use std::io::{Read, Write};
+
+/// What the program is asked for.
+#[derive(Drop)]
+enum Request<'a> {
+    /// `judge PROGRAM`: an outcome's JSON is read.
+    Judge(&'a str),
+    /// `verify PROGRAM`: nothing is read.
+    Verify(&'a str),
+    /// `asm`: assembler text is read.
+    Assemble,
+    /// `dis PROGRAM`: nothing is read.
+    Disassemble(&'a str),
+}
+
+impl<'a> Request<'a> {
+    /// What the words ask for.
+    fn from_words(words: &[&'a str]) -> Option<Request<'a>>
+        ensures some { IfSome result (λ request. IsRequest words.now request) }
+        ensures none { IsNone result → NamesNone words.now }
+    {
+        match *words {
+            ["judge", program] => Some(Request::Judge(program)),
+            ["verify", program] => Some(Request::Verify(program)),
+            ["asm"] => Some(Request::Assemble),
+            ["dis", program] => Some(Request::Disassemble(program)),
+            _ => None,
+        }
+    }
+
+    /// Does what is asked for.
+    fn fulfil<R: Read, O: Write>(
+        &self,
+        alloc: Global,
+        reader: &mut Counted<R>,
+        out: &mut Counted<O>,
+    ) -> Result<Status, CommandError>
+        ensures done { IfOk result (λ status. IsDone self.now (R.remaining reader.old.inner) status (O.contents out.old.inner) (O.contents out.new.inner)) }
+        ensures settled { IfOk result IsSettled }
+        ensures cause { IsCause result reader.old.failures reader.new.failures out.old.failures out.new.failures }
+    {
+        match self {
+            Request::Judge(program) => judge_outcome(alloc, program, reader, out),
+            Request::Verify(program) => print(alloc, verify(alloc, program), out),
+            Request::Assemble => assemble_text(alloc, reader, out),
+            Request::Disassemble(program) => disassemble_program(alloc, program, out),
+        }
+    }
+}
+
+/// How a command ended.
+#[derive(Clone, Copy, Debug, PartialEq, Eq)]
+pub enum Status {
+    /// What was asked for was done, and printed.
+    Done,
+    /// It was refused, and the refusal was printed.
+    Refused,
+    /// The words name no command, and the usage was printed.
+    WrongArguments,
+    /// The words name no command, and writing the usage failed.
+    UsageFailed,
+    /// A read failed.
+    ReadFailed,
+    /// A write failed.
+    WriteFailed,
+    /// Memory ran out.
+    OutOfMemory,
+    /// The input of a replay has 2^64 - 1 lines or more. No command on a classifier ends so.
+    TooLong,
+}
+
+impl Status {
+    /// The status with which the program ends: 0 where it is done, 1 where it is refused or failed,
+    /// 2 where the words name no command.
+    pub fn code(self) -> u8
+        ensures { result ≡ code_of self }
+    {
+        match self {
+            Status::Done => 0,
+            Status::Refused
+            | Status::ReadFailed
+            | Status::WriteFailed
+            | Status::OutOfMemory
+            | Status::TooLong => 1,
+            Status::WrongArguments | Status::UsageFailed => 2,
+        }
+    }
+
+    /// How a command ends that failed.
+    fn of_error(error: CommandError) -> Status
+        ensures { result ≡ status_of_error error }
+    {
+        match error {
+            CommandError::ReadFailed => Status::ReadFailed,
+            CommandError::WriteFailed => Status::WriteFailed,
+            CommandError::OutOfMemory => Status::OutOfMemory,
+        }
+    }
+}
+
+impl From<Answer> for Status {
+    ghost use Rattle.std.specs.Prelude.{◌≡◌};
+    ghost use Rattle.classifier_commands.specs.Answers.{IsAllOf};
+    ghost use Rattle.classifier_commands.specs.Commands.{status_of};
+
+    ghost from_gives = { λ answer status. status ≡ status_of answer };
+
+    fn from(answer: Answer) -> Status {
+        match answer {
+            Answer::Judged { .. } | Answer::Accepted { .. } => Status::Done,
+            Answer::Refused(_) => Status::Refused,
+        }
+    }
+}
+
+/// Judges the outcome that is read.
+fn judge_outcome<R: Read, O: Write>(
+    alloc: Global,
+    program: &str,
+    reader: &mut Counted<R>,
+    out: &mut Counted<O>,
+) -> Result<Status, CommandError>
+    ensures judged { IfOk result (λ status. HasJudged program.now (R.remaining reader.old.inner) status (O.contents out.old.inner) (O.contents out.new.inner)) }
+    ensures settled { IfOk result IsSettled }
+    ensures cause { IsCause result reader.old.failures reader.new.failures out.old.failures out.new.failures }
+{
+    let answer = judge(alloc, program, reader)?;
+    print(alloc, answer, out)
+}
+
+/// Assembles the text that is read.
+fn assemble_text<R: Read, O: Write>(
+    alloc: Global,
+    reader: &mut Counted<R>,
+    out: &mut Counted<O>,
+) -> Result<Status, CommandError>
+    ensures assembled { IfOk result (λ status. HasAssembled (R.remaining reader.old.inner) status (O.contents out.old.inner) (O.contents out.new.inner)) }
+    ensures settled { IfOk result IsSettled }
+    ensures cause { IsCause result reader.old.failures reader.new.failures out.old.failures out.new.failures }
+{
+    let text = read_all(alloc, reader)?;
+    match assembled(alloc, &text) {
+        Ok(hex) => print_line(alloc, &hex, out),
+        Err(fault) => print(alloc, Answer::Refused(fault), out),
+    }
+}
+
+/// Disassembles a program.
+fn disassemble_program<O: Write>(
+    alloc: Global,
+    program: &str,
+    out: &mut Counted<O>,
+) -> Result<Status, CommandError>
+    ensures disassembled { IfOk result (λ status. HasDisassembled program.now status (O.contents out.old.inner) (O.contents out.new.inner)) }
+    ensures settled { IfOk result IsSettled }
+    ensures cause { IsWriteCause result out.old.failures out.new.failures }
+{
+    match disassembled(alloc, program) {
+        Ok(lines) => print_lines(&lines, out),
+        Err(fault) => print(alloc, Answer::Refused(fault), out),
+    }
+}
+
+/// Prints the usage.
+fn show_usage<E: Write>(err: &mut Counted<E>) -> Status
+    ensures { IsUsageShown result (E.contents err.old.inner) (E.contents err.new.inner) err.old.failures err.new.failures }
+{
+    match err.send("usage: sidecar judge|asm|dis|verify|replay|serve\n".as_bytes()) {
+        Ok(()) => Status::WrongArguments,
+        Err(_) => Status::UsageFailed,
+    }
+}
+
+/// Does what the words ask for of a classifier, `judge`, `verify`, `asm` or `dis`, and answers how that ended.
+///
+/// An answer, also a refusal, is one line on `out`; for wrong words there is a line on `err` and
+/// nothing on `out`. Where the reader or the writer fails, or memory runs out with no answer that
+/// says so, nothing more is written. One failed read or write ends the command, also one that was
+/// interrupted. Input is read byte by byte: give it a reader that is buffered.
+pub fn command<R: Read, O: Write, E: Write>(
+    alloc: Global,
+    words: &[&str],
+    reader: &mut Counted<R>,
+    out: &mut Counted<O>,
+    err: &mut Counted<E>,
+) -> Status
+    // Where it is done, the command's answer was printed.
+    ensures done { result ≡ Status.Done → HasAnswered words.now (R.remaining reader.old.inner) Status.Done (O.contents out.old.inner) (O.contents out.new.inner) }
+    // Where it is refused, the refusal of what the words ask for was printed.
+    ensures refused { result ≡ Status.Refused → HasAnswered words.now (R.remaining reader.old.inner) Status.Refused (O.contents out.old.inner) (O.contents out.new.inner) }
+    // With wrong arguments the words name no command, and the usage was printed.
+    ensures wrong { result ≡ Status.WrongArguments → NamesNone words.now × Appends (E.contents err.old.inner) (E.contents err.new.inner) usage }
+    // Words that name no command print nothing on `out`, and the usage on `err`, or a beginning of it where a write failed.
+    ensures silent { NamesNone words.now → out.new ≡ out.old }
+    ensures usage { NamesNone words.now → IsUsageShown result (E.contents err.old.inner) (E.contents err.new.inner) err.old.failures err.new.failures }
+    // Words that name a command write nothing on `err`.
+    ensures quiet { (NamesNone words.now → ⊥) → err.new ≡ err.old }
+    // A failed read or write is answered where that count went up by one, and in no other case.
+    ensures cause { IsEnded result reader.old.failures reader.new.failures out.old.failures out.new.failures }
+{
+    let Some(request) = Request::from_words(words) else {
+        return show_usage(err);
+    };
+    match request.fulfil(alloc, reader, out) {
+        Ok(status) => status,
+        Err(error) => Status::of_error(error),
+    }
+}

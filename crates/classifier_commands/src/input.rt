@@ -1,0 +1,31 @@
+//! Reading the whole input.
+ghost use Rattle.std.specs.Prelude.{IfOk};
+ghost use Rattle.classifier_commands.specs.Answers.{IsAllOf};
+ghost use Rattle.classifier_commands.specs.Causes.{IsReadCause};
+
+use crate::error::CommandError;
+use counted_io::Counted;
+use std::alloc::Global;
+use std::io::Read;
+
+/// All that a reader has.
+pub(crate) fn read_all<R: Read>(
+    alloc: Global,
+    reader: &mut Counted<R>,
+) -> Result<Vec<u8>, CommandError>
+    ensures all { IfOk result (λ text. IsAllOf (R.remaining reader.old.inner) text.items) }
+    ensures cause { IsReadCause result reader.old.failures reader.new.failures }
+{
+    let mut text = Vec::new(alloc);
+    'bytes: loop {
+        let Ok(next) = reader.next_byte() else {
+            return Err(CommandError::ReadFailed);
+        };
+        let Some(byte) = next else {
+            return Ok(text);
+        };
+        if text.push(byte).is_err() {
+            return Err(CommandError::OutOfMemory);
+        }
+    }
+}

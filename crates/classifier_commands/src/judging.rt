@@ -1,0 +1,101 @@
+//! The answers of the commands.
+ghost use Rattle.std.specs.Prelude.{◌≡◌, Some, None, IfOk, IfErr};
+ghost use Rattle.helpers.specs.Json.{outcome_of};
+ghost use Rattle.serde_json.specs.View.{view};
+ghost use Rattle.classifier_commands.specs.Answers.{IsAdmitted, IsTextRefused, IsOutcomeRead, IsOutcomeRefused, IsVerifyAnswer, IsJudgement, IsJudgeAnswer};
+ghost use Rattle.classifier_commands.specs.Causes.{IsReadCause};
+
+use crate::answer::{Answer, Fault};
+use crate::error::CommandError;
+use crate::hexadecimal::hex_bytes;
+use crate::input::read_all;
+use bpf_run::run;
+use counted_io::Counted;
+use helpers::Record;
+use refusals::RefusalNumber;
+use serde_json::Value;
+use std::alloc::{AllocError, Global};
+use std::io::Read;
+use texts::json;
+use verifier::Verified;
+
+/// The verified program of hexadecimal text.
+fn admitted(alloc: Global, text: &str) -> Result<Verified, Fault>
+    ensures ok { IfOk result (λ program. IsAdmitted text.now program.slots program.budget) }
+    ensures err { IfErr result (λ fault. IsTextRefused text.now fault) }
+{
+    let bytes = hex_bytes(alloc, text)?;
+    Ok(verifier::verify(alloc, &bytes)?)
+}
+
+/// The budget and the number of slots of a program in hexadecimal, or why it is refused.
+pub(crate) fn verify(alloc: Global, text: &str) -> Answer
+    ensures { IsVerifyAnswer text.now result }
+{
+    match admitted(alloc, text) {
+        Ok(program) => Answer::Accepted {
+            budget: program.budget(),
+            slots: program.program().len(),
+        },
+        Err(fault) => Answer::Refused(fault),
+    }
+}
+
+/// The record of the outcome that a JSON value describes.
+fn outcome_in(value: &Value) -> Result<Record, Fault>
+    ensures ok { IfOk result (λ outcome. outcome_of (view value.now) ≡ Some outcome) }
+    ensures err { IfErr result (λ fault. (fault.number ≡ RefusalNumber.BadValue) × (outcome_of (view value.now) ≡ None)) }
+{
+    match Record::from_json(value) {
+        Ok(outcome) => Ok(outcome),
+        Err(error) => Err(Fault::from(error.number)),
+    }
+}
+
+/// The record of an outcome's JSON, or why it is refused. The outer error is want of memory.
+fn outcome(alloc: Global, text: &[u8]) -> Result<Result<Record, Fault>, AllocError>
+    ensures ok { IfOk result (λ answer. IfOk answer (λ outcome. IsOutcomeRead text.now outcome)) }
+    ensures err { IfOk result (λ answer. IfErr answer (λ fault. IsOutcomeRefused text.now fault)) }
+{
+    match json(alloc, text)? {
+        Some(value) => Ok(outcome_in(&value)),
+        None => Ok(Err(Fault::from(RefusalNumber::BadJson))),
+    }
+}
+
+/// The program's verdict on an outcome's JSON, or why that is refused.
+fn judge_outcome(alloc: Global, program: &Verified, text: &[u8]) -> Result<Answer, AllocError>
+    ensures { IfOk result (λ answer. IsJudgement program.now text.now answer) }
+{
+    match outcome(alloc, text)? {
+        Ok(outcome) => {
+            let (verdict, steps) = run(program, &outcome);
+            let budget = program.budget();
+            Ok(Answer::Judged {
+                verdict,
+                steps,
+                budget,
+            })
+        }
+        Err(fault) => Ok(Answer::Refused(fault)),
+    }
+}
+
+/// The verdict of a program in hexadecimal on the outcome whose JSON is read, or why one of them is
+/// refused. The program comes first: nothing is read where it is refused. An error comes where
+/// reading fails, or memory runs out behind the program.
+pub(crate) fn judge<R: Read>(
+    alloc: Global,
+    text: &str,
+    reader: &mut Counted<R>,
+) -> Result<Answer, CommandError>
+    ensures judged { IfOk result (λ answer. IsJudgeAnswer text.now (R.remaining reader.old.inner) answer) }
+    ensures cause { IsReadCause result reader.old.failures reader.new.failures }
+{
+    let program = match admitted(alloc, text) {
+        Ok(program) => program,
+        Err(fault) => return Ok(Answer::Refused(fault)),
+    };
+    let outcome = read_all(alloc, reader)?;
+    Ok(judge_outcome(alloc, &program, &outcome)?)
+}

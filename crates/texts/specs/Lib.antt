@@ -1,0 +1,3 @@
+pub mod JsonText
+pub mod Hexadecimal
+pub mod Verdicts
