@@ -7,7 +7,6 @@ use refusals::RefusalNumber;
 use service::{Report, Request, Response, ask};
 use std::alloc::Global;
 use std::process::Abort;
-use std::test::Fail;
 use verifier::{Refusal, default_classifier};
 
 /// `mov r0, 2` and `exit`: every outcome is ignored.
@@ -28,82 +27,82 @@ fn reply_to(alloc: Global, book: &mut Book, request: Request) -> Option<Reply> {
     }
 }
 
-#[test]
-fn events_are_replied_to(rt: HostRuntime) -> Result<(), Fail> {
-    let alloc = rt.alloc();
-    let mut book = book(&rt, alloc);
-    let outcome = Record::from_parts([0; 128], [0; 16], &[]).expect(&rt, "an empty tag");
-    let closed = State::Closed;
-    for (request, reply) in [
-        (
-            Request::Acquire,
-            Reply::Permitted {
-                ticket: 1,
-                version: 1,
-                state: closed,
-            },
-        ),
-        (
-            Request::Install(Vec::from_slice(alloc, &IGNORING)?),
-            Reply::Installed {
-                version: 2,
-                budget: 2,
-            },
-        ),
-        (
-            Request::Report(Report { ticket: 1, outcome }),
-            Reply::Finished {
-                fate: Fate::Recorded,
-                verdict: Verdict::Success,
-                steps: 6,
-                version: 1,
-                state: closed,
-            },
-        ),
-        (
-            Request::Report(Report { ticket: 2, outcome }),
-            Reply::Refused(RefusalNumber::NoTicket),
-        ),
-        (
-            Request::Release(1),
-            Reply::Refused(RefusalNumber::TicketSpent),
-        ),
-        (
-            Request::Move(State::Open),
-            Reply::Moved {
-                state: State::Open,
-                period: 2,
-            },
-        ),
-        (
-            Request::Reset,
-            Reply::Moved {
-                state: closed,
-                period: 3,
-            },
-        ),
-    ] {
-        same(&rt, reply_to(alloc, &mut book, request), Some(reply));
-    }
-    Ok(())
+/// Checks what is replied to what seat 1 asks for.
+fn is_replied(rt: &impl Abort, alloc: Global, book: &mut Book, request: Request, reply: Reply) {
+    same(rt, reply_to(alloc, book, request), Some(reply));
+}
+
+/// An install of the program of these bytes.
+fn install(rt: &impl Abort, alloc: Global, bytes: &[u8]) -> Request {
+    Request::Install(Vec::from_slice(alloc, bytes).expect(rt, "ample memory"))
+}
+
+/// A report of the outcome of a call that was answered.
+fn report(rt: &impl Abort, ticket: u64) -> Request {
+    let outcome = Record::from_parts([0; 128], [0; 16], &[]).expect(rt, "an empty tag");
+    Request::Report(Report { ticket, outcome })
 }
 
 #[test]
-fn refused_programs_change_nothing(rt: HostRuntime) -> Result<(), Fail> {
+fn events_are_replied_to(rt: HostRuntime) {
     let alloc = rt.alloc();
     let mut book = book(&rt, alloc);
-    let request = Request::Install(Vec::from_slice(alloc, &IGNORING[8..])?);
-    let refused = match ask(alloc, &mut book, 1, 5, request) {
+    let closed = State::Closed;
+    let permitted = Reply::Permitted {
+        ticket: 1,
+        version: 1,
+        state: closed,
+    };
+    is_replied(&rt, alloc, &mut book, Request::Acquire, permitted);
+    let installed = Reply::Installed {
+        version: 2,
+        budget: 2,
+    };
+    let request = install(&rt, alloc, &IGNORING);
+    is_replied(&rt, alloc, &mut book, request, installed);
+    let finished = Reply::Finished {
+        fate: Fate::Recorded,
+        verdict: Verdict::Success,
+        steps: 6,
+        version: 1,
+        state: closed,
+    };
+    is_replied(&rt, alloc, &mut book, report(&rt, 1), finished);
+    let unknown = Reply::Refused(RefusalNumber::NoTicket);
+    is_replied(&rt, alloc, &mut book, report(&rt, 2), unknown);
+    let spent = Reply::Refused(RefusalNumber::TicketSpent);
+    is_replied(&rt, alloc, &mut book, Request::Release(1), spent);
+    let opened = Reply::Moved {
+        state: State::Open,
+        period: 2,
+    };
+    is_replied(&rt, alloc, &mut book, Request::Move(State::Open), opened);
+    let reset = Reply::Moved {
+        state: closed,
+        period: 3,
+    };
+    is_replied(&rt, alloc, &mut book, Request::Reset, reset);
+}
+
+/// Why a program is refused that seat 1 asks to install; None where it is answered otherwise.
+fn refusal_of(alloc: Global, book: &mut Book, request: Request) -> Option<Refusal> {
+    match ask(alloc, book, 1, 5, request) {
         Response::ProgramRefused(refusal) => Some(refusal),
         _ => None,
-    };
+    }
+}
+
+#[test]
+fn refused_programs_change_nothing(rt: HostRuntime) {
+    let alloc = rt.alloc();
+    let mut book = book(&rt, alloc);
+    let request = install(&rt, alloc, &IGNORING[8..]);
     let unset = Refusal {
         slot: 0,
         number: RefusalNumber::UnsetRegister,
     };
-    same(&rt, refused, Some(unset));
+    same(&rt, refusal_of(alloc, &mut book, request), Some(unset));
     same(&rt, book.last_number(), 0);
-    Ok(())
 }
 
 /// How many entries are answered; None where it is answered otherwise.
@@ -114,21 +113,27 @@ fn entries_of(alloc: Global, book: &mut Book, request: Request) -> Option<usize>
     }
 }
 
+/// How many entries the journal has as it is read; None where it is answered otherwise.
+fn entries_read(alloc: Global, book: &mut Book) -> Option<u64> {
+    match ask(alloc, book, 1, 5, Request::Read) {
+        Response::Reading(reading) => Some(reading.entries),
+        _ => None,
+    }
+}
+
+/// Checks that the breaker is moved to a state.
+fn is_moved(rt: &impl Abort, alloc: Global, book: &mut Book, state: State) {
+    let reply = reply_to(alloc, book, Request::Move(state));
+    is_true(rt, reply.is_some());
+}
+
 #[test]
 fn journals_are_read_and_cut(rt: HostRuntime) {
     let alloc = rt.alloc();
     let mut book = book(&rt, alloc);
-    for state in [State::Open, State::Closed] {
-        is_true(
-            &rt,
-            reply_to(alloc, &mut book, Request::Move(state)).is_some(),
-        );
-    }
-    let reading = match ask(alloc, &mut book, 1, 5, Request::Read) {
-        Response::Reading(reading) => Some(reading.entries),
-        _ => None,
-    };
-    same(&rt, reading, Some(2));
+    is_moved(&rt, alloc, &mut book, State::Open);
+    is_moved(&rt, alloc, &mut book, State::Closed);
+    same(&rt, entries_read(alloc, &mut book), Some(2));
     same(&rt, entries_of(alloc, &mut book, Request::Page(2)), Some(1));
     same(&rt, entries_of(alloc, &mut book, Request::Cut), Some(2));
     same(&rt, entries_of(alloc, &mut book, Request::Page(1)), Some(0));

@@ -7,6 +7,8 @@ mod asking;
 #[cfg(test)]
 mod checks;
 #[cfg(test)]
+mod inputs;
+#[cfg(test)]
 mod json_requests;
 #[cfg(test)]
 mod replayed_events;
