@@ -1,11 +1,10 @@
 //! Every operation of both widths, on registers and on immediates.
-use crate::programs::{EDGES, IMMEDIATES, both_give, patterned, slot, wide};
+use crate::programs::{EDGES, IMMEDIATES, both_give, joined, patterned, slot, wide};
 use bpf_profile::{Operation, Size, Width};
 use bpf_words::{arithmetic, negation, sign_extended};
 use helpers::Record;
 use std::alloc::Global;
 use std::process::Abort;
-use std::test::Fail;
 
 /// An operation with its opcode of class ALU64 with an immediate, and its offset.
 const OPERATIONS: [(u8, u8, Operation); 14] = [
@@ -28,7 +27,7 @@ const OPERATIONS: [(u8, u8, Operation); 14] = [
 /// What an opcode of class ALU64 with an immediate is in the other classes and forms.
 const FORMS: [(u8, Width); 2] = [(0, Width::Bits64), (3, Width::Bits32)];
 
-/// The operation on R1 and R2.
+/// Checks what both machines make of R1 and R2 by an operation of these fields.
 fn on_registers(
     rt: &impl Abort,
     alloc: Global,
@@ -36,14 +35,13 @@ fn on_registers(
     outcome: &Record,
     words: (u64, u64),
     given: u64,
-) -> Result<(), Fail> {
-    let mut first = Vec::from_slice(alloc, &wide(1, words.0))?;
-    first.extend_from_slice(&wide(2, words.1))?;
-    first.extend_from_slice(&operation)?;
-    both_give(rt, alloc, &first, 3, outcome, given)
+) {
+    let (a, b) = words;
+    let first = joined(rt, alloc, &[&wide(1, a), &wide(2, b), &operation]);
+    both_give(rt, alloc, &first, 3, outcome, given);
 }
 
-/// The operation on R1 alone, or on R1 and what the slot has.
+/// Checks what both machines make of R1 alone, or of R1 and what the slot has.
 fn on_register(
     rt: &impl Abort,
     alloc: Global,
@@ -51,55 +49,83 @@ fn on_register(
     outcome: &Record,
     word: u64,
     given: u64,
-) -> Result<(), Fail> {
-    let mut first = Vec::from_slice(alloc, &wide(1, word))?;
-    first.extend_from_slice(&operation)?;
-    both_give(rt, alloc, &first, 2, outcome, given)
+) {
+    let first = joined(rt, alloc, &[&wide(1, word), &operation]);
+    both_give(rt, alloc, &first, 2, outcome, given);
+}
+
+/// Checks an operation of this opcode and offset on each two of the edges.
+fn on_edges(
+    rt: &impl Abort,
+    alloc: Global,
+    outcome: &Record,
+    fields: (u8, u8),
+    operation: Operation,
+    width: Width,
+) {
+    let (opcode, offset) = fields;
+    let slot = slot(opcode, 0x21, offset, 0);
+    for a in &EDGES {
+        for b in &EDGES {
+            let result = arithmetic(operation, width, *a, *b);
+            on_registers(rt, alloc, slot, outcome, (*a, *b), result);
+        }
+    }
 }
 
 #[test]
-fn operations_on_registers(rt: HostRuntime) -> Result<(), Fail> {
-    let outcome = patterned().expect(&rt, "an empty tag");
-    for (opcode, offset, operation) in OPERATIONS {
-        for (less, width) in FORMS {
-            let slot = slot((opcode | 8).wrapping_sub(less), 0x21, offset, 0);
-            for a in EDGES {
-                for b in EDGES {
-                    let result = arithmetic(operation, width, a, b);
-                    on_registers(&rt, rt.alloc(), slot, &outcome, (a, b), result)?;
-                }
-            }
+fn operations_on_registers(rt: HostRuntime) {
+    let outcome = patterned(&rt);
+    for (opcode, offset, operation) in &OPERATIONS {
+        for (less, width) in &FORMS {
+            let fields = ((*opcode | 8).wrapping_sub(*less), *offset);
+            on_edges(&rt, rt.alloc(), &outcome, fields, *operation, *width);
         }
     }
-    Ok(())
+}
+
+/// Checks an operation of this opcode and offset on each of the edges and each immediate.
+fn on_immediates(
+    rt: &impl Abort,
+    alloc: Global,
+    outcome: &Record,
+    fields: (u8, u8),
+    operation: Operation,
+    width: Width,
+) {
+    let (opcode, offset) = fields;
+    for a in &EDGES {
+        for immediate in &IMMEDIATES {
+            let slot = slot(opcode, 1, offset, *immediate);
+            let b = sign_extended(Size::Word, u64::from(*immediate));
+            let result = arithmetic(operation, width, *a, b);
+            on_register(rt, alloc, slot, outcome, *a, result);
+        }
+    }
 }
 
 #[test]
-fn operations_on_immediates(rt: HostRuntime) -> Result<(), Fail> {
-    let outcome = patterned().expect(&rt, "an empty tag");
-    for (opcode, offset, operation) in OPERATIONS {
-        for (less, width) in FORMS {
-            for a in EDGES {
-                for immediate in IMMEDIATES {
-                    let slot = slot(opcode.wrapping_sub(less), 1, offset, immediate);
-                    let b = sign_extended(Size::Word, u64::from(immediate));
-                    let result = arithmetic(operation, width, a, b);
-                    on_register(&rt, rt.alloc(), slot, &outcome, a, result)?;
-                }
-            }
+fn operations_on_immediates(rt: HostRuntime) {
+    let outcome = patterned(&rt);
+    for (opcode, offset, operation) in &OPERATIONS {
+        for (less, width) in &FORMS {
+            let fields = (opcode.wrapping_sub(*less), *offset);
+            on_immediates(&rt, rt.alloc(), &outcome, fields, *operation, *width);
         }
     }
-    Ok(())
+}
+
+/// Checks what both machines make of each of the edges by a negation.
+fn negates(rt: &impl Abort, alloc: Global, opcode: u8, width: Width) {
+    let outcome = patterned(rt);
+    let slot = slot(opcode, 1, 0, 0);
+    for a in &EDGES {
+        on_register(rt, alloc, slot, &outcome, *a, negation(width, *a));
+    }
 }
 
 #[test]
-fn negations(rt: HostRuntime) -> Result<(), Fail> {
-    let outcome = patterned().expect(&rt, "an empty tag");
-    for (opcode, width) in [(0x87, Width::Bits64), (0x84, Width::Bits32)] {
-        for a in EDGES {
-            let slot = slot(opcode, 1, 0, 0);
-            on_register(&rt, rt.alloc(), slot, &outcome, a, negation(width, a))?;
-        }
-    }
-    Ok(())
+fn negations(rt: HostRuntime) {
+    negates(&rt, rt.alloc(), 0x87, Width::Bits64);
+    negates(&rt, rt.alloc(), 0x84, Width::Bits32);
 }

@@ -1,10 +1,12 @@
 //! Programs from their text and back, and the faults of texts that are no program.
-use crate::checks::{same, same_at};
+use crate::checks::{is_printed, same, same_at};
 use crate::instruction_table::INSTRUCTIONS;
+use crate::told::{assembled, bytes_of};
 use bpf_asm::*;
 use bpf_decode::Program;
 use refusals::RefusalNumber;
-use std::alloc::{AllocError, Global};
+use std::alloc::Global;
+use std::process::Abort;
 use std::test::*;
 
 /// The default classifier: a response with a status from 500 on fails, and each outcome that is no
@@ -33,320 +35,326 @@ fn fault(alloc: Global, text: &str) -> Option<(usize, RefusalNumber)> {
     }
 }
 
-/// The bytes of a program, in hexadecimal.
-fn hexadecimal(alloc: Global, program: &Program) -> Result<String, AllocError> {
-    let mut text = String::new(alloc);
-    for byte in &program.encode()? {
-        write!(text, "{byte:02x}")?;
-    }
-    Ok(text)
-}
-
-/// So many lines with an exit each, and what comes behind them.
-fn exits(alloc: Global, count: usize, end: &str) -> Result<String, AllocError> {
+/// The same line so many times.
+fn repeated(rt: &impl Abort, alloc: Global, line: &str, count: usize) -> String {
     let mut text = String::new(alloc);
     for _ in 0..count {
-        text.push_str("exit\n")?;
+        text.push_str(line).expect(rt, "ample memory");
     }
-    text.push_str(end)?;
-    Ok(text)
+    text
+}
+
+/// The text of the program that has these bytes.
+fn disassembled(rt: &impl Abort, alloc: Global, bytes: &[u8]) -> String {
+    let program = Program::decode(alloc, bytes).expect(rt, "the bytes of a program");
+    disassemble(alloc, &program).expect(rt, "ample memory")
 }
 
 #[test]
-fn the_default_classifier(rt: HostRuntime) -> Result<(), Fail> {
-    let program = Program::decode(rt.alloc(), &CLASSIFIER)?;
-    let text = disassemble(rt.alloc(), &program)?;
+fn the_default_classifier(rt: HostRuntime) {
+    let text = disassembled(&rt, rt.alloc(), &CLASSIFIER);
     same(&rt, text.as_str(), CLASSIFIER_LINES);
-    let again = assemble(rt.alloc(), CLASSIFIER_LINES)?;
-    same(&rt, again.encode()?.as_slice(), CLASSIFIER.as_slice());
-    Ok(())
+    let bytes = assembled(&rt, rt.alloc(), CLASSIFIER_LINES);
+    same(&rt, bytes.as_slice(), CLASSIFIER.as_slice());
 }
 
-/// The bytes that a line is assembled to, and the line that these are disassembled to.
-fn there_and_back(alloc: Global, line: &str) -> Result<(String, String), Fail> {
-    let program = assemble(alloc, line)?;
-    let bytes = hexadecimal(alloc, &program)?;
-    let decoded = Program::decode(alloc, program.encode()?.as_slice())?;
-    Ok((bytes, disassemble(alloc, &decoded)?))
+/// Checks that a line is assembled to these bytes, and comes back from them.
+fn comes_back(rt: &impl Abort, alloc: Global, hexadecimal: &str, line: &str) {
+    let encoded = assembled(rt, alloc, line);
+    same_at(rt, &encoded, &bytes_of(rt, alloc, hexadecimal), &line);
+    let text = disassembled(rt, alloc, &encoded);
+    same(rt, text.as_str().trim_end(), line);
 }
 
 #[test]
-fn each_instruction_comes_back(rt: HostRuntime) -> Result<(), Fail> {
+fn each_instruction_comes_back(rt: HostRuntime) {
     let mut count = 0u32;
     for row in INSTRUCTIONS.lines() {
-        let (bytes, line) = row.split_once(' ').ok_or("no blank")?;
-        let (encoded, text) = there_and_back(rt.alloc(), line)?;
-        same_at(&rt, encoded.as_str(), bytes, &line);
-        same(&rt, text.as_str().trim_end(), line);
+        let (bytes, line) = row.split_once(' ').expect(&rt, "a blank");
+        comes_back(&rt, rt.alloc(), bytes, line);
         count = count.saturating_add(1);
     }
     same(&rt, count, 141);
-    Ok(())
+}
+
+/// The lines that a text is written as, once it is read.
+fn rewritten(rt: &impl Abort, alloc: Global, text: &str) -> String {
+    let program = assemble(alloc, text).expect(rt, "the text of a program");
+    disassemble(alloc, &program).expect(rt, "ample memory")
+}
+
+/// Checks what texts are written as. Each row is a text and its lines.
+fn are_rewritten(rt: &impl Abort, alloc: Global, rows: &[(&str, &str)]) {
+    for row in rows {
+        let (text, lines) = *row;
+        same_at(rt, rewritten(rt, alloc, text).as_str(), lines, &text);
+    }
 }
 
 #[test]
-fn lenient_forms(rt: HostRuntime) -> Result<(), Fail> {
-    let rows = [
-        ("\tMOV\tR0 ,\t0X1F  ; a comment\r\n", "mov r0, 31\n"),
-        ("exit\r", "exit\n"),
-        ("; nothing\n\n \t\r\nexit;; r0\n\n", "exit\n"),
-        ("ldxdw r1,[ r2 + 0x10 ]", "ldxdw r1, [r2+16]\n"),
-        ("stxb [r10 -0x8],r1", "stxb [r10-8], r1\n"),
-        ("ldxb r1, [r2 7]", "ldxb r1, [r2+7]\n"),
-        ("ja 3\nja32 4", "ja +3\nja32 +4\n"),
-        ("jset32 r1, 0xffffffff, 0x10", "jset32 r1, -1, +16\n"),
-        ("mov r0, 4294967295", "mov r0, -1\n"),
-        ("mov r0, 2147483648", "mov r0, -2147483648\n"),
-        ("mov r0, -0x80000000", "mov r0, -2147483648\n"),
-        ("mov r0, 007", "mov r0, 7\n"),
-        ("stw [r10-8], 4294967290", "stw [r10-8], -6\n"),
-        (
-            "lddw r1, -9223372036854775808",
-            "lddw r1, 9223372036854775808\n",
-        ),
-        (
-            "lddw r1, 18446744073709551615",
-            "lddw r1, 18446744073709551615\n",
-        ),
-        ("lddw r1, -1", "lddw r1, 18446744073709551615\n"),
-        ("lddw r1, -0x1", "lddw r1, 18446744073709551615\n"),
-        ("call 0xFFFFFFFF", "call 4294967295\n"),
-    ];
-    for (text, lines) in rows {
-        let program = assemble(rt.alloc(), text)?;
-        same_at(
-            &rt,
-            disassemble(rt.alloc(), &program)?.as_str(),
-            lines,
-            &text,
-        );
+fn lenient_forms(rt: HostRuntime) {
+    are_rewritten(
+        &rt,
+        rt.alloc(),
+        &[
+            ("\tMOV\tR0 ,\t0X1F  ; a comment\r\n", "mov r0, 31\n"),
+            ("exit\r", "exit\n"),
+            ("; nothing\n\n \t\r\nexit;; r0\n\n", "exit\n"),
+            ("ldxdw r1,[ r2 + 0x10 ]", "ldxdw r1, [r2+16]\n"),
+            ("stxb [r10 -0x8],r1", "stxb [r10-8], r1\n"),
+            ("ldxb r1, [r2 7]", "ldxb r1, [r2+7]\n"),
+            ("ja 3\nja32 4", "ja +3\nja32 +4\n"),
+            ("jset32 r1, 0xffffffff, 0x10", "jset32 r1, -1, +16\n"),
+            ("mov r0, 4294967295", "mov r0, -1\n"),
+            ("mov r0, 2147483648", "mov r0, -2147483648\n"),
+            ("mov r0, -0x80000000", "mov r0, -2147483648\n"),
+            ("mov r0, 007", "mov r0, 7\n"),
+            ("stw [r10-8], 4294967290", "stw [r10-8], -6\n"),
+            (
+                "lddw r1, -9223372036854775808",
+                "lddw r1, 9223372036854775808\n",
+            ),
+            (
+                "lddw r1, 18446744073709551615",
+                "lddw r1, 18446744073709551615\n",
+            ),
+            ("lddw r1, -1", "lddw r1, 18446744073709551615\n"),
+            ("lddw r1, -0x1", "lddw r1, 18446744073709551615\n"),
+            ("call 0xFFFFFFFF", "call 4294967295\n"),
+        ],
+    );
+}
+
+/// Checks in which line each text has a fault of this kind.
+fn are_faulty(rt: &impl Abort, alloc: Global, kind: RefusalNumber, rows: &[(&str, usize)]) {
+    for row in rows {
+        let (text, line) = *row;
+        same_at(rt, fault(alloc, text), Some((line, kind)), &text);
     }
-    Ok(())
 }
 
 #[test]
 fn unknown_words(rt: HostRuntime) {
-    let rows = [
-        ("mvo r0, 1", 1),
-        ("exit\n\n; \nexits", 4),
-        ("movsw32 r1, r2", 1),
-        ("movsdw r1, r2", 1),
-        ("ldxsdw r1, [r2+0]", 1),
-        ("le8 r1", 1),
-        ("call32 1", 1),
-        ("movsb32movsb32 r1, r2", 1),
-        ("r10r10r10", 1),
-        ("r0", 1),
-        ("1 mov r0", 1),
-        (", mov r0, 1", 1),
-        ("exit\rexit", 1),
-        ("é", 1),
-    ];
-    for (text, line) in rows {
-        same_at(
-            &rt,
-            fault(rt.alloc(), text),
-            Some((line, RefusalNumber::UnknownWord)),
-            &text,
-        );
-    }
+    are_faulty(
+        &rt,
+        rt.alloc(),
+        RefusalNumber::UnknownWord,
+        &[
+            ("mvo r0, 1", 1),
+            ("exit\n\n; \nexits", 4),
+            ("movsw32 r1, r2", 1),
+            ("movsdw r1, r2", 1),
+            ("ldxsdw r1, [r2+0]", 1),
+            ("le8 r1", 1),
+            ("call32 1", 1),
+            ("movsb32movsb32 r1, r2", 1),
+            ("r10r10r10", 1),
+            ("r0", 1),
+            ("1 mov r0", 1),
+            (", mov r0, 1", 1),
+            ("exit\rexit", 1),
+            ("é", 1),
+        ],
+    );
 }
 
 #[test]
 fn wrong_operands(rt: HostRuntime) {
-    let rows = [
-        ("mov r11, 1", 1),
-        ("exit\nmov r01, 1", 2),
-        ("mov r10, 1", 1),
-        ("neg r10", 1),
-        ("be16 r10", 1),
-        ("movsb r10, r1", 1),
-        ("lddw r10, 1", 1),
-        ("ldxw r10, [r1+0]", 1),
-        ("mov r0", 1),
-        ("mov r0,", 1),
-        ("mov r0, 1, 2", 1),
-        ("mov r0 1", 1),
-        ("mov r0, 1 2", 1),
-        ("mov r0, 1x", 1),
-        ("mov r0, 0x", 1),
-        ("mov r0, 0xg", 1),
-        ("mov r0, +1", 1),
-        ("mov r0, --1", 1),
-        ("mov 1, r0", 1),
-        ("mov r0, exit", 1),
-        ("exit r0", 1),
-        ("exit exit", 1),
-        ("lddw r1, +1", 1),
-        ("lddw r1, r2", 1),
-        ("call", 1),
-        ("call r1", 1),
-        ("call +1", 1),
-        ("ja", 1),
-        ("ja r1", 1),
-        ("jeq r1, 2", 1),
-        ("jeq r1, 2, r3", 1),
-        ("jeq r1, 2, 3, 4", 1),
-        ("ldxw r1, [r2]", 1),
-        ("ldxw r1, [r2+1", 1),
-        ("ldxw r1, r2", 1),
-        ("ldxw [r1+0], r2", 1),
-        ("stw [r1+0], r2", 1),
-        ("stxw [r1+0], 2", 1),
-        ("stxw r1, r2", 1),
-        ("jeq [r1+1], [r2+2], [r3+3], 4", 1),
-        ("exit 1 2 3 4 5 6 7 8 9 10 11 12 13 14 15 16 17 18 19 20", 1),
-        ("ja +3 , , , , , , , , , , , , , , , , , , , , , , ,", 1),
-    ];
-    for (text, line) in rows {
-        same_at(
-            &rt,
-            fault(rt.alloc(), text),
-            Some((line, RefusalNumber::BadOperand)),
-            &text,
-        );
-    }
+    are_faulty(
+        &rt,
+        rt.alloc(),
+        RefusalNumber::BadOperand,
+        &[
+            ("mov r11, 1", 1),
+            ("exit\nmov r01, 1", 2),
+            ("mov r10, 1", 1),
+            ("neg r10", 1),
+            ("be16 r10", 1),
+            ("movsb r10, r1", 1),
+            ("lddw r10, 1", 1),
+            ("ldxw r10, [r1+0]", 1),
+            ("mov r0", 1),
+            ("mov r0,", 1),
+            ("mov r0, 1, 2", 1),
+            ("mov r0 1", 1),
+            ("mov r0, 1 2", 1),
+            ("mov r0, 1x", 1),
+            ("mov r0, 0x", 1),
+            ("mov r0, 0xg", 1),
+            ("mov r0, +1", 1),
+            ("mov r0, --1", 1),
+            ("mov 1, r0", 1),
+            ("mov r0, exit", 1),
+            ("exit r0", 1),
+            ("exit exit", 1),
+            ("lddw r1, +1", 1),
+            ("lddw r1, r2", 1),
+            ("call", 1),
+            ("call r1", 1),
+            ("call +1", 1),
+            ("ja", 1),
+            ("ja r1", 1),
+            ("jeq r1, 2", 1),
+            ("jeq r1, 2, r3", 1),
+            ("jeq r1, 2, 3, 4", 1),
+            ("ldxw r1, [r2]", 1),
+            ("ldxw r1, [r2+1", 1),
+            ("ldxw r1, r2", 1),
+            ("ldxw [r1+0], r2", 1),
+            ("stw [r1+0], r2", 1),
+            ("stxw [r1+0], 2", 1),
+            ("stxw r1, r2", 1),
+            ("jeq [r1+1], [r2+2], [r3+3], 4", 1),
+            ("exit 1 2 3 4 5 6 7 8 9 10 11 12 13 14 15 16 17 18 19 20", 1),
+            ("ja +3 , , , , , , , , , , , , , , , , , , , , , , ,", 1),
+        ],
+    );
 }
 
 #[test]
 fn numbers_out_of_range(rt: HostRuntime) {
-    let rows = [
-        ("exit\nmov r0, 4294967296", 2),
-        ("mov r0, -2147483649", 1),
-        ("mov r0, 99999999999999999999999999", 1),
-        ("stw [r1+0], 0x100000000", 1),
-        ("ja +32768", 1),
-        ("ja -32769", 1),
-        ("ja32 +2147483648", 1),
-        ("ja32 -2147483649", 1),
-        ("jeq r1, 0, +32768", 1),
-        ("jeq r1, 4294967296, +1", 1),
-        ("ldxw r1, [r2+32768]", 1),
-        ("stxw [r2-32769], r1", 1),
-        ("call -1", 1),
-        ("call 4294967296", 1),
-        ("lddw r1, 18446744073709551616", 1),
-        ("lddw r1, -9223372036854775809", 1),
-    ];
-    for (text, line) in rows {
-        same_at(
-            &rt,
-            fault(rt.alloc(), text),
-            Some((line, RefusalNumber::BadNumber)),
-            &text,
-        );
+    are_faulty(
+        &rt,
+        rt.alloc(),
+        RefusalNumber::BadNumber,
+        &[
+            ("exit\nmov r0, 4294967296", 2),
+            ("mov r0, -2147483649", 1),
+            ("mov r0, 99999999999999999999999999", 1),
+            ("stw [r1+0], 0x100000000", 1),
+            ("ja +32768", 1),
+            ("ja -32769", 1),
+            ("ja32 +2147483648", 1),
+            ("ja32 -2147483649", 1),
+            ("jeq r1, 0, +32768", 1),
+            ("jeq r1, 4294967296, +1", 1),
+            ("ldxw r1, [r2+32768]", 1),
+            ("stxw [r2-32769], r1", 1),
+            ("call -1", 1),
+            ("call 4294967296", 1),
+            ("lddw r1, 18446744073709551616", 1),
+            ("lddw r1, -9223372036854775809", 1),
+        ],
+    );
+}
+
+/// So many lines with an exit each, and what comes behind them.
+fn exits(rt: &impl Abort, alloc: Global, count: usize, end: &str) -> String {
+    let mut text = repeated(rt, alloc, "exit\n", count);
+    text.push_str(end).expect(rt, "ample memory");
+    text
+}
+
+/// A number of exits, what comes behind them, and the line from which on these are too many slots.
+type Long = (usize, &'static str, usize);
+
+/// Checks that texts are too long.
+fn are_too_long(rt: &impl Abort, alloc: Global, rows: &[Long]) {
+    for row in rows {
+        let (count, end, line) = *row;
+        let found = fault(alloc, &exits(rt, alloc, count, end));
+        same_at(rt, found, Some((line, RefusalNumber::BadTextLength)), row);
     }
 }
 
+/// Checks that a text is that of a program of so many slots, and is written as these lines.
+fn has_slots(rt: &impl Abort, alloc: Global, text: &str, slots: usize, lines: &str) {
+    let program = assemble(alloc, text).expect(rt, "the text of a program");
+    same_at(rt, program.len(), slots, &text);
+    let found = disassemble(alloc, &program).expect(rt, "ample memory");
+    same_at(rt, found.as_str(), lines, &text);
+}
+
 #[test]
-fn texts_of_no_program(rt: HostRuntime) -> Result<(), Fail> {
-    let none = Some((0, RefusalNumber::BadTextLength));
-    same(&rt, fault(rt.alloc(), ""), none);
-    same(&rt, fault(rt.alloc(), "\n ; exit\n"), none);
-    let most = exits(rt.alloc(), 4096, "; done")?;
-    same(&rt, assemble(rt.alloc(), &most)?.len(), 4096);
-    let over = exits(rt.alloc(), 4097, "mvo")?;
-    let past = Some((4097, RefusalNumber::BadTextLength));
-    same(&rt, fault(rt.alloc(), &over), past);
-    let wide = exits(rt.alloc(), 4095, "lddw r0, 1")?;
-    let last = Some((4096, RefusalNumber::BadTextLength));
-    same(&rt, fault(rt.alloc(), &wide), last);
-    Ok(())
+fn texts_of_no_program(rt: HostRuntime) {
+    let alloc = rt.alloc();
+    let kind = RefusalNumber::BadTextLength;
+    are_faulty(&rt, alloc, kind, &[("", 0), ("\n ; exit\n", 0)]);
+    let most = assemble(alloc, &exits(&rt, alloc, 4096, "; done"));
+    same(&rt, most.expect(&rt, "4,096 slots").len(), 4096);
+    let rows = &[(4097, "mvo", 4097), (4095, "lddw r0, 1", 4096)];
+    are_too_long(&rt, alloc, rows);
+}
+
+/// Checks that texts of so many times this line are programs of as many slots, and come back.
+fn are_written_alike(rt: &impl Abort, alloc: Global, line: &str, counts: &[usize]) {
+    for count in counts {
+        let text = repeated(rt, alloc, line, *count);
+        has_slots(rt, alloc, &text, *count, &text);
+    }
 }
 
 /// Numbers of lines: each power of two up to the most, one less and one more.
-const COUNTS: [usize; 33] = [
+const COUNTS: [usize; 34] = [
     1, 2, 3, 4, 5, 7, 8, 9, 15, 16, 17, 31, 32, 33, 63, 64, 65, 127, 128, 129, 255, 256, 257, 511,
-    512, 513, 1023, 1024, 1025, 2047, 2048, 2049, 4095,
+    512, 513, 1023, 1024, 1025, 2047, 2048, 2049, 4095, 4096,
 ];
 
 #[test]
-fn texts_of_many_lines(rt: HostRuntime) -> Result<(), Fail> {
-    for count in COUNTS {
-        let text = exits(rt.alloc(), count, "")?;
-        let program = assemble(rt.alloc(), &text)?;
-        same(&rt, program.len(), count);
-        same(
-            &rt,
-            disassemble(rt.alloc(), &program)?.as_str(),
-            text.as_str(),
-        );
-    }
-    let text = exits(rt.alloc(), 4096, "")?;
-    let program = assemble(rt.alloc(), &text)?;
-    same(&rt, program.len(), 4096);
-    same(
-        &rt,
-        disassemble(rt.alloc(), &program)?.as_str(),
-        text.as_str(),
-    );
-    Ok(())
+fn texts_of_many_lines(rt: HostRuntime) {
+    are_written_alike(&rt, rt.alloc(), "exit\n", &COUNTS);
 }
 
 #[test]
-fn texts_of_each_length(rt: HostRuntime) -> Result<(), Fail> {
-    let mut text = String::from_str(rt.alloc(), "exit")?;
+fn texts_of_each_length(rt: HostRuntime) {
+    let alloc = rt.alloc();
+    let mut text = String::from_str(alloc, "exit").expect(&rt, "ample memory");
     for length in 5usize..300 {
-        text.push(' ')?;
+        text.push(' ').expect(&rt, "ample memory");
         same(&rt, text.len(), length);
-        let program = assemble(rt.alloc(), &text)?;
-        same_at(&rt, program.len(), 1, &length);
-        same(&rt, disassemble(rt.alloc(), &program)?.as_str(), "exit\n");
+        has_slots(&rt, alloc, &text, 1, "exit\n");
     }
-    Ok(())
 }
 
 /// The longest lines that are written, 30 bytes each.
 #[test]
-fn texts_of_long_lines(rt: HostRuntime) -> Result<(), Fail> {
-    for count in [1usize, 2, 3, 41, 64, 1000, 4096] {
-        let mut text = String::new(rt.alloc());
-        for _ in 0..count {
-            text.push_str("jslt32 r7, -2147483648, -32768\n")?;
-        }
-        let program = assemble(rt.alloc(), &text)?;
-        same(&rt, program.len(), count);
-        same(
-            &rt,
-            disassemble(rt.alloc(), &program)?.as_str(),
-            text.as_str(),
-        );
+fn texts_of_long_lines(rt: HostRuntime) {
+    let line = "jslt32 r7, -2147483648, -32768\n";
+    are_written_alike(&rt, rt.alloc(), line, &[1, 2, 3, 41, 64, 1000, 4096]);
+}
+
+/// A line, the kind of its fault, and the error's text.
+type Printed = (usize, RefusalNumber, &'static str);
+
+/// Checks what errors are printed as.
+fn are_printed(rt: &impl Abort, alloc: Global, rows: &[Printed]) {
+    for row in rows {
+        let (line, kind, text) = *row;
+        is_printed(rt, alloc, &AsmError { line, kind }, text);
     }
-    Ok(())
 }
 
 #[test]
-fn texts_of_errors(rt: HostRuntime) -> Result<(), Fail> {
-    let rows = [
-        (
-            2,
-            RefusalNumber::UnknownWord,
-            "refused 41 UnknownWord line 2",
-        ),
-        (
-            10,
-            RefusalNumber::BadOperand,
-            "refused 42 BadOperand line 10",
-        ),
-        (
-            4096,
-            RefusalNumber::BadNumber,
-            "refused 43 BadNumber line 4096",
-        ),
-        (
-            0,
-            RefusalNumber::BadTextLength,
-            "refused 44 BadLength line 0",
-        ),
-        (
-            0,
-            RefusalNumber::AssemblerOutOfMemory,
-            "refused 45 OutOfMemory",
-        ),
-    ];
-    for (line, kind, text) in rows {
-        let e = AsmError { line, kind };
-        same(&rt, format!(in rt.alloc(); "{e}")?.as_str(), text);
-    }
-    Ok(())
+fn texts_of_errors(rt: HostRuntime) {
+    are_printed(
+        &rt,
+        rt.alloc(),
+        &[
+            (
+                2,
+                RefusalNumber::UnknownWord,
+                "refused 41 UnknownWord line 2",
+            ),
+            (
+                10,
+                RefusalNumber::BadOperand,
+                "refused 42 BadOperand line 10",
+            ),
+            (
+                4096,
+                RefusalNumber::BadNumber,
+                "refused 43 BadNumber line 4096",
+            ),
+            (
+                0,
+                RefusalNumber::BadTextLength,
+                "refused 44 BadLength line 0",
+            ),
+            (
+                0,
+                RefusalNumber::AssemblerOutOfMemory,
+                "refused 45 OutOfMemory",
+            ),
+        ],
+    );
 }

@@ -5,7 +5,6 @@ use abs_regs::{AbsVal, RegFile};
 use bpf_profile::{Comparison, Operand, Register, Width};
 use ranges::Range;
 use std::process::Abort;
-use std::test::Fail;
 
 /// The bounds of R2, between two words before, where a comparison of it holds.
 fn left(
@@ -26,26 +25,18 @@ fn left(
 
 /// A comparison of 32 bits takes as many bits of its immediate.
 #[test]
-fn halves_of_immediates_count(rt: HostRuntime) -> Result<(), Fail> {
+fn halves_of_immediates_count(rt: HostRuntime) {
     let before = (0xffff_fff0, 0xffff_ffff);
     let immediate = Operand::Immediate(0xffff_ffff_ffff_fff8);
     let half = left(&rt, Comparison::Equal, Width::Bits32, before, &immediate);
-    same(
-        &rt,
-        half,
-        Bounds {
-            low: 0xffff_fff8,
-            high: 0xffff_fff8,
-        },
-    );
-    Ok(())
+    let (low, high) = (0xffff_fff8, 0xffff_fff8);
+    same(&rt, half, Bounds { low, high });
 }
 
 /// A register with itself tells nothing.
 #[test]
-fn registers_tell_nothing_of_themselves(rt: HostRuntime) -> Result<(), Fail> {
+fn registers_tell_nothing_of_themselves(rt: HostRuntime) {
     let itself = Operand::Register(Register::new(2));
     let found = left(&rt, Comparison::Greater, Width::Bits64, (3, 9), &itself);
     same(&rt, found, Bounds { low: 3, high: 9 });
-    Ok(())
 }

@@ -1,9 +1,11 @@
 //! What bytes decode to, and the faults of those that are no program.
-use crate::checks::{same, same_at};
+use crate::checks::{is_printed, same, same_at};
+use crate::programs::joined;
 use bpf_decode::*;
 use bpf_profile::{Instruction, Register, Slot};
 use refusals::RefusalNumber;
 use std::alloc::{AllocError, Global};
+use std::process::Abort;
 use std::test::*;
 
 const EXIT: [u8; 8] = [0x95, 0, 0, 0, 0, 0, 0, 0];
@@ -17,126 +19,116 @@ fn fault(alloc: Global, bytes: &[u8]) -> Option<(u32, RefusalNumber)> {
 }
 
 /// `MOV R0, 0`, so many conditional jumps, and `EXIT`.
-fn long(alloc: Global, jumps: usize) -> Result<Vec<u8>, AllocError> {
-    let mut bytes = Vec::from_slice(alloc, &[0xb7, 0, 0, 0, 0, 0, 0, 0])?;
+fn long(rt: &impl Abort, alloc: Global, jumps: usize) -> Vec<u8> {
+    let mut bytes = joined(rt, alloc, &[&[0xb7, 0, 0, 0, 0, 0, 0, 0]]);
     for _ in 0..jumps {
-        bytes.extend_from_slice(&[0x15, 0, 0, 0, 0, 0, 0, 0])?;
+        let jump = [0x15, 0, 0, 0, 0, 0, 0, 0];
+        bytes.extend_from_slice(&jump).expect(rt, "ample memory");
     }
-    bytes.extend_from_slice(&EXIT)?;
-    Ok(bytes)
+    bytes.extend_from_slice(&EXIT).expect(rt, "ample memory");
+    bytes
+}
+
+/// The program that these bytes are.
+fn decoded(rt: &impl Abort, alloc: Global, bytes: &[u8]) -> Program {
+    Program::decode(alloc, bytes).expect(rt, "the bytes of a program")
+}
+
+/// The first slot, and the number of its fault.
+type Faulty = ([u8; 8], RefusalNumber);
+
+/// Checks the faults of first slots that stand before an exit.
+fn are_faulty(rt: &impl Abort, alloc: Global, rows: &[Faulty]) {
+    for row in rows {
+        let (first, number) = *row;
+        let slots = [first, EXIT];
+        let found = fault(alloc, slots.as_flattened());
+        same_at(rt, found, Some((0, number)), row);
+    }
 }
 
 #[test]
 fn faults_of_the_first_slot(rt: HostRuntime) {
-    let rows = [
-        ([0x87, 0, 0, 0, 1, 0, 0, 0], RefusalNumber::BadField),
-        ([0xb7, 0x0b, 0, 0, 0, 0, 0, 0], RefusalNumber::BadRegister),
-        ([0xb7, 0x0a, 0, 0, 0, 0, 0, 0], RefusalNumber::BadRegister),
-        ([0xdb, 0, 0, 0, 0, 0, 0, 0], RefusalNumber::LeftOut),
-        ([0x85, 0x10, 0, 0, 1, 0, 0, 0], RefusalNumber::LeftOut),
-        ([0x85, 0x30, 0, 0, 1, 0, 0, 0], RefusalNumber::BadField),
-        ([0x18, 0x11, 0, 0, 0, 0, 0, 0], RefusalNumber::LeftOut),
-        ([0x18, 0x70, 0, 0, 0, 0, 0, 0], RefusalNumber::BadField),
-        ([0x18, 0, 0, 0, 0, 0, 0, 0], RefusalNumber::BadTail),
-        ([0, 0, 0, 0, 0, 0, 0, 0], RefusalNumber::UnknownOpcode),
-        ([0xff, 0, 0, 0, 0, 0, 0, 0], RefusalNumber::UnknownOpcode),
-        ([0x20, 0, 0, 0, 0, 0, 0, 0], RefusalNumber::LeftOut),
-        ([0xb7, 0, 0x01, 0, 0, 0, 0, 0], RefusalNumber::BadField),
-        ([0xb7, 0xb0, 0, 0, 0, 0, 0, 0], RefusalNumber::BadField),
-    ];
-    for (first, number) in rows {
-        let slots = [first, EXIT];
-        same_at(
-            &rt,
-            fault(rt.alloc(), slots.as_flattened()),
-            Some((0, number)),
-            &first,
-        );
-    }
-}
-
-#[test]
-fn faults_of_lengths_and_tails(rt: HostRuntime) -> Result<(), Fail> {
-    let rows: [(&[u8], u32, RefusalNumber); 3] = [
-        (&[], 0, RefusalNumber::Length),
-        (
-            &[0xb7, 0, 0, 0, 0, 0, 0, 0, 0x95, 0, 0, 0],
-            0,
-            RefusalNumber::Length,
-        ),
-        (
-            &[0xb7, 0, 0, 0, 0, 0, 0, 0, 0x18, 0, 0, 0, 0, 0, 0, 0],
-            1,
-            RefusalNumber::BadTail,
-        ),
-    ];
-    for (bytes, slot, number) in rows {
-        same(&rt, fault(rt.alloc(), bytes), Some((slot, number)));
-    }
-    let over = long(rt.alloc(), 4095)?;
-    same(
+    are_faulty(
         &rt,
-        fault(rt.alloc(), &over),
-        Some((0, RefusalNumber::Length)),
+        rt.alloc(),
+        &[
+            ([0x87, 0, 0, 0, 1, 0, 0, 0], RefusalNumber::BadField),
+            ([0xb7, 0x0b, 0, 0, 0, 0, 0, 0], RefusalNumber::BadRegister),
+            ([0xb7, 0x0a, 0, 0, 0, 0, 0, 0], RefusalNumber::BadRegister),
+            ([0xdb, 0, 0, 0, 0, 0, 0, 0], RefusalNumber::LeftOut),
+            ([0x85, 0x10, 0, 0, 1, 0, 0, 0], RefusalNumber::LeftOut),
+            ([0x85, 0x30, 0, 0, 1, 0, 0, 0], RefusalNumber::BadField),
+            ([0x18, 0x11, 0, 0, 0, 0, 0, 0], RefusalNumber::LeftOut),
+            ([0x18, 0x70, 0, 0, 0, 0, 0, 0], RefusalNumber::BadField),
+            ([0x18, 0, 0, 0, 0, 0, 0, 0], RefusalNumber::BadTail),
+            ([0, 0, 0, 0, 0, 0, 0, 0], RefusalNumber::UnknownOpcode),
+            ([0xff, 0, 0, 0, 0, 0, 0, 0], RefusalNumber::UnknownOpcode),
+            ([0x20, 0, 0, 0, 0, 0, 0, 0], RefusalNumber::LeftOut),
+            ([0xb7, 0, 0x01, 0, 0, 0, 0, 0], RefusalNumber::BadField),
+            ([0xb7, 0xb0, 0, 0, 0, 0, 0, 0], RefusalNumber::BadField),
+        ],
     );
-    let most = long(rt.alloc(), 4094)?;
-    let program = Program::decode(rt.alloc(), &most)?;
-    assert_eq!(rt; program.len(), 4096);
-    Ok(())
 }
 
 #[test]
-fn programs_come_back(rt: HostRuntime) -> Result<(), Fail> {
-    let rows: [&[u8]; 2] = [
-        &[
-            0x18, 0x01, 0, 0, 7, 0, 0, 0, 0, 0, 0, 0, 1, 0, 0, 0, 0x95, 0, 0, 0, 0, 0, 0, 0,
-        ],
-        &[
-            0x61, 0x12, 0, 0, 0, 0, 0, 0, 0x55, 0x02, 0x04, 0, 0, 0, 0, 0, 0x61, 0x12, 0x04, 0, 0,
-            0, 0, 0, 0x35, 0x02, 0x02, 0, 0xf4, 0x01, 0, 0, 0xb7, 0, 0, 0, 0, 0, 0, 0, 0x95, 0, 0,
-            0, 0, 0, 0, 0, 0xb7, 0, 0, 0, 1, 0, 0, 0, 0x95, 0, 0, 0, 0, 0, 0, 0,
-        ],
-    ];
-    for bytes in rows {
-        let program = Program::decode(rt.alloc(), bytes)?;
-        same(&rt, program.encode()?.as_slice(), bytes);
-    }
-    Ok(())
+fn faults_of_lengths_and_tails(rt: HostRuntime) {
+    let alloc = rt.alloc();
+    let length = Some((0, RefusalNumber::Length));
+    same(&rt, fault(alloc, &[]), length);
+    let odd = [0xb7, 0, 0, 0, 0, 0, 0, 0, 0x95, 0, 0, 0];
+    same(&rt, fault(alloc, &odd), length);
+    let cut = [0xb7, 0, 0, 0, 0, 0, 0, 0, 0x18, 0, 0, 0, 0, 0, 0, 0];
+    same(&rt, fault(alloc, &cut), Some((1, RefusalNumber::BadTail)));
+    same(&rt, fault(alloc, &long(&rt, alloc, 4095)), length);
+    let most = decoded(&rt, alloc, &long(&rt, alloc, 4094));
+    same(&rt, most.len(), 4096);
+}
+
+/// Checks that a program comes back as the bytes that it was read from.
+fn comes_back(rt: &impl Abort, alloc: Global, bytes: &[u8]) {
+    let found = decoded(rt, alloc, bytes).encode();
+    same(rt, found.expect(rt, "ample memory").as_slice(), bytes);
+}
+
+/// `lddw r1, 0x100000007` and `exit`.
+const WIDE: [u8; 24] = [
+    0x18, 0x01, 0, 0, 7, 0, 0, 0, 0, 0, 0, 0, 1, 0, 0, 0, 0x95, 0, 0, 0, 0, 0, 0, 0,
+];
+
+/// The default classifier.
+const CLASSIFIER: [u8; 64] = [
+    0x61, 0x12, 0, 0, 0, 0, 0, 0, 0x55, 0x02, 0x04, 0, 0, 0, 0, 0, 0x61, 0x12, 0x04, 0, 0, 0, 0, 0,
+    0x35, 0x02, 0x02, 0, 0xf4, 0x01, 0, 0, 0xb7, 0, 0, 0, 0, 0, 0, 0, 0x95, 0, 0, 0, 0, 0, 0, 0,
+    0xb7, 0, 0, 0, 1, 0, 0, 0, 0x95, 0, 0, 0, 0, 0, 0, 0,
+];
+
+#[test]
+fn programs_come_back(rt: HostRuntime) {
+    comes_back(&rt, rt.alloc(), &WIDE);
+    comes_back(&rt, rt.alloc(), &CLASSIFIER);
 }
 
 #[test]
-fn a_wide_immediate(rt: HostRuntime) -> Result<(), Fail> {
-    let bytes = [
-        0x18, 0x01, 0, 0, 7, 0, 0, 0, 0, 0, 0, 0, 1, 0, 0, 0, 0x95, 0, 0, 0, 0, 0, 0, 0,
-    ];
-    let program = Program::decode(rt.alloc(), &bytes)?;
+fn a_wide_immediate(rt: HostRuntime) {
+    let program = decoded(&rt, rt.alloc(), &WIDE);
     assert!(rt; program.len() == 3);
     assert!(rt; matches!(program.slot(0), Slot::Ins { .. }));
-    assert_eq!(rt; program.slots().get(1), Some(&Slot::Tail { imm: 1 }));
+    same(&rt, program.slots().get(1), Some(&Slot::Tail { imm: 1 }));
     let load = Instruction::LoadImmediate {
         destination: Register::new(1),
         value: 0x1_0000_0007,
     };
     assert_eq!(rt; program.instruction(0), load);
-    Ok(())
 }
 
 #[test]
-fn texts(rt: HostRuntime) -> Result<(), Fail> {
+fn texts(rt: HostRuntime) {
     let e = DecodeError {
         slot: 7,
         number: RefusalNumber::BadField,
     };
-    same(
-        &rt,
-        format!(in rt.alloc(); "{e}")?.as_str(),
-        "refused 3 BadField slot 7",
-    );
+    is_printed(&rt, rt.alloc(), &e, "refused 3 BadField slot 7");
     let memory = DecodeError::from(AllocError);
-    same(
-        &rt,
-        format!(in rt.alloc(); "{memory}")?.as_str(),
-        "refused 23 OutOfMemory",
-    );
-    Ok(())
+    is_printed(&rt, rt.alloc(), &memory, "refused 23 OutOfMemory");
 }

@@ -1,9 +1,8 @@
 //! Operations at their edges. The results were computed by another program, with whole numbers of any
 //! size.
-use crate::programs::{both_give, patterned, slot, wide};
+use crate::programs::{both_give, joined, patterned, slot, wide};
 use std::alloc::Global;
 use std::process::Abort;
-use std::test::Fail;
 
 /// The opcode and the offset of an operation on R1 and R2, the two words, and the word that R1 then is.
 type Row = (u8, u8, u64, u64, u64);
@@ -100,21 +99,21 @@ const SHIFTS: [Row; 12] = [
     (0xcc, 0, 0x80000000, 0x1f, 0xffffffff), // arsh32
 ];
 
-fn both_give_rows(rt: &impl Abort, alloc: Global, rows: &[Row]) -> Result<(), Fail> {
-    let outcome = patterned().expect(rt, "an empty tag");
-    for &(opcode, offset, a, b, result) in rows {
-        let mut first = Vec::from_slice(alloc, &wide(1, a))?;
-        first.extend_from_slice(&wide(2, b))?;
-        first.extend_from_slice(&slot(opcode, 0x21, offset, 0))?;
-        both_give(rt, alloc, &first, 3, &outcome, result)?;
+/// Checks what both machines make of R1 and R2.
+fn both_give_rows(rt: &impl Abort, alloc: Global, rows: &[Row]) {
+    let outcome = patterned(rt);
+    for row in rows {
+        let (opcode, offset, a, b, result) = *row;
+        let operation = slot(opcode, 0x21, offset, 0);
+        let first = joined(rt, alloc, &[&wide(1, a), &wide(2, b), &operation]);
+        both_give(rt, alloc, &first, 3, &outcome, result);
     }
-    Ok(())
 }
 
 #[test]
-fn operations_at_their_edges(rt: HostRuntime) -> Result<(), Fail> {
-    both_give_rows(&rt, rt.alloc(), &ADDITIVE)?;
-    both_give_rows(&rt, rt.alloc(), &DIVISIONS)?;
-    both_give_rows(&rt, rt.alloc(), &BITS)?;
-    both_give_rows(&rt, rt.alloc(), &SHIFTS)
+fn operations_at_their_edges(rt: HostRuntime) {
+    both_give_rows(&rt, rt.alloc(), &ADDITIVE);
+    both_give_rows(&rt, rt.alloc(), &DIVISIONS);
+    both_give_rows(&rt, rt.alloc(), &BITS);
+    both_give_rows(&rt, rt.alloc(), &SHIFTS);
 }

@@ -1,9 +1,11 @@
 //! Programs with the answers that are expected of them.
-use crate::checks::{same, same_at};
+use crate::checks::{is_printed, same, same_at};
+use crate::programs::joined;
 use bpf_decode::Program;
 use flow_check::{FlowError, Successors, check};
 use refusals::RefusalNumber;
 use std::alloc::{AllocError, Global};
+use std::process::Abort;
 use std::test::*;
 
 const MOVE: [u8; 8] = [0xb7, 0, 0, 0, 0, 0, 0, 0];
@@ -49,112 +51,126 @@ fn answer(alloc: Global, bytes: &[u8]) -> Option<Result<u32, FlowError>> {
     }
 }
 
-fn refused(slot: u32, number: RefusalNumber) -> Result<u32, FlowError> {
-    Err(FlowError { slot, number })
+/// The slots of a program, and its budget, or the slot and the number of the refusal of its flow.
+type Answered = (&'static [[u8; 8]], Result<u32, (u32, RefusalNumber)>);
+
+/// Checks what is answered of the flow of programs.
+fn are_answered(rt: &impl Abort, alloc: Global, rows: &[Answered]) {
+    for row in rows {
+        let (slots, wanted) = *row;
+        let wanted = match wanted {
+            Ok(budget) => Ok(budget),
+            Err((slot, number)) => Err(FlowError { slot, number }),
+        };
+        same_at(rt, answer(alloc, slots.as_flattened()), Some(wanted), row);
+    }
 }
 
 #[test]
 fn answers(rt: HostRuntime) {
-    let rows: [(&[[u8; 8]], Result<u32, FlowError>); 9] = [
-        (&[JUMP_BACK, EXIT], refused(0, RefusalNumber::BackJump)),
-        (
-            &[BRANCH_BY_1, WIDE, TAIL, EXIT],
-            refused(0, RefusalNumber::IntoTail),
-        ),
-        (&[EXIT, EXIT], refused(1, RefusalNumber::Unreachable)),
-        (&[MOVE], refused(0, RefusalNumber::FallsOff)),
-        (&[JUMP_BY_5, EXIT], refused(0, RefusalNumber::JumpOut)),
-        (&[WIDE, TAIL, EXIT], Ok(2)),
-        (&[JUMP_BY_0, EXIT], Ok(2)),
-        (
-            &[
-                MOVE,
-                BRANCH_BY_2,
-                BRANCH_BY_2,
-                BRANCH_BY_2,
-                MOVE,
-                MOVE,
-                EXIT,
-            ],
-            Ok(7),
-        ),
-        (&BY_STATUS, Ok(6)),
-    ];
-    for (slots, wanted) in rows {
-        same_at(
-            &rt,
-            answer(rt.alloc(), slots.as_flattened()),
-            Some(wanted),
-            &slots,
-        );
-    }
+    are_answered(
+        &rt,
+        rt.alloc(),
+        &[
+            (&[JUMP_BACK, EXIT], Err((0, RefusalNumber::BackJump))),
+            (
+                &[BRANCH_BY_1, WIDE, TAIL, EXIT],
+                Err((0, RefusalNumber::IntoTail)),
+            ),
+            (&[EXIT, EXIT], Err((1, RefusalNumber::Unreachable))),
+            (&[MOVE], Err((0, RefusalNumber::FallsOff))),
+            (&[JUMP_BY_5, EXIT], Err((0, RefusalNumber::JumpOut))),
+            (&[WIDE, TAIL, EXIT], Ok(2)),
+            (&[JUMP_BY_0, EXIT], Ok(2)),
+            (
+                &[
+                    MOVE,
+                    BRANCH_BY_2,
+                    BRANCH_BY_2,
+                    BRANCH_BY_2,
+                    MOVE,
+                    MOVE,
+                    EXIT,
+                ],
+                Ok(7),
+            ),
+            (&BY_STATUS, Ok(6)),
+        ],
+    );
 }
 
 /// `MOVE`, so many branches to the next slot, and `EXIT`.
-fn long(alloc: Global, branches: usize) -> Result<Vec<u8>, AllocError> {
-    let mut bytes = Vec::from_slice(alloc, &MOVE)?;
+fn long(rt: &impl Abort, alloc: Global, branches: usize) -> Vec<u8> {
+    let mut bytes = joined(rt, alloc, &[&MOVE]);
     for _ in 0..branches {
-        bytes.extend_from_slice(&BRANCH_BY_0)?;
+        bytes
+            .extend_from_slice(&BRANCH_BY_0)
+            .expect(rt, "ample memory");
     }
-    bytes.extend_from_slice(&EXIT)?;
-    Ok(bytes)
+    bytes.extend_from_slice(&EXIT).expect(rt, "ample memory");
+    bytes
 }
 
 #[test]
-fn longest_program(rt: HostRuntime) -> Result<(), Fail> {
-    let bytes = long(rt.alloc(), 4_094)?;
+fn longest_program(rt: HostRuntime) {
+    let bytes = long(&rt, rt.alloc(), 4_094);
     same(&rt, answer(rt.alloc(), &bytes), Some(Ok(4_096)));
-    Ok(())
+}
+
+/// A slot, the slot behind it where it may go on there, and the target of its jump.
+type Edges = (usize, Option<u32>, Option<u32>);
+
+/// Checks where slots of a program of so many slots lead to.
+fn lead_to(rt: &impl Abort, alloc: Global, slots: &[[u8; 8]], rows: &[Edges]) {
+    let bytes = slots.as_flattened();
+    let program = Program::decode(alloc, bytes).expect(rt, "the slots of a program");
+    same(rt, program.len(), slots.len());
+    let flow = check(alloc, &program).expect(rt, "a flow that is accepted");
+    for row in rows {
+        let (slot, next, target) = *row;
+        assert!(rt; slot < program.len());
+        same_at(rt, flow.successors(slot), Successors { next, target }, row);
+    }
 }
 
 #[test]
-fn edges(rt: HostRuntime) -> Result<(), Fail> {
-    let program = Program::decode(rt.alloc(), BY_STATUS.as_flattened())?;
-    assert_eq!(rt; program.len(), 8);
-    let flow = check(rt.alloc(), &program)?;
-    let rows = [
-        (0, Some(1), None),
-        (1, Some(2), Some(6)),
-        (3, Some(4), Some(6)),
-        (5, None, None),
-    ];
-    for (slot, next, target) in rows {
-        assert!(rt; slot < program.len());
-        same(&rt, flow.successors(slot), Successors { next, target });
-    }
-    Ok(())
+fn edges(rt: HostRuntime) {
+    lead_to(
+        &rt,
+        rt.alloc(),
+        &BY_STATUS,
+        &[
+            (0, Some(1), None),
+            (1, Some(2), Some(6)),
+            (3, Some(4), Some(6)),
+            (5, None, None),
+        ],
+    );
 }
 
 /// The edge of a jump leads to its target, also where that is the next slot.
 #[test]
-fn edges_of_jumps(rt: HostRuntime) -> Result<(), Fail> {
-    let slots = [BRANCH_BY_1, JUMP_BY_1, JUMP_BY_0, EXIT];
-    let program = Program::decode(rt.alloc(), slots.as_flattened())?;
-    assert_eq!(rt; program.len(), 4);
-    let flow = check(rt.alloc(), &program)?;
-    let rows = [
-        (0, Some(1), Some(2)),
-        (1, None, Some(3)),
-        (2, None, Some(3)),
-        (3, None, None),
-    ];
-    for (slot, next, target) in rows {
-        assert!(rt; slot < program.len());
-        same(&rt, flow.successors(slot), Successors { next, target });
-    }
-    Ok(())
+fn edges_of_jumps(rt: HostRuntime) {
+    lead_to(
+        &rt,
+        rt.alloc(),
+        &[BRANCH_BY_1, JUMP_BY_1, JUMP_BY_0, EXIT],
+        &[
+            (0, Some(1), Some(2)),
+            (1, None, Some(3)),
+            (2, None, Some(3)),
+            (3, None, None),
+        ],
+    );
 }
 
 #[test]
-fn refusal_in_words(rt: HostRuntime) -> Result<(), Fail> {
+fn refusal_in_words(rt: HostRuntime) {
     let error = FlowError {
         slot: 3,
         number: RefusalNumber::JumpOut,
     };
-    let text = format!(in rt.alloc(); "{error}")?;
-    same(&rt, text.as_str(), "refused 8 JumpOut slot 3");
+    is_printed(&rt, rt.alloc(), &error, "refused 8 JumpOut slot 3");
     let memory = FlowError::from(AllocError);
-    let text = format!(in rt.alloc(); "{memory}")?;
-    same(&rt, text.as_str(), "refused 23 OutOfMemory");
-    Ok(())
+    is_printed(&rt, rt.alloc(), &memory, "refused 23 OutOfMemory");
 }

@@ -1,141 +1,156 @@
 //! Verdicts and steps of programs on outcomes.
-use crate::checks::{same, same_at};
+use crate::checks::{same, same_at, same_at_slot};
+use crate::programs::bytes_of_slots;
 use bpf_run::{Verdict, judge, run};
 use helpers::Record;
-use std::alloc::{AllocError, Global};
+use std::alloc::Global;
+use std::process::Abort;
 use std::sync::Arc;
-use std::test::Fail;
-use verifier::{default_classifier, verify};
+use verifier::{Verified, default_classifier, verify};
 
 /// The record of an outcome of a kind, with a status below 65,536.
-fn outcome(kind: u8, status: u16) -> Option<Record> {
+fn outcome(rt: &impl Abort, kind: u8, status: u16) -> Record {
     let mut context = [0u8; 128];
     context[0] = kind;
     let [low, high] = status.to_le_bytes();
     context[4] = low;
     context[5] = high;
-    Record::from_parts(context, [0; 16], &[])
+    Record::from_parts(context, [0; 16], &[]).expect(rt, "an empty tag")
 }
 
-/// The bytes of slots that are written with their first byte first.
-fn bytes_of(alloc: Global, slots: &[u64]) -> Result<Vec<u8>, AllocError> {
-    let mut bytes = Vec::new(alloc);
-    for slot in slots {
-        bytes.extend_from_slice(&slot.to_be_bytes())?;
+/// The program of these slots, which is accepted.
+fn verified(rt: &impl Abort, alloc: Global, slots: &[u64]) -> Verified {
+    let bytes = bytes_of_slots(rt, alloc, slots);
+    verify(alloc, &bytes).expect(rt, "a program that is accepted")
+}
+
+/// The kind of an outcome, its status, and the verdict and the steps.
+type Judged = (u8, u16, Verdict, u32);
+
+/// Checks what a program judges outcomes as.
+fn are_judged(rt: &impl Abort, program: &Verified, rows: &[Judged]) {
+    for row in rows {
+        let (kind, status, verdict, steps) = *row;
+        let found = run(program, &outcome(rt, kind, status));
+        same_at(rt, found, (verdict, steps), row);
     }
-    Ok(bytes)
 }
 
 #[test]
 fn the_default_classifier_judges(rt: HostRuntime) {
     let classifier = default_classifier(rt.alloc()).expect(&rt, "the default classifier");
-    let rows = [
-        (0, 0, Verdict::Success, 6),
-        (0, 499, Verdict::Success, 6),
-        (0, 500, Verdict::Failure, 6),
-        (1, 0, Verdict::Failure, 4),
-    ];
-    for (kind, status, verdict, steps) in rows {
-        let outcome = outcome(kind, status).expect(&rt, "an empty tag");
-        same_at(
-            &rt,
-            run(&classifier, &outcome),
-            (verdict, steps),
-            (&kind, &status),
-        );
+    are_judged(
+        &rt,
+        &classifier,
+        &[
+            (0, 0, Verdict::Success, 6),
+            (0, 499, Verdict::Success, 6),
+            (0, 500, Verdict::Failure, 6),
+            (1, 0, Verdict::Failure, 4),
+        ],
+    );
+}
+
+/// A load from the context, a comparison, and the verdict of a program that answers 1 where the load gives
+/// what the comparison compares with, else 0.
+type Loaded = (u64, u64, Verdict);
+
+/// Checks what is loaded from the context of the outcome of kind 2 with the status 0x0203.
+fn are_loaded(rt: &impl Abort, alloc: Global, rows: &[Loaded]) {
+    let outcome = outcome(rt, 2, 0x0203);
+    for row in rows {
+        let (load, compare, verdict) = *row;
+        let slots = [
+            load,
+            compare,
+            0xb700000001000000,
+            0x9500000000000000,
+            0xb700000000000000,
+            0x9500000000000000,
+        ];
+        let found = run(&verified(rt, alloc, &slots), &outcome);
+        same_at_slot(rt, found, (verdict, 4), load);
     }
 }
 
-/// A program that answers 1 where the load gives what the comparison compares with, else 0.
-fn loads(alloc: Global, load: u64, compare: u64) -> Result<Vec<u8>, AllocError> {
-    let fail = [0xb700000001000000, 0x9500000000000000];
-    let succeed = [0xb700000000000000, 0x9500000000000000];
-    bytes_of(
-        alloc,
-        &[load, compare, fail[0], fail[1], succeed[0], succeed[1]],
-    )
+#[test]
+fn every_size_is_loaded(rt: HostRuntime) {
+    are_loaded(
+        &rt,
+        rt.alloc(),
+        &[
+            (0x7112040000000000, 0x5502020003000000, Verdict::Failure),
+            (0x7112050000000000, 0x5502020002000000, Verdict::Failure),
+            (0x6912040000000000, 0x5502020003020000, Verdict::Failure),
+            (0x6112000000000000, 0x5502020002000000, Verdict::Failure),
+            (0x7912000000000000, 0x5502020002000000, Verdict::Success),
+            (0x7912080000000000, 0x5502020000000000, Verdict::Failure),
+        ],
+    );
 }
 
 #[test]
-fn every_size_is_loaded(rt: HostRuntime) -> Result<(), Fail> {
-    let outcome = outcome(2, 0x0203).expect(&rt, "an empty tag");
-    let rows = [
-        (0x7112040000000000, 0x5502020003000000, Verdict::Failure),
-        (0x7112050000000000, 0x5502020002000000, Verdict::Failure),
-        (0x6912040000000000, 0x5502020003020000, Verdict::Failure),
-        (0x6112000000000000, 0x5502020002000000, Verdict::Failure),
-        (0x7912000000000000, 0x5502020002000000, Verdict::Success),
-        (0x7912080000000000, 0x5502020000000000, Verdict::Failure),
-    ];
-    for (load, compare, verdict) in rows {
-        let bytes = loads(rt.alloc(), load, compare)?;
-        let program = verify(rt.alloc(), &bytes).expect(&rt, "a load from the context");
-        assert_eq!(rt; run(&program, &outcome), (verdict, 4), "{load:x}");
-    }
-    Ok(())
-}
-
-#[test]
-fn judged_work_is_tied(rt: HostRuntime) -> Result<(), Fail> {
-    let bytes = bytes_of(rt.alloc(), &[0xb700000002000000, 0x9500000000000000])?;
-    let program = verify(rt.alloc(), &bytes).expect(&rt, "a constant answer");
-    let outcome = outcome(0, 500).expect(&rt, "an empty tag");
-    let judged = judge(Arc::new(rt.alloc(), program)?, outcome);
+fn judged_work_is_tied(rt: HostRuntime) {
+    let alloc = rt.alloc();
+    let slots = [0xb700000002000000, 0x9500000000000000];
+    let program = Arc::new(alloc, verified(&rt, alloc, &slots)).expect(&rt, "ample memory");
+    let outcome = outcome(&rt, 0, 500);
+    let judged = judge(program, outcome);
     same(&rt, judged.verdict(), Verdict::Ignored);
     same(&rt, judged.steps(), 2);
     same(&rt, *judged.outcome(), outcome);
+    let bytes = bytes_of_slots(&rt, alloc, &slots);
     same(&rt, judged.program().bytes(), bytes.as_slice());
-    Ok(())
 }
 
 /// A constant, 4,094 comparisons that lead to the next slot either way, and an exit.
-fn longest(alloc: Global) -> Result<Vec<u8>, AllocError> {
-    let mut bytes = bytes_of(alloc, &[0xb700000000000000])?;
+fn longest(rt: &impl Abort, alloc: Global) -> Vec<u8> {
+    let mut bytes = bytes_of_slots(rt, alloc, &[0xb700000000000000]);
+    let (compare, exit) = ([0x15, 0, 0, 0, 0, 0, 0, 0], [0x95, 0, 0, 0, 0, 0, 0, 0]);
     for _ in 0..4094 {
-        bytes.extend_from_slice(&0x1500000000000000u64.to_be_bytes())?;
+        bytes.extend_from_slice(&compare).expect(rt, "ample memory");
     }
-    bytes.extend_from_slice(&0x9500000000000000u64.to_be_bytes())?;
-    Ok(bytes)
+    bytes.extend_from_slice(&exit).expect(rt, "ample memory");
+    bytes
 }
 
 #[test]
-fn the_longest_program_runs(rt: HostRuntime) -> Result<(), Fail> {
-    let bytes = longest(rt.alloc())?;
+fn the_longest_program_runs(rt: HostRuntime) {
+    let bytes = longest(&rt, rt.alloc());
     let program = verify(rt.alloc(), &bytes).expect(&rt, "4,096 slots");
     same(&rt, program.budget(), 4096);
-    let outcome = outcome(0, 0).expect(&rt, "an empty tag");
-    same(&rt, run(&program, &outcome), (Verdict::Success, 4096));
-    Ok(())
+    are_judged(&rt, &program, &[(0, 0, Verdict::Success, 4096)]);
 }
+
+/// Numbers in R2 that differ by the path on which they are left.
+const MEETING: [u64; 11] = [
+    // lddw r2, -4294967290 / ldxw r3, [r1+0] / jsgt32 r3, 1, +1 / mov r2, r3
+    0x1802000006000000,
+    0x00000000ffffffff,
+    0x6113000000000000,
+    0x6603010001000000,
+    0xbf32000000000000,
+    // mod32 r2, 4 / jeq r2, 2, +2 / mov r0, 0 / exit / mov r0, 1 / exit
+    0x9402000004000000,
+    0x1502020002000000,
+    0xb700000000000000,
+    0x9500000000000000,
+    0xb700000001000000,
+    0x9500000000000000,
+];
 
 /// Where two paths with different numbers in R2 meet, a number is left to compute with.
 #[test]
-fn paths_meet(rt: HostRuntime) -> Result<(), Fail> {
-    let slots = [
-        // lddw r2, -4294967290 / ldxw r3, [r1+0] / jsgt32 r3, 1, +1 / mov r2, r3
-        0x1802000006000000,
-        0x00000000ffffffff,
-        0x6113000000000000,
-        0x6603010001000000,
-        0xbf32000000000000,
-        // mod32 r2, 4 / jeq r2, 2, +2 / mov r0, 0 / exit / mov r0, 1 / exit
-        0x9402000004000000,
-        0x1502020002000000,
-        0xb700000000000000,
-        0x9500000000000000,
-        0xb700000001000000,
-        0x9500000000000000,
-    ];
-    let bytes = bytes_of(rt.alloc(), &slots)?;
-    let program = verify(rt.alloc(), &bytes).expect(&rt, "numbers where paths meet");
+fn paths_meet(rt: HostRuntime) {
+    let program = verified(&rt, rt.alloc(), &MEETING);
     same(&rt, program.budget(), 8);
-    for (kind, verdict, steps) in [
-        (0, Verdict::Success, 8),
-        (1, Verdict::Success, 8),
-        (2, Verdict::Failure, 7),
-    ] {
-        let outcome = outcome(kind, 0).expect(&rt, "an empty tag");
-        same_at(&rt, run(&program, &outcome), (verdict, steps), &kind);
-    }
-    Ok(())
+    are_judged(
+        &rt,
+        &program,
+        &[
+            (0, 0, Verdict::Success, 8),
+            (1, 0, Verdict::Success, 8),
+            (2, 0, Verdict::Failure, 7),
+        ],
+    );
 }

@@ -2,7 +2,9 @@
 use crate::programs::{both_give, patterned, slot};
 use bpf_profile::{Extension, Size};
 use bpf_words::extended;
-use std::test::Fail;
+use helpers::Record;
+use std::alloc::Global;
+use std::process::Abort;
 
 /// A load with its opcode.
 const LOADS: [(u8, Size, Extension); 7] = [
@@ -15,23 +17,39 @@ const LOADS: [(u8, Size, Extension); 7] = [
     (0x81, Size::Word, Extension::Sign),
 ];
 
-#[test]
-fn loads_at_every_place(rt: HostRuntime) -> Result<(), Fail> {
-    let outcome = patterned().expect(&rt, "an empty tag");
-    for (opcode, size, extension) in LOADS {
-        for offset in 0..128u8 {
-            let place = u64::from(offset);
-            if place % size.bytes() == 0 {
-                let mut number = 0u64;
-                for k in 0..size.bytes() {
-                    let byte = place.wrapping_add(k).wrapping_mul(37) % 256;
-                    number |= byte << (k * 8);
-                }
-                let result = extended(extension, size, number);
-                let load = slot(opcode, 0x11, offset, 0);
-                both_give(&rt, rt.alloc(), &load, 1, &outcome, result)?;
-            }
+/// The number that stands at a place of the context.
+fn number_at(place: u64, size: Size) -> u64 {
+    let mut number = 0u64;
+    for k in 0..size.bytes() {
+        let byte = place.wrapping_add(k).wrapping_mul(37) % 256;
+        number |= byte << (k * 8);
+    }
+    number
+}
+
+/// Checks the loads of an opcode at every place.
+fn are_loaded(
+    rt: &impl Abort,
+    alloc: Global,
+    outcome: &Record,
+    opcode: u8,
+    size: Size,
+    extension: Extension,
+) {
+    for offset in 0..128u8 {
+        let place = u64::from(offset);
+        if place % size.bytes() == 0 {
+            let result = extended(extension, size, number_at(place, size));
+            let load = slot(opcode, 0x11, offset, 0);
+            both_give(rt, alloc, &load, 1, outcome, result);
         }
     }
-    Ok(())
+}
+
+#[test]
+fn loads_at_every_place(rt: HostRuntime) {
+    let outcome = patterned(&rt);
+    for (opcode, size, extension) in &LOADS {
+        are_loaded(&rt, rt.alloc(), &outcome, *opcode, *size, *extension);
+    }
 }

@@ -3,10 +3,9 @@ use crate::checks::same_at;
 use bpf_run::{Verdict, run};
 use bpf_slow::{End, trace};
 use helpers::Record;
-use std::alloc::{AllocError, Global};
+use std::alloc::Global;
 use std::process::Abort;
-use std::test::Fail;
-use verifier::verify;
+use verifier::{default_classifier, verify};
 
 /// Words at which operations change what they do.
 pub(crate) const EDGES: [u64; 15] = [
@@ -42,18 +41,72 @@ pub(crate) fn wide(register: u8, value: u64) -> [u8; 16] {
     [0x18, register, 0, 0, a, b, c, d, 0, 0, 0, 0, e, f, g, h]
 }
 
+/// These bytes, one part behind the other.
+pub(crate) fn joined(rt: &impl Abort, alloc: Global, parts: &[&[u8]]) -> Vec<u8> {
+    let mut bytes = Vec::new(alloc);
+    for part in parts {
+        bytes.extend_from_slice(part).expect(rt, "ample memory");
+    }
+    bytes
+}
+
+/// The bytes of slots that are written as numbers with their first byte first.
+pub(crate) fn bytes_of_slots(rt: &impl Abort, alloc: Global, slots: &[u64]) -> Vec<u8> {
+    let mut bytes = Vec::new(alloc);
+    for slot in slots {
+        let slot = slot.to_be_bytes();
+        bytes.extend_from_slice(&slot).expect(rt, "ample memory");
+    }
+    bytes
+}
+
+/// The bytes of the default classifier.
+pub(crate) fn classifier_bytes(rt: &impl Abort, alloc: Global) -> [u8; 64] {
+    let classifier = default_classifier(alloc).expect(rt, "the default classifier");
+    let found = classifier.bytes();
+    assert!(rt; found.len() == 64);
+    let mut bytes = [0u8; 64];
+    bytes.copy_from_slice(found);
+    bytes
+}
+
 /// An outcome whose context has the bytes 0, 37, 74 and so on, of which half have their highest bit.
-pub(crate) fn patterned() -> Option<Record> {
+pub(crate) fn patterned(rt: &impl Abort) -> Record {
     let mut context = [0u8; 128];
     let mut byte = 0u8;
     for i in 0..128 {
         context[i] = byte;
         byte = byte.wrapping_add(37);
     }
-    Record::from_parts(context, [0; 16], &[])
+    Record::from_parts(context, [0; 16], &[]).expect(rt, "an empty tag")
 }
 
-/// That both machines end a program with this answer, 0 or 1, after so many instructions.
+/// How the two machines end: the verdict and the steps of the fast one, and the end of the plain one.
+pub(crate) type Ends = ((Verdict, u32), End);
+
+/// How both machines end a program, the plain one within so many instructions.
+pub(crate) fn ends(
+    rt: &impl Abort,
+    alloc: Global,
+    bytes: &[u8],
+    outcome: &Record,
+    limit: u32,
+) -> Ends {
+    let program = verify(alloc, bytes).expect(rt, "a program that is accepted");
+    let end = trace(alloc, program.program(), outcome, limit).expect(rt, "ample memory");
+    (run(&program, outcome), end)
+}
+
+/// Ends with this answer, 0 or 1, after so many instructions.
+pub(crate) fn answered(answer: bool, steps: u32) -> Ends {
+    if answer {
+        ((Verdict::Failure, steps), End::Done(1, steps))
+    } else {
+        ((Verdict::Success, steps), End::Done(0, steps))
+    }
+}
+
+/// Checks that both machines end a program with this answer, 0 or 1, after so many instructions.
 pub(crate) fn both_end(
     rt: &impl Abort,
     alloc: Global,
@@ -61,17 +114,9 @@ pub(crate) fn both_end(
     outcome: &Record,
     answer: bool,
     steps: u32,
-) -> Result<(), Fail> {
-    let program = verify(alloc, bytes).expect(rt, "a program that is accepted");
-    let verdict = if answer {
-        Verdict::Failure
-    } else {
-        Verdict::Success
-    };
-    let end = trace(alloc, program.program(), outcome, steps)?;
-    same_at(rt, run(&program, outcome), (verdict, steps), &bytes);
-    same_at(rt, end, End::Done(u64::from(answer), steps), &bytes);
-    Ok(())
+) {
+    let found = ends(rt, alloc, bytes, outcome, steps);
+    same_at(rt, found, answered(answer, steps), &bytes);
 }
 
 /// `mov r0, 0`, `exit`, `mov r0, 1`, `exit`.
@@ -81,16 +126,13 @@ pub(crate) const ANSWERS: [u8; 32] = [
 ];
 
 /// A program that answers, after its first slots, whether R1 is this word.
-fn compared(alloc: Global, first: &[u8], word: u64) -> Result<Vec<u8>, AllocError> {
-    let mut bytes = Vec::from_slice(alloc, first)?;
-    bytes.extend_from_slice(&wide(3, word))?;
-    bytes.extend_from_slice(&slot(0x1d, 0x31, 2, 0))?; // jeq r1, r3, +2
-    bytes.extend_from_slice(&ANSWERS)?;
-    Ok(bytes)
+fn compared(rt: &impl Abort, alloc: Global, first: &[u8], word: u64) -> Vec<u8> {
+    let compare = slot(0x1d, 0x31, 2, 0); // jeq r1, r3, +2
+    joined(rt, alloc, &[first, &wide(3, word), &compare, &ANSWERS])
 }
 
-/// That in both machines R1 is this word after the first slots, which take so many instructions, and
-/// no other one.
+/// Checks that in both machines R1 is this word after the first slots, which take so many instructions,
+/// and no other one.
 pub(crate) fn both_give(
     rt: &impl Abort,
     alloc: Global,
@@ -98,9 +140,10 @@ pub(crate) fn both_give(
     steps: u8,
     outcome: &Record,
     word: u64,
-) -> Result<(), Fail> {
-    let same = compared(alloc, first, word)?;
-    both_end(rt, alloc, &same, outcome, true, u32::from(steps) + 4)?;
-    let other = compared(alloc, first, word ^ 1)?;
-    both_end(rt, alloc, &other, outcome, false, u32::from(steps) + 4)
+) {
+    let steps = u32::from(steps) + 4;
+    let same = compared(rt, alloc, first, word);
+    both_end(rt, alloc, &same, outcome, true, steps);
+    let other = compared(rt, alloc, first, word ^ 1);
+    both_end(rt, alloc, &other, outcome, false, steps);
 }

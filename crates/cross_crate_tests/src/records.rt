@@ -1,44 +1,45 @@
 //! Records as they are read from JSON, and what the helper functions answer of them.
-use crate::checks::{is_true, same, same_at};
+use crate::checks::{is_printed, is_true, same, same_at};
 use bpf_profile::Size;
 use helpers::{BadField, Record};
 use refusals::RefusalNumber;
 use serde_json::Value;
 use std::alloc::Global;
-use std::test::Fail;
+use std::process::Abort;
 
 const WHOLE: &str =
     "{\"kind\":\"error\",\"status\":503,\"duration_ms\":250,\"request_bytes\":1024,\"response_bytes\":4096,\"attempt\":3,\"method\":\"PATCH\",\"flags\":9,\"body_length\":70000,\"body_front\":\"7B0a\",\"facts\":[5,18446744073709551615],\"tag\":\"706179\",\"other\":null}";
 
-fn read(alloc: Global, text: &str) -> Result<Record, Fail> {
-    let value = Value::from_str(alloc, text)?;
-    Ok(Record::from_json(&value)?)
+/// The value of a text that is JSON.
+fn value(rt: &impl Abort, alloc: Global, text: &str) -> Value {
+    Value::from_str(alloc, text).expect(rt, "JSON")
+}
+
+/// The record of a text that is an outcome.
+fn read(rt: &impl Abort, alloc: Global, text: &str) -> Record {
+    Record::from_json(&value(rt, alloc, text)).expect(rt, "an outcome")
 }
 
 #[test]
-fn an_empty_object_is_a_response(rt: HostRuntime) -> Result<(), Fail> {
-    let outcome = read(rt.alloc(), "{}")?;
+fn an_empty_object_is_a_response(rt: HostRuntime) {
+    let outcome = read(&rt, rt.alloc(), "{}");
     same(&rt, *outcome.context(), [0; 128]);
     same(&rt, *outcome.facts(), [0; 16]);
-    assert!(rt; outcome.tag().is_empty());
-    Ok(())
+    is_true(&rt, outcome.tag().is_empty());
 }
 
 #[test]
-fn numbers_stand_at_their_offsets(rt: HostRuntime) -> Result<(), Fail> {
-    let outcome = read(
-        rt.alloc(),
-        "{\"kind\":\"timeout\",\"status\":500,\"duration_ms\":101}",
-    )?;
+fn numbers_stand_at_their_offsets(rt: HostRuntime) {
+    let text = "{\"kind\":\"timeout\",\"status\":500,\"duration_ms\":101}";
+    let outcome = read(&rt, rt.alloc(), text);
     same(&rt, outcome.word_at(0, Size::Word), 1);
     same(&rt, outcome.word_at(4, Size::Word), 500);
     same(&rt, outcome.duration(), 101);
-    Ok(())
 }
 
 #[test]
-fn every_key_is_read(rt: HostRuntime) -> Result<(), Fail> {
-    let outcome = read(rt.alloc(), WHOLE)?;
+fn every_key_is_read(rt: HostRuntime) {
+    let outcome = read(&rt, rt.alloc(), WHOLE);
     same(&rt, outcome.word_at(0, Size::Word), 4);
     same(&rt, outcome.word_at(4, Size::Word), 503);
     same(&rt, outcome.word_at(8, Size::DoubleWord), 250);
@@ -57,89 +58,96 @@ fn every_key_is_read(rt: HostRuntime) -> Result<(), Fail> {
     same(&rt, outcome.fact(1), 18446744073709551615);
     same(&rt, outcome.fact(15), 0);
     same(&rt, outcome.tag(), b"pay".as_slice());
-    Ok(())
 }
 
-#[test]
-fn wrong_values_are_refused(rt: HostRuntime) -> Result<(), Fail> {
-    let refused = Err(BadField {
-        number: RefusalNumber::BadValue,
-    });
-    for text in [
-        "{\"status\":null}",
-        "{\"status\":4294967296}",
-        "{\"status\":1.0}",
-        "{\"flags\":1e2}",
-        "{\"flags\":-0}",
-        "{\"flags\":18446744073709551616}",
-        "{\"body_front\":\"0000000000000000000000000000000000000000000000000000000000000000000000000000000000000000000000000000000000000000000000000000000000\"}",
-        "{\"facts\":[0,0,0,0,0,0,0,0,0,0,0,0,0,0,0,0,0]}",
-        "{\"facts\":[null]}",
-        "{\"tag\":\"000000000000000000000000000000000000000000000000000000000000000000\"}",
-        "{\"kind\":\"other\"}",
-        "{\"method\":7}",
-        "{\"tag\":\"7\"}",
-        "{\"tag\":\"70 61\"}",
-        "[]",
-    ] {
-        let value = Value::from_str(rt.alloc(), text)?;
-        assert_eq!(rt; Record::from_json(&value), refused, "{text}");
+/// Checks that these are no outcomes.
+fn are_refused(rt: &impl Abort, alloc: Global, texts: &[&str]) {
+    for text in texts {
+        let refused = BadField {
+            number: RefusalNumber::BadValue,
+        };
+        let found = Record::from_json(&value(rt, alloc, *text));
+        same_at(rt, found, Err(refused), text);
     }
-    Ok(())
 }
 
 #[test]
-fn a_refusal_in_words(rt: HostRuntime) -> Result<(), Fail> {
+fn wrong_values_are_refused(rt: HostRuntime) {
+    are_refused(
+        &rt,
+        rt.alloc(),
+        &[
+            "{\"status\":null}",
+            "{\"status\":4294967296}",
+            "{\"status\":1.0}",
+            "{\"flags\":1e2}",
+            "{\"flags\":-0}",
+            "{\"flags\":18446744073709551616}",
+            "{\"body_front\":\"0000000000000000000000000000000000000000000000000000000000000000000000000000000000000000000000000000000000000000000000000000000000\"}",
+            "{\"facts\":[0,0,0,0,0,0,0,0,0,0,0,0,0,0,0,0,0]}",
+            "{\"facts\":[null]}",
+            "{\"tag\":\"000000000000000000000000000000000000000000000000000000000000000000\"}",
+            "{\"kind\":\"other\"}",
+            "{\"method\":7}",
+            "{\"tag\":\"7\"}",
+            "{\"tag\":\"70 61\"}",
+            "[]",
+        ],
+    );
+}
+
+#[test]
+fn a_refusal_in_words(rt: HostRuntime) {
     let refused = BadField {
         number: RefusalNumber::BadValue,
     };
-    let text = format!(in rt.alloc(); "{refused}")?;
-    same(&rt, text.as_str(), "refused 59 BadField");
-    Ok(())
+    is_printed(&rt, rt.alloc(), &refused, "refused 59 BadField");
+}
+
+/// Checks that these are read as outcomes without a method.
+fn are_read(rt: &impl Abort, alloc: Global, texts: &[&str]) {
+    for text in texts {
+        let outcome = read(rt, alloc, *text);
+        same_at(rt, outcome.word_at(36, Size::Word), 0, text);
+    }
 }
 
 #[test]
-fn the_widest_values_are_read(rt: HostRuntime) -> Result<(), Fail> {
-    for text in [
-        "{\"status\":4294967295,\"method\":\"get\"}",
-        "{\"status\":null,\"status\":1}",
-        "{\"facts\":[0,0,0,0,0,0,0,0,0,0,0,0,0,0,0,0]}",
-        "{\"tag\":\"0000000000000000000000000000000000000000000000000000000000000000\"}",
-    ] {
-        let outcome = read(rt.alloc(), text)?;
-        same_at(&rt, outcome.word_at(36, Size::Word), 0, &text);
-    }
-    Ok(())
+fn the_widest_values_are_read(rt: HostRuntime) {
+    are_read(
+        &rt,
+        rt.alloc(),
+        &[
+            "{\"status\":4294967295,\"method\":\"get\"}",
+            "{\"status\":null,\"status\":1}",
+            "{\"facts\":[0,0,0,0,0,0,0,0,0,0,0,0,0,0,0,0]}",
+            "{\"tag\":\"0000000000000000000000000000000000000000000000000000000000000000\"}",
+        ],
+    );
 }
 
 #[test]
 fn a_tag_has_at_most_32_bytes(rt: HostRuntime) {
-    is_true(
-        &rt,
-        Record::from_parts([0; 128], [0; 16], &[7; 33]).is_none(),
-    );
-    is_true(
-        &rt,
-        Record::from_parts([0; 128], [0; 16], &[7; 32]).is_some(),
-    );
+    let longer = Record::from_parts([0; 128], [0; 16], &[7; 33]);
+    is_true(&rt, longer.is_none());
+    let longest = Record::from_parts([0; 128], [0; 16], &[7; 32]);
+    is_true(&rt, longest.is_some());
 }
 
 #[test]
-fn a_copied_tag_ends_in_zeros(rt: HostRuntime) -> Result<(), Fail> {
-    let outcome = read(rt.alloc(), "{\"tag\":\"6162\"}")?;
+fn a_copied_tag_ends_in_zeros(rt: HostRuntime) {
+    let outcome = read(&rt, rt.alloc(), "{\"tag\":\"6162\"}");
     let mut to = [9; 3];
     same(&rt, outcome.copy_tag(&mut to), 2);
     same(&rt, to, [0x61, 0x62, 0]);
-    Ok(())
 }
 
 #[test]
-fn a_tag_starts_with_its_front(rt: HostRuntime) -> Result<(), Fail> {
-    let pay = read(rt.alloc(), "{\"tag\":\"706179\"}")?;
+fn a_tag_starts_with_its_front(rt: HostRuntime) {
+    let pay = read(&rt, rt.alloc(), "{\"tag\":\"706179\"}");
     is_true(&rt, pay.tag_starts(b"p"));
     is_true(&rt, pay.tag_starts(b"pay"));
     is_true(&rt, !pay.tag_starts(b"a"));
-    let p = read(rt.alloc(), "{\"tag\":\"70\"}")?;
+    let p = read(&rt, rt.alloc(), "{\"tag\":\"70\"}");
     is_true(&rt, !p.tag_starts(b"pa"));
-    Ok(())
 }

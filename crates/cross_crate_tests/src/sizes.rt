@@ -5,9 +5,10 @@ use bpf_decode::Program;
 use bpf_run::{Verdict, run};
 use bpf_slow::{End, TrapReason, trace};
 use flow_check::check;
+use helpers::Record;
 use refusals::RefusalNumber;
-use std::alloc::{AllocError, Global};
-use std::test::Fail;
+use std::alloc::Global;
+use std::process::Abort;
 use verifier::{Refusal, verify};
 
 /// Each power of two from 2 to 4,096, one less and one more.
@@ -17,48 +18,70 @@ const SIZES: [u32; 33] = [
 ];
 
 /// `mov r0, 0` as often as it takes, and `exit`.
-fn of_size(alloc: Global, size: u32) -> Result<Vec<u8>, AllocError> {
+fn of_size(rt: &impl Abort, alloc: Global, size: u32) -> Vec<u8> {
     let mut bytes = Vec::new(alloc);
     for _ in 1..size {
-        bytes.extend_from_slice(&slot(0xb7, 0, 0, 0))?;
+        let slot = slot(0xb7, 0, 0, 0);
+        bytes.extend_from_slice(&slot).expect(rt, "ample memory");
     }
-    bytes.extend_from_slice(&slot(0x95, 0, 0, 0))?;
-    Ok(bytes)
+    let slot = slot(0x95, 0, 0, 0);
+    bytes.extend_from_slice(&slot).expect(rt, "ample memory");
+    bytes
+}
+
+/// The slots of a program, the budget of its flow, and how the plain machine ends it within so many
+/// instructions.
+fn in_plain_machine(
+    rt: &impl Abort,
+    alloc: Global,
+    bytes: &[u8],
+    outcome: &Record,
+    limit: u32,
+) -> (usize, u32, End) {
+    let program = Program::decode(alloc, bytes).expect(rt, "slots of the profile");
+    let flow = check(alloc, &program).expect(rt, "a straight program");
+    let end = trace(alloc, &program, outcome, limit).expect(rt, "ample memory");
+    (program.len(), flow.budget(), end)
+}
+
+/// The budget of a program that is accepted, and how the fast machine ends it.
+fn in_fast_machine(
+    rt: &impl Abort,
+    alloc: Global,
+    bytes: &[u8],
+    outcome: &Record,
+) -> (u32, (Verdict, u32)) {
+    let program = verify(alloc, bytes).expect(rt, "a program that is accepted");
+    (program.budget(), run(&program, outcome))
+}
+
+/// Checks that a program of so many slots is taken, and that both machines run through them all.
+fn is_taken(rt: &impl Abort, alloc: Global, outcome: &Record, size: u32) {
+    let bytes = of_size(rt, alloc, size);
+    let plain = in_plain_machine(rt, alloc, &bytes, outcome, size);
+    same(rt, plain, (size as usize, size, End::Done(0, size)));
+    let fast = in_fast_machine(rt, alloc, &bytes, outcome);
+    same(rt, fast, (size, (Verdict::Success, size)));
 }
 
 #[test]
-fn every_size_is_taken(rt: HostRuntime) -> Result<(), Fail> {
-    let outcome = patterned().expect(&rt, "an empty tag");
-    for size in SIZES {
-        let bytes = of_size(rt.alloc(), size)?;
-        let program = Program::decode(rt.alloc(), &bytes)?;
-        assert_eq!(rt; program.len(), size as usize);
-        let flow = check(rt.alloc(), &program)?;
-        same(&rt, flow.budget(), size);
-        let verified = verify(rt.alloc(), &bytes)?;
-        same(&rt, verified.budget(), size);
-        let end = trace(rt.alloc(), &program, &outcome, size)?;
-        same(&rt, end, End::Done(0, size));
-        same(&rt, run(&verified, &outcome), (Verdict::Success, size));
+fn every_size_is_taken(rt: HostRuntime) {
+    let outcome = patterned(&rt);
+    for size in &SIZES {
+        is_taken(&rt, rt.alloc(), &outcome, *size);
     }
-    Ok(())
 }
 
 /// An exit alone is a program, whose answer is never set.
 #[test]
-fn one_slot_is_taken(rt: HostRuntime) -> Result<(), Fail> {
-    let outcome = patterned().expect(&rt, "an empty tag");
-    let bytes = of_size(rt.alloc(), 1)?;
-    let program = Program::decode(rt.alloc(), &bytes)?;
-    assert_eq!(rt; program.len(), 1);
-    let flow = check(rt.alloc(), &program)?;
-    same(&rt, flow.budget(), 1);
+fn one_slot_is_taken(rt: HostRuntime) {
+    let alloc = rt.alloc();
+    let bytes = of_size(&rt, alloc, 1);
+    let plain = in_plain_machine(&rt, alloc, &bytes, &patterned(&rt), 1);
+    same(&rt, plain, (1, 1, End::Trap(0, TrapReason::Unset)));
     let refusal = Refusal {
         slot: 0,
         number: RefusalNumber::UnsetRegister,
     };
-    same(&rt, verify(rt.alloc(), &bytes).err(), Some(refusal));
-    let end = trace(rt.alloc(), &program, &outcome, 1)?;
-    same(&rt, end, End::Trap(0, TrapReason::Unset));
-    Ok(())
+    same(&rt, verify(alloc, &bytes).err(), Some(refusal));
 }
