@@ -1,153 +1,131 @@
 //! The edges of histories that clauses can't show by themselves: that calls succeed with ample memory,
 //! and a journal that is full.
 use crate::checks::{same, same_at};
-use book::{Book, Config, ConfigParts, Event, Fate, Reading, Reply, State};
-use bpf_run::{Verdict, judge};
-use helpers::Record;
+use crate::histories::{Step, book, play, play_with};
+use crate::wishes::{
+    Answer, FAILURE, FRESH, NO_TICKET, NOT_PERMITTED, SPENT, SUCCESS, Wish, small_window,
+};
+use book::{Book, ConfigParts, Entry, Fate, Reading, State};
+use bpf_run::Verdict;
 use refusals::RefusalNumber;
 use std::alloc::Global;
 use std::process::Abort;
-use std::sync::Arc;
-use std::test::Fail;
-use verifier::{default_classifier, verify};
 
-/// The record of a response with a status below 65,536.
-fn response(status: u16) -> Option<Record> {
-    let mut context = [0u8; 128];
-    let [low, high] = status.to_le_bytes();
-    context[4] = low;
-    context[5] = high;
-    Record::from_parts(context, [0; 16], &[])
-}
-
-/// A book of these parts with the default classifier.
-pub(crate) fn book<R: Abort>(rt: &R, alloc: Global, parts: ConfigParts) -> Book {
-    let config = Config::new(parts).expect(rt, "parts in their ranges");
-    let classifier = default_classifier(alloc).expect(rt, "the default classifier");
-    Book::open(alloc, config, classifier).expect(rt, "ample memory")
-}
-
-/// Reports a response under a ticket.
-pub(crate) fn report<R: Abort>(
-    rt: &R,
-    book: &mut Book,
-    moment: u64,
-    ticket: u64,
-    status: u16,
-) -> Reply {
-    match book.look(ticket) {
-        Ok(program) => {
-            let outcome = response(status).expect(rt, "an empty tag");
-            book.apply(1, moment, Event::Finish(judge(program, outcome), ticket))
-        }
-        Err(number) => Reply::Refused(number),
-    }
-}
-
-/// Applies an event, and says nothing of what it does, so that the proof of a test stays short.
-pub(crate) fn apply(book: &mut Book, seat: u32, moment: u64, event: Event) -> Reply {
-    book.apply(seat, moment, event)
-}
-
-/// Reads where the service stands.
-pub(crate) fn read(book: &Book, moment: u64) -> Reading {
-    book.read(moment)
-}
-
-/// Parts that differ from the defaults in the window's size and the minimum.
-pub(crate) fn small_window(size: u64, minimum: u64) -> ConfigParts {
-    let mut parts = ConfigParts::DEFAULT;
-    parts.sliding_window_size = size;
-    parts.minimum_number_of_calls = minimum;
-    parts
-}
-
-pub(crate) fn permitted(ticket: u64, state: State) -> Reply {
-    Reply::Permitted {
-        ticket,
-        version: 1,
-        state,
-    }
-}
-
-/// What the default classifier's verdict on a response leaves.
-pub(crate) fn finished(fate: Fate, verdict: Verdict, state: State) -> Reply {
-    Reply::Finished {
-        fate,
-        verdict,
-        steps: 6,
-        version: 1,
-        state,
-    }
-}
+const FULL: Answer = Answer::Refused(RefusalNumber::JournalFull);
 
 #[test]
 fn a_call_is_reported_once(rt: HostRuntime) {
-    let mut book = book(&rt, rt.alloc(), ConfigParts::DEFAULT);
-    same(
+    play(
         &rt,
-        apply(&mut book, 1, 1000, Event::Acquire),
-        permitted(1, State::Closed),
+        rt.alloc(),
+        ConfigParts::DEFAULT,
+        &[
+            Step::Call(1000, Wish::Acquire, Answer::Permitted(1, 1, State::Closed)),
+            Step::Call(1020, Wish::Report(1, 500), FAILURE),
+            Step::Call(1020, Wish::Report(1, 500), SPENT),
+            Step::LastNumber(2),
+            Step::Stands(
+                0,
+                Reading {
+                    total: 1,
+                    failed: 1,
+                    entries: 2,
+                    ..FRESH
+                },
+            ),
+            Step::LastEntry(2, 1, 1020, Wish::Report(1, 500), FAILURE),
+        ],
     );
-    let recorded = finished(Fate::Recorded, Verdict::Failure, State::Closed);
-    same(&rt, report(&rt, &mut book, 1020, 1, 500), recorded);
-    let spent = Reply::Refused(RefusalNumber::TicketSpent);
-    same(&rt, report(&rt, &mut book, 1020, 1, 500), spent);
-    same(&rt, book.last_number(), 2);
-    same(&rt, read(&book, 0).total, 1);
-    same(&rt, read(&book, 0).failed, 1);
-    same(&rt, read(&book, 0).failure_rate, None);
-    let last = book.entries(2);
-    assert_eq!(rt; last.len(), 1);
-    same(&rt, last[0].number(), 2);
-    same(&rt, last[0].seat(), 1);
-    same(&rt, last[0].moment(), 1020);
-    same(&rt, last[0].reply(), recorded);
 }
 
 #[test]
 fn moments_are_raised(rt: HostRuntime) {
-    let mut book = book(&rt, rt.alloc(), ConfigParts::DEFAULT);
-    apply(&mut book, 7, 1000, Event::Acquire);
-    apply(&mut book, 8, 10, Event::Acquire);
-    let entries = book.entries(0);
-    assert_eq!(rt; entries.len(), 2);
-    same(&rt, entries[1].seat(), 8);
-    same(&rt, entries[1].moment(), 1000);
+    let second = Answer::Permitted(2, 1, State::Closed);
+    play(
+        &rt,
+        rt.alloc(),
+        ConfigParts::DEFAULT,
+        &[
+            Step::CallFrom(
+                7,
+                1000,
+                Wish::Acquire,
+                Answer::Permitted(1, 1, State::Closed),
+            ),
+            Step::CallFrom(8, 10, Wish::Acquire, second),
+            Step::Entries(0, 2),
+            Step::LastEntry(2, 8, 1000, Wish::Acquire, second),
+        ],
+    );
+}
+
+/// Half of two calls fail, in a window with this minimum: the state after that, and how the service stands.
+fn half_fails(rt: &impl Abort, alloc: Global, minimum: u64, state: State, reading: Reading) {
+    let last = Answer::Finished(Fate::Recorded, Verdict::Failure, state);
+    play(
+        rt,
+        alloc,
+        small_window(4, minimum),
+        &[
+            Step::Call(0, Wish::Acquire, Answer::Permitted(1, 1, State::Closed)),
+            Step::Call(0, Wish::Report(1, 200), SUCCESS),
+            Step::Call(0, Wish::Acquire, Answer::Permitted(2, 1, State::Closed)),
+            Step::Call(0, Wish::Report(2, 500), last),
+            Step::Stands(0, reading),
+        ],
+    );
 }
 
 #[test]
 fn failures_open_the_breaker(rt: HostRuntime) {
-    for (minimum, state) in [(2, State::Open), (3, State::Closed)] {
-        let mut book = book(&rt, rt.alloc(), small_window(4, minimum));
-        apply(&mut book, 1, 0, Event::Acquire);
-        report(&rt, &mut book, 0, 1, 200);
-        apply(&mut book, 1, 0, Event::Acquire);
-        let last = finished(Fate::Recorded, Verdict::Failure, state);
-        same_at(&rt, report(&rt, &mut book, 0, 2, 500), last, &minimum);
-        same_at(&rt, read(&book, 0).state, state, &minimum);
-    }
+    let open = Reading {
+        state: State::Open,
+        period: 2,
+        entries: 4,
+        ..FRESH
+    };
+    half_fails(&rt, rt.alloc(), 2, State::Open, open);
+    let closed = Reading {
+        total: 2,
+        failed: 1,
+        entries: 4,
+        ..FRESH
+    };
+    half_fails(&rt, rt.alloc(), 3, State::Closed, closed);
 }
 
 #[test]
 fn a_verdict_of_an_earlier_period_is_stale(rt: HostRuntime) {
-    let mut book = book(&rt, rt.alloc(), small_window(1, 1));
-    apply(&mut book, 1, 0, Event::Acquire);
-    apply(&mut book, 1, 0, Event::Acquire);
-    let opens = finished(Fate::Recorded, Verdict::Failure, State::Open);
-    same(&rt, report(&rt, &mut book, 1, 1, 500), opens);
-    let stale = finished(Fate::Stale, Verdict::Failure, State::Open);
-    same(&rt, report(&rt, &mut book, 2, 2, 500), stale);
-    let refused = Reply::Refused(RefusalNumber::CallNotPermitted);
-    same(&rt, apply(&mut book, 1, 3, Event::Acquire), refused);
-    let reading = read(&book, 4);
-    same(&rt, (reading.state, reading.period), (State::Open, 2));
-    same(
+    play(
         &rt,
-        (reading.entries, reading.free, reading.not_permitted),
-        (5, 25, 1),
+        rt.alloc(),
+        small_window(1, 1),
+        &[
+            Step::Call(0, Wish::Acquire, Answer::Permitted(1, 1, State::Closed)),
+            Step::Call(0, Wish::Acquire, Answer::Permitted(2, 1, State::Closed)),
+            Step::Call(
+                1,
+                Wish::Report(1, 500),
+                Answer::Finished(Fate::Recorded, Verdict::Failure, State::Open),
+            ),
+            Step::Call(
+                2,
+                Wish::Report(2, 500),
+                Answer::Finished(Fate::Stale, Verdict::Failure, State::Open),
+            ),
+            Step::Call(3, Wish::Acquire, NOT_PERMITTED),
+            Step::Stands(
+                4,
+                Reading {
+                    state: State::Open,
+                    period: 2,
+                    not_permitted: 1,
+                    entries: 5,
+                    ..FRESH
+                },
+            ),
+        ],
     );
-    same(&rt, (reading.open_tickets, reading.total), (0, 0));
 }
 
 #[test]
@@ -155,147 +133,171 @@ fn half_open_decides(rt: HostRuntime) {
     let mut parts = small_window(1, 1);
     parts.permitted_number_of_calls_in_half_open_state = 2;
     parts.wait_duration_in_open_state = 100;
-    let mut book = book(&rt, rt.alloc(), parts);
-    apply(&mut book, 1, 0, Event::Acquire);
-    report(&rt, &mut book, 0, 1, 500);
-    let refused = Reply::Refused(RefusalNumber::CallNotPermitted);
-    same(&rt, apply(&mut book, 1, 99, Event::Acquire), refused);
-    same(
+    play(
         &rt,
-        apply(&mut book, 1, 100, Event::Acquire),
-        permitted(2, State::HalfOpen),
+        rt.alloc(),
+        parts,
+        &[
+            Step::Call(0, Wish::Acquire, Answer::Permitted(1, 1, State::Closed)),
+            Step::Call(
+                0,
+                Wish::Report(1, 500),
+                Answer::Finished(Fate::Recorded, Verdict::Failure, State::Open),
+            ),
+            Step::Call(99, Wish::Acquire, NOT_PERMITTED),
+            Step::Call(100, Wish::Acquire, Answer::Permitted(2, 1, State::HalfOpen)),
+            Step::Call(100, Wish::Acquire, Answer::Permitted(3, 1, State::HalfOpen)),
+            Step::Call(100, Wish::Acquire, NOT_PERMITTED),
+            Step::Call(
+                101,
+                Wish::Report(2, 200),
+                Answer::Finished(Fate::Recorded, Verdict::Success, State::HalfOpen),
+            ),
+            Step::Call(102, Wish::Report(3, 200), SUCCESS),
+            Step::Stands(
+                102,
+                Reading {
+                    period: 4,
+                    entries: 8,
+                    ..FRESH
+                },
+            ),
+        ],
     );
-    same(
-        &rt,
-        apply(&mut book, 1, 100, Event::Acquire),
-        permitted(3, State::HalfOpen),
-    );
-    same(&rt, apply(&mut book, 1, 100, Event::Acquire), refused);
-    let one = finished(Fate::Recorded, Verdict::Success, State::HalfOpen);
-    same(&rt, report(&rt, &mut book, 101, 2, 200), one);
-    let both = finished(Fate::Recorded, Verdict::Success, State::Closed);
-    same(&rt, report(&rt, &mut book, 102, 3, 200), both);
-    same(&rt, read(&book, 102).period, 4);
 }
 
 #[test]
 fn the_bulkhead_has_places(rt: HostRuntime) {
     let mut parts = ConfigParts::DEFAULT;
     parts.max_concurrent_calls = 1;
-    let mut book = book(&rt, rt.alloc(), parts);
-    same(
+    play(
         &rt,
-        apply(&mut book, 1, 0, Event::Acquire),
-        permitted(1, State::Closed),
-    );
-    let full = Reply::Refused(RefusalNumber::BulkheadFull);
-    same(&rt, apply(&mut book, 1, 0, Event::Acquire), full);
-    same(&rt, read(&book, 0).free, 0);
-    report(&rt, &mut book, 0, 1, 200);
-    same(
-        &rt,
-        apply(&mut book, 1, 0, Event::Acquire),
-        permitted(2, State::Closed),
+        rt.alloc(),
+        parts,
+        &[
+            Step::Call(0, Wish::Acquire, Answer::Permitted(1, 1, State::Closed)),
+            Step::Call(
+                0,
+                Wish::Acquire,
+                Answer::Refused(RefusalNumber::BulkheadFull),
+            ),
+            Step::Stands(
+                0,
+                Reading {
+                    open_tickets: 1,
+                    free: 0,
+                    entries: 2,
+                    ..FRESH
+                },
+            ),
+            Step::Call(0, Wish::Report(1, 200), SUCCESS),
+            Step::Call(0, Wish::Acquire, Answer::Permitted(2, 1, State::Closed)),
+        ],
     );
 }
 
 #[test]
-fn another_programs_verdict_changes_nothing(rt: HostRuntime) -> Result<(), Fail> {
-    let mut book = book(&rt, rt.alloc(), ConfigParts::DEFAULT);
-    apply(&mut book, 1, 5, Event::Acquire);
-    let ignores = [0xb7, 0, 0, 0, 2, 0, 0, 0, 0x95, 0, 0, 0, 0, 0, 0, 0];
-    let program = verify(rt.alloc(), &ignores).expect(&rt, "a constant answer");
-    let outcome = response(200).expect(&rt, "an empty tag");
-    let judged = judge(Arc::new(rt.alloc(), program)?, outcome);
-    let stranger = Reply::Refused(RefusalNumber::Stranger);
-    same(
+fn another_programs_verdict_changes_nothing(rt: HostRuntime) {
+    play(
         &rt,
-        apply(&mut book, 1, 9, Event::Finish(judged, 1)),
-        stranger,
+        rt.alloc(),
+        ConfigParts::DEFAULT,
+        &[
+            Step::Call(5, Wish::Acquire, Answer::Permitted(1, 1, State::Closed)),
+            Step::Strange(9, 1, Answer::Refused(RefusalNumber::Stranger)),
+            Step::LastNumber(1),
+            Step::Call(6, Wish::Report(1, 200), SUCCESS),
+        ],
     );
-    same(&rt, book.last_number(), 1);
-    let recorded = finished(Fate::Recorded, Verdict::Success, State::Closed);
-    same(&rt, report(&rt, &mut book, 6, 1, 200), recorded);
-    Ok(())
 }
 
 #[test]
 fn a_ticket_that_was_never_issued_is_refused(rt: HostRuntime) {
-    let mut book = book(&rt, rt.alloc(), ConfigParts::DEFAULT);
-    for ticket in [0, 1, u64::MAX] {
-        let refused = Reply::Refused(RefusalNumber::NoTicket);
-        same_at(
-            &rt,
-            report(&rt, &mut book, 0, ticket, 200),
-            refused,
-            &ticket,
-        );
-    }
-    same(&rt, book.last_number(), 0);
-}
-
-/// Makes this many calls, each reported as a success: two entries a call.
-fn make_calls<R: Abort>(rt: &R, book: &mut Book, calls: u64) {
-    for ticket in 1..=calls {
-        let closed = permitted(ticket, State::Closed);
-        same(rt, apply(book, 1, ticket, Event::Acquire), closed);
-        let recorded = finished(Fate::Recorded, Verdict::Success, State::Closed);
-        same(rt, report(rt, book, ticket, ticket, 200), recorded);
-    }
+    play(
+        &rt,
+        rt.alloc(),
+        ConfigParts::DEFAULT,
+        &[
+            Step::Call(0, Wish::Report(0, 200), NO_TICKET),
+            Step::Call(0, Wish::Report(1, 200), NO_TICKET),
+            Step::Call(0, Wish::Report(u64::MAX, 200), NO_TICKET),
+            Step::LastNumber(0),
+        ],
+    );
 }
 
 #[test]
 fn a_journal_holds_65536_entries(rt: HostRuntime) {
-    let mut book = book(&rt, rt.alloc(), ConfigParts::DEFAULT);
-    make_calls(&rt, &mut book, 32_768);
-    same(&rt, book.last_number(), 65_536);
-    assert_eq!(rt; book.entries(65_536).len(), 1);
-    let spent = Reply::Refused(RefusalNumber::TicketSpent);
-    same(&rt, report(&rt, &mut book, 0, 1, 200), spent);
-    let full = Reply::Refused(RefusalNumber::JournalFull);
-    same(&rt, apply(&mut book, 1, 0, Event::Acquire), full);
-    same(&rt, apply(&mut book, 1, 0, Event::Release(1)), full);
-    same(&rt, apply(&mut book, 1, 0, Event::Reset), full);
-    let cut = book.cut().expect(&rt, "no ticket is open");
-    assert_eq!(rt; cut.len(), 65_536);
-    same(
+    play(
         &rt,
-        apply(&mut book, 1, 0, Event::Acquire),
-        permitted(32_769, State::Closed),
+        rt.alloc(),
+        ConfigParts::DEFAULT,
+        &[
+            Step::Calls(32_768),
+            Step::LastNumber(65_536),
+            Step::LastEntry(65_536, 1, 32_768, Wish::Report(32_768, 200), SUCCESS),
+            Step::Call(0, Wish::Report(1, 200), SPENT),
+            Step::Call(0, Wish::Acquire, FULL),
+            Step::Call(0, Wish::Release(1), FULL),
+            Step::Call(0, Wish::Reset, FULL),
+            Step::Cut(65_536, 65_536, 32_768),
+            Step::Call(
+                0,
+                Wish::Acquire,
+                Answer::Permitted(32_769, 1, State::Closed),
+            ),
+            Step::LastNumber(65_537),
+        ],
     );
-    same(&rt, book.last_number(), 65_537);
 }
 
 #[test]
 fn a_journal_keeps_a_line_for_each_open_ticket(rt: HostRuntime) {
-    let mut book = book(&rt, rt.alloc(), ConfigParts::DEFAULT);
-    make_calls(&rt, &mut book, 32_767);
-    same(&rt, book.last_number(), 65_534);
-    same(
+    play(
         &rt,
-        apply(&mut book, 1, 0, Event::Reset),
-        Reply::Moved {
-            state: State::Closed,
-            period: 2,
-        },
+        rt.alloc(),
+        ConfigParts::DEFAULT,
+        &[
+            Step::Calls(32_767),
+            Step::LastNumber(65_534),
+            Step::Call(0, Wish::Reset, Answer::Moved(State::Closed, 2)),
+            Step::Call(0, Wish::Acquire, FULL),
+        ],
     );
-    let full = Reply::Refused(RefusalNumber::JournalFull);
-    same(&rt, apply(&mut book, 1, 0, Event::Acquire), full);
+}
+
+/// An entry of a page is a copy of one that the book holds.
+fn is_copied(rt: &impl Abort, copy: &Entry, entry: &Entry) {
+    same(rt, copy.number(), entry.number());
+    same(rt, copy.seat(), entry.seat());
+    same(rt, copy.moment(), entry.moment());
+    same(rt, copy.reply(), entry.reply());
+}
+
+/// The page from a number on has so many entries, which are the book's.
+fn has_page(rt: &impl Abort, book: &Book, from: u64, count: usize) {
+    let page = book.page(from).expect(rt, "ample memory");
+    same_at(rt, page.len(), count, from);
+    for (copy, entry) in page.iter().zip(book.entries(from)) {
+        is_copied(rt, copy, entry);
+    }
+}
+
+/// Pages, each by the number that it begins from and how many entries it has.
+fn has_pages(rt: &impl Abort, book: &Book, pages: &[(u64, usize)]) {
+    for page in pages {
+        let (from, count) = *page;
+        has_page(rt, book, from, count);
+    }
 }
 
 #[test]
 fn a_page_has_a_hundred_entries(rt: HostRuntime) {
     let mut book = book(&rt, rt.alloc(), ConfigParts::DEFAULT);
-    make_calls(&rt, &mut book, 60);
-    for (from, count) in [(0, 100), (1, 100), (21, 100), (22, 99), (120, 1), (121, 0)] {
-        let page = book.page(from).expect(&rt, "ample memory");
-        same_at(&rt, page.len(), count, &from);
-        let held = book.entries(from);
-        for (copy, entry) in page.iter().zip(held) {
-            same(&rt, copy.number(), entry.number());
-            same(&rt, copy.seat(), entry.seat());
-            same(&rt, copy.moment(), entry.moment());
-            same(&rt, copy.reply(), entry.reply());
-        }
-    }
+    play_with(&rt, rt.alloc(), &mut book, &[Step::Calls(60)]);
+    has_pages(
+        &rt,
+        &book,
+        &[(0, 100), (1, 100), (21, 100), (22, 99), (120, 1), (121, 0)],
+    );
 }

@@ -1,10 +1,9 @@
 //! A breaker by hand.
-use crate::checks::{is_true, same, same_at};
+use crate::checks::{same, same_at};
 use breaker::{Breaker, Config, Fate, Metrics, Note, Permission, Standing, State};
 use service_profile::{ConfigParts, SlidingWindowType};
 use std::alloc::Global;
 use std::process::Abort;
-use std::test::Fail;
 
 /// A window of four calls of which two are enough, half of which may not fail, a wait of a second, and
 /// three calls in HALF_OPEN.
@@ -22,9 +21,82 @@ const PARTS: ConfigParts = ConfigParts {
     max_wait_duration: 0,
 };
 
-fn breaker(rt: &impl Abort, alloc: Global, parts: ConfigParts) -> Result<Breaker, Fail> {
+/// What is done with a breaker or read from it, and what comes of that.
+#[derive(Clone, Copy)]
+enum Step {
+    /// A call asks at a moment: the period of its permission.
+    Permit(u64, Option<u64>),
+    /// At a moment, a call of this period failed or not: what becomes of that.
+    Record(u64, u64, bool, Fate),
+    /// So many calls are permitted in a period and fail, all at a moment: what becomes of each.
+    Failures(u64, u64, u64, Fate),
+    /// A permission of a period is given back.
+    GiveBack(u64),
+    /// At a moment the breaker is moved to a state.
+    Move(u64, State),
+    /// The state, its period, since when, and how many permissions are held.
+    Stands(State, u64, u64, u64),
+    /// What is measured at a moment.
+    Measures(u64, Metrics),
+    /// Whether a call at a moment would be permitted.
+    Permission(u64, Permission),
+    TakePermission,
+    ReturnPermission,
+    AddNote(Note),
+    /// How the breaker would stand after a note.
+    AfterNote(Note, Standing),
+    /// A decision is followed, with its note.
+    Follow(Standing, Note),
+    BeginPeriod(Standing),
+}
+
+fn breaker(rt: &impl Abort, alloc: Global, parts: ConfigParts) -> Breaker {
     let config = Config::new(parts).expect(rt, "each part in its range");
-    Ok(Breaker::new(alloc, config, 1, 0)?)
+    Breaker::new(alloc, config, 1, 0).expect(rt, "ample memory")
+}
+
+/// Goes through the steps of a new breaker, whose configuration has these parts.
+fn play(rt: &impl Abort, alloc: Global, parts: ConfigParts, steps: &[Step]) {
+    let mut breaker = breaker(rt, alloc, parts);
+    same(rt, breaker.config().parts(), parts);
+    for (index, step) in steps.iter().enumerate() {
+        take(rt, &mut breaker, *step, index);
+    }
+}
+
+/// Takes the step at this place.
+fn take(rt: &impl Abort, breaker: &mut Breaker, step: Step, index: usize) {
+    match step {
+        Step::Permit(moment, period) => same_at(rt, permit(rt, breaker, moment), period, index),
+        Step::Record(moment, period, failed, fate) => {
+            same_at(rt, record(rt, breaker, moment, period, failed), fate, index);
+        }
+        Step::Failures(times, moment, period, fate) => {
+            fail(rt, breaker, times, moment, period, fate);
+        }
+        Step::GiveBack(period) => give_back(rt, breaker, period),
+        Step::Move(moment, state) => move_to(rt, breaker, moment, state),
+        Step::Stands(state, period, since, held) => {
+            let standing = Standing {
+                state,
+                period,
+                since,
+            };
+            same_at(rt, stands(breaker), (standing, held), index);
+        }
+        Step::Measures(moment, metrics) => same_at(rt, measures(breaker, moment), metrics, index),
+        Step::Permission(moment, wanted) => {
+            same_at(rt, permission(rt, breaker, moment), wanted, index);
+        }
+        Step::TakePermission => take_permission(rt, breaker),
+        Step::ReturnPermission => return_permission(rt, breaker),
+        Step::AddNote(note) => add_note(rt, breaker, note),
+        Step::AfterNote(note, standing) => {
+            same_at(rt, after_note(rt, breaker, note), standing, index);
+        }
+        Step::Follow(standing, note) => follow(rt, breaker, standing, note),
+        Step::BeginPeriod(standing) => begin_period(breaker, standing),
+    }
 }
 
 fn permit(rt: &impl Abort, breaker: &mut Breaker, moment: u64) -> Option<u64> {
@@ -42,6 +114,14 @@ fn record(rt: &impl Abort, breaker: &mut Breaker, moment: u64, period: u64, fail
     breaker.record(moment, period, failed, false)
 }
 
+/// So many calls are permitted in a period and fail.
+fn fail(rt: &impl Abort, breaker: &mut Breaker, times: u64, moment: u64, period: u64, fate: Fate) {
+    for time in 0..times {
+        same_at(rt, permit(rt, breaker, moment), Some(period), time);
+        same_at(rt, record(rt, breaker, moment, period, true), fate, time);
+    }
+}
+
 fn give_back(rt: &impl Abort, breaker: &mut Breaker, period: u64) {
     if period == breaker.standing().period {
         assert!(rt; breaker.permissions_held() > 0);
@@ -54,187 +134,287 @@ fn move_to(rt: &impl Abort, breaker: &mut Breaker, moment: u64, state: State) {
     breaker.move_to(moment, state);
 }
 
-fn stands(rt: &impl Abort, breaker: &Breaker, state: State, period: u64, since: u64, held: u64) {
-    let standing = Standing {
-        state,
-        period,
-        since,
-    };
-    same(rt, breaker.standing(), standing);
-    same(rt, breaker.permissions_held(), held);
+/// How a breaker stands, and how many permissions are held.
+fn stands(breaker: &Breaker) -> (Standing, u64) {
+    (breaker.standing(), breaker.permissions_held())
+}
+
+fn measures(breaker: &Breaker, moment: u64) -> Metrics {
+    breaker.metrics(moment)
+}
+
+fn permission(rt: &impl Abort, breaker: &Breaker, moment: u64) -> Permission {
+    assert!(rt; breaker.standing().period < 1_000);
+    breaker.permission(moment)
+}
+
+fn take_permission(rt: &impl Abort, breaker: &mut Breaker) {
+    assert!(rt; breaker.permissions_held() < 1_000);
+    breaker.take_permission();
+}
+
+fn return_permission(rt: &impl Abort, breaker: &mut Breaker) {
+    assert!(rt; breaker.permissions_held() > 0);
+    breaker.return_permission();
+}
+
+fn add_note(rt: &impl Abort, breaker: &mut Breaker, note: Note) {
+    assert!(rt; breaker.has_room_for_note());
+    breaker.add_note(note);
+}
+
+fn after_note(rt: &impl Abort, breaker: &Breaker, note: Note) -> Standing {
+    assert!(rt; breaker.has_room_for_note());
+    assert!(rt; breaker.standing().period < 1_000);
+    breaker.after_note(note)
+}
+
+/// Follows a decision to begin another period.
+fn follow(rt: &impl Abort, breaker: &mut Breaker, next: Standing, note: Note) {
+    assert!(rt; breaker.has_room_for_note());
+    assert!(rt; next.period != breaker.standing().period);
+    breaker.follow(next, Some(note));
+}
+
+fn begin_period(breaker: &mut Breaker, standing: Standing) {
+    breaker.begin_period(standing);
 }
 
 #[test]
-fn a_breaker_opens_and_closes_again(rt: HostRuntime) -> Result<(), Fail> {
-    let mut b = breaker(&rt, rt.alloc(), PARTS)?;
-    stands(&rt, &b, State::Closed, 1, 0, 0);
-    same(&rt, b.config().parts(), PARTS);
-    same(&rt, permit(&rt, &mut b, 5), Some(1));
-    same(&rt, permit(&rt, &mut b, 6), Some(1));
-    same(&rt, record(&rt, &mut b, 10, 1, true), Fate::Recorded);
-    stands(&rt, &b, State::Closed, 1, 0, 1);
-    same(&rt, record(&rt, &mut b, 20, 1, false), Fate::Recorded);
-    stands(&rt, &b, State::Open, 2, 20, 0);
-    same(&rt, permit(&rt, &mut b, 1_019), None);
-    stands(&rt, &b, State::Open, 2, 20, 0);
-    same(&rt, permit(&rt, &mut b, 1_020), Some(3));
-    stands(&rt, &b, State::HalfOpen, 3, 1_020, 1);
-    same(&rt, permit(&rt, &mut b, 1_021), Some(3));
-    same(&rt, permit(&rt, &mut b, 1_022), Some(3));
-    same(&rt, permit(&rt, &mut b, 1_023), None);
-    give_back(&rt, &mut b, 3);
-    stands(&rt, &b, State::HalfOpen, 3, 1_020, 2);
-    same(&rt, permit(&rt, &mut b, 1_024), Some(3));
-    for (moment, left) in [(1_030, 2), (1_031, 1)] {
-        same(
-            &rt,
-            record(&rt, &mut b, moment, 3, moment == 1_030),
-            Fate::Recorded,
-        );
-        stands(&rt, &b, State::HalfOpen, 3, 1_020, left);
-    }
-    same(&rt, record(&rt, &mut b, 1_032, 3, false), Fate::Recorded);
-    stands(&rt, &b, State::Closed, 4, 1_032, 0);
-    Ok(())
+fn a_breaker_opens_and_closes_again(rt: HostRuntime) {
+    play(
+        &rt,
+        rt.alloc(),
+        PARTS,
+        &[
+            Step::Stands(State::Closed, 1, 0, 0),
+            Step::Permit(5, Some(1)),
+            Step::Permit(6, Some(1)),
+            Step::Record(10, 1, true, Fate::Recorded),
+            Step::Stands(State::Closed, 1, 0, 1),
+            Step::Record(20, 1, false, Fate::Recorded),
+            Step::Stands(State::Open, 2, 20, 0),
+            Step::Permit(1_019, None),
+            Step::Stands(State::Open, 2, 20, 0),
+            Step::Permit(1_020, Some(3)),
+            Step::Stands(State::HalfOpen, 3, 1_020, 1),
+            Step::Permit(1_021, Some(3)),
+            Step::Permit(1_022, Some(3)),
+            Step::Permit(1_023, None),
+            Step::GiveBack(3),
+            Step::Stands(State::HalfOpen, 3, 1_020, 2),
+            Step::Permit(1_024, Some(3)),
+            Step::Record(1_030, 3, true, Fate::Recorded),
+            Step::Stands(State::HalfOpen, 3, 1_020, 2),
+            Step::Record(1_031, 3, false, Fate::Recorded),
+            Step::Stands(State::HalfOpen, 3, 1_020, 1),
+            Step::Record(1_032, 3, false, Fate::Recorded),
+            Step::Stands(State::Closed, 4, 1_032, 0),
+        ],
+    );
+}
+
+/// What is measured of no call, in METRICS_ONLY as period 2.
+const NOTHING: Metrics = Metrics {
+    state: State::MetricsOnly,
+    period: 2,
+    since: 0,
+    total: 0,
+    failed: 0,
+    slow: 0,
+    failure_rate: None,
+    slow_rate: None,
+};
+
+#[test]
+fn a_stale_verdict_changes_nothing(rt: HostRuntime) {
+    play(
+        &rt,
+        rt.alloc(),
+        PARTS,
+        &[
+            Step::Permit(0, Some(1)),
+            Step::Move(7, State::HalfOpen),
+            Step::Stands(State::HalfOpen, 2, 7, 0),
+            Step::Permit(8, Some(2)),
+            Step::Record(9, 1, true, Fate::Stale),
+            Step::GiveBack(1),
+            Step::Stands(State::HalfOpen, 2, 7, 1),
+            Step::Record(9, 2, true, Fate::Recorded),
+            Step::Move(10, State::HalfOpen),
+            Step::Stands(State::HalfOpen, 3, 10, 0),
+            Step::Measures(
+                10,
+                Metrics {
+                    state: State::HalfOpen,
+                    period: 3,
+                    since: 10,
+                    ..NOTHING
+                },
+            ),
+        ],
+    );
 }
 
 #[test]
-fn a_stale_verdict_changes_nothing(rt: HostRuntime) -> Result<(), Fail> {
-    let mut b = breaker(&rt, rt.alloc(), PARTS)?;
-    same(&rt, permit(&rt, &mut b, 0), Some(1));
-    move_to(&rt, &mut b, 7, State::HalfOpen);
-    stands(&rt, &b, State::HalfOpen, 2, 7, 0);
-    same(&rt, permit(&rt, &mut b, 8), Some(2));
-    same(&rt, record(&rt, &mut b, 9, 1, true), Fate::Stale);
-    give_back(&rt, &mut b, 1);
-    stands(&rt, &b, State::HalfOpen, 2, 7, 1);
-    same(&rt, record(&rt, &mut b, 9, 2, true), Fate::Recorded);
-    move_to(&rt, &mut b, 10, State::HalfOpen);
-    stands(&rt, &b, State::HalfOpen, 3, 10, 0);
-    same(&rt, b.metrics(10).total, 0);
-    Ok(())
+fn the_other_states(rt: HostRuntime) {
+    play(
+        &rt,
+        rt.alloc(),
+        PARTS,
+        &[
+            Step::Move(2, State::Disabled),
+            Step::Failures(3, 10, 2, Fate::Off),
+            Step::Stands(State::Disabled, 2, 2, 0),
+            Step::Measures(
+                10,
+                Metrics {
+                    state: State::Disabled,
+                    since: 2,
+                    ..NOTHING
+                },
+            ),
+            Step::Move(3, State::MetricsOnly),
+            Step::Failures(3, 10, 3, Fate::Recorded),
+            Step::Stands(State::MetricsOnly, 3, 3, 0),
+            Step::Measures(
+                10,
+                Metrics {
+                    period: 3,
+                    since: 3,
+                    total: 3,
+                    failed: 3,
+                    failure_rate: Some(100),
+                    slow_rate: Some(0),
+                    ..NOTHING
+                },
+            ),
+            Step::Move(30, State::ForcedOpen),
+            Step::Permit(u64::MAX, None),
+        ],
+    );
 }
 
 #[test]
-fn the_other_states(rt: HostRuntime) -> Result<(), Fail> {
-    let mut b = breaker(&rt, rt.alloc(), PARTS)?;
-    for (period, state, fate, total) in [
-        (2, State::Disabled, Fate::Off, 0),
-        (3, State::MetricsOnly, Fate::Recorded, 3),
-    ] {
-        move_to(&rt, &mut b, period, state);
-        for _ in 0..3 {
-            same(&rt, permit(&rt, &mut b, 10), Some(period));
-            same(&rt, record(&rt, &mut b, 10, period, true), fate);
-        }
-        stands(&rt, &b, state, period, period, 0);
-        same(&rt, b.metrics(10).failed, total);
-    }
-    move_to(&rt, &mut b, 30, State::ForcedOpen);
-    same(&rt, permit(&rt, &mut b, u64::MAX), None);
-    Ok(())
-}
-
-#[test]
-fn metrics_show_rates_from_the_minimum_on(rt: HostRuntime) -> Result<(), Fail> {
+fn metrics_show_rates_from_the_minimum_on(rt: HostRuntime) {
     let mut parts = PARTS;
     parts.sliding_window_type = SlidingWindowType::TimeBased;
     parts.minimum_number_of_calls = 3;
-    let mut b = breaker(&rt, rt.alloc(), parts)?;
-    move_to(&rt, &mut b, 0, State::MetricsOnly);
-    let mut wanted = Metrics {
-        state: State::MetricsOnly,
-        period: 2,
-        since: 0,
-        total: 0,
-        failed: 0,
-        slow: 0,
-        failure_rate: None,
-        slow_rate: None,
-    };
-    same(&rt, b.metrics(0), wanted);
-    for moment in [1_000, 2_000, 4_999] {
-        same(&rt, permit(&rt, &mut b, moment), Some(2));
-        same(
-            &rt,
-            record(&rt, &mut b, moment, 2, moment == 2_000),
-            Fate::Recorded,
-        );
-    }
-    wanted.total = 3;
-    wanted.failed = 1;
-    wanted.failure_rate = Some(33);
-    wanted.slow_rate = Some(0);
-    same(&rt, b.metrics(4_999), wanted);
-    wanted.total = 2;
-    wanted.failure_rate = None;
-    wanted.slow_rate = None;
-    same(&rt, b.metrics(5_000), wanted);
-    Ok(())
+    play(
+        &rt,
+        rt.alloc(),
+        parts,
+        &[
+            Step::Move(0, State::MetricsOnly),
+            Step::Measures(0, NOTHING),
+            Step::Permit(1_000, Some(2)),
+            Step::Record(1_000, 2, false, Fate::Recorded),
+            Step::Permit(2_000, Some(2)),
+            Step::Record(2_000, 2, true, Fate::Recorded),
+            Step::Permit(4_999, Some(2)),
+            Step::Record(4_999, 2, false, Fate::Recorded),
+            Step::Measures(
+                4_999,
+                Metrics {
+                    total: 3,
+                    failed: 1,
+                    failure_rate: Some(33),
+                    slow_rate: Some(0),
+                    ..NOTHING
+                },
+            ),
+            Step::Measures(
+                5_000,
+                Metrics {
+                    total: 2,
+                    failed: 1,
+                    ..NOTHING
+                },
+            ),
+        ],
+    );
 }
 
 #[test]
-fn the_minimum_is_capped_by_the_window(rt: HostRuntime) -> Result<(), Fail> {
+fn the_minimum_is_capped_by_the_window(rt: HostRuntime) {
     let mut parts = PARTS;
     parts.minimum_number_of_calls = 100;
-    let mut b = breaker(&rt, rt.alloc(), parts)?;
-    for (moment, state) in [
-        (1, State::Closed),
-        (2, State::Closed),
-        (3, State::Closed),
-        (4, State::Open),
-    ] {
-        same(&rt, permit(&rt, &mut b, moment), Some(1));
-        same(&rt, record(&rt, &mut b, moment, 1, true), Fate::Recorded);
-        same_at(&rt, b.standing().state, state, &moment);
-    }
-    Ok(())
+    play(
+        &rt,
+        rt.alloc(),
+        parts,
+        &[
+            Step::Failures(1, 1, 1, Fate::Recorded),
+            Step::Stands(State::Closed, 1, 0, 0),
+            Step::Failures(1, 2, 1, Fate::Recorded),
+            Step::Stands(State::Closed, 1, 0, 0),
+            Step::Failures(1, 3, 1, Fate::Recorded),
+            Step::Stands(State::Closed, 1, 0, 0),
+            Step::Failures(1, 4, 1, Fate::Recorded),
+            Step::Stands(State::Open, 2, 4, 0),
+        ],
+    );
 }
 
+/// How a new breaker stands.
+const FRESH: Standing = Standing {
+    state: State::Closed,
+    period: 1,
+    since: 0,
+};
+
+/// A call that failed.
+const FAILED: Note = Note {
+    moment: 3,
+    failed: true,
+    slow: false,
+};
+
+/// How a breaker stands in the period that begins with that.
+const OPENED: Standing = Standing {
+    state: State::Open,
+    period: 2,
+    since: 3,
+};
+
 #[test]
-fn a_decision_is_followed(rt: HostRuntime) -> Result<(), Fail> {
-    let mut b = breaker(&rt, rt.alloc(), PARTS)?;
-    let standing = b.standing();
-    assert!(rt; standing.period < 1_000);
-    assert_eq!(rt;
-        b.permission(3),
-        Permission {
-            given: true,
-            standing
-        }
+fn a_decision_is_followed(rt: HostRuntime) {
+    play(
+        &rt,
+        rt.alloc(),
+        PARTS,
+        &[
+            Step::Stands(State::Closed, 1, 0, 0),
+            Step::Permission(
+                3,
+                Permission {
+                    given: true,
+                    standing: FRESH,
+                },
+            ),
+            Step::TakePermission,
+            Step::Stands(State::Closed, 1, 0, 1),
+            Step::AddNote(FAILED),
+            Step::AfterNote(FAILED, OPENED),
+            Step::ReturnPermission,
+            Step::Stands(State::Closed, 1, 0, 0),
+            Step::Follow(OPENED, FAILED),
+            Step::Stands(State::Open, 2, 3, 0),
+            Step::BeginPeriod(Standing {
+                state: State::Closed,
+                period: 3,
+                since: 4,
+            }),
+            Step::Stands(State::Closed, 3, 4, 0),
+            Step::Measures(
+                4,
+                Metrics {
+                    state: State::Closed,
+                    period: 3,
+                    since: 4,
+                    ..NOTHING
+                },
+            ),
+        ],
     );
-    assert!(rt; b.permissions_held() < 1_000);
-    b.take_permission();
-    stands(&rt, &b, State::Closed, 1, 0, 1);
-    let failed = Note {
-        moment: 3,
-        failed: true,
-        slow: false,
-    };
-    assert!(rt; b.has_room_for_note());
-    b.add_note(failed);
-    assert!(rt; b.has_room_for_note());
-    assert!(rt; b.standing().period < 1_000);
-    let opened = Standing {
-        state: State::Open,
-        period: 2,
-        since: 3,
-    };
-    let next = b.after_note(failed);
-    assert_eq!(rt; next, opened);
-    assert!(rt; b.permissions_held() > 0);
-    b.return_permission();
-    stands(&rt, &b, State::Closed, 1, 0, 0);
-    assert!(rt; b.has_room_for_note());
-    assert!(rt; opened.period != b.standing().period);
-    b.follow(opened, Some(failed));
-    stands(&rt, &b, State::Open, 2, 3, 0);
-    b.begin_period(Standing {
-        state: State::Closed,
-        period: 3,
-        since: 4,
-    });
-    stands(&rt, &b, State::Closed, 3, 4, 0);
-    assert_eq!(rt; b.metrics(4).total, 0);
-    Ok(())
 }

@@ -1,36 +1,97 @@
 //! Configurations by hand.
-use crate::checks::same;
+use crate::checks::{same, same_at};
 use service_profile::{Config, ConfigField, ConfigParts, SlidingWindowType};
+use std::process::Abort;
 use std::test::Fail;
+
+/// Parts, and the field that is out of its range.
+type Judged = (ConfigParts, Option<ConfigField>);
+
+/// Each of these parts is refused by its field, or not.
+fn are_judged(rt: &impl Abort, rows: &[Judged]) {
+    for (index, row) in rows.iter().enumerate() {
+        let (parts, field) = *row;
+        same_at(rt, refused(parts), field, index);
+    }
+}
+
+/// The field of these parts that is out of its range.
+fn refused(parts: ConfigParts) -> Option<ConfigField> {
+    match Config::new(parts) {
+        Ok(_) => None,
+        Err(bad) => Some(bad.field),
+    }
+}
+
+const DEFAULT: ConfigParts = ConfigParts::DEFAULT;
 
 #[test]
 fn fields_out_of_range_are_named(rt: HostRuntime) {
-    let mut rows = [(ConfigParts::DEFAULT, None); 9];
-    rows[1].0.failure_rate_threshold = 101;
-    rows[1].1 = Some(ConfigField::FailureRateThreshold);
-    rows[2].0.wait_duration_in_open_state = (1 << 40) + 1;
-    rows[2].1 = Some(ConfigField::WaitDurationInOpenState);
-    rows[3].0.max_wait_duration = 5;
-    rows[3].1 = Some(ConfigField::MaxWaitDuration);
-    rows[4].0.max_wait_duration_in_half_open_state = 1;
-    rows[4].1 = Some(ConfigField::MaxWaitDurationInHalfOpenState);
-    rows[6].0.sliding_window_type = SlidingWindowType::TimeBased;
-    rows[6].0.sliding_window_size = 3_600;
-    rows[7].0.sliding_window_type = SlidingWindowType::TimeBased;
-    rows[7].0.sliding_window_size = 3_601;
-    rows[7].1 = Some(ConfigField::SlidingWindowSize);
-    rows[8].0.sliding_window_size = 10_001;
-    rows[8].1 = Some(ConfigField::SlidingWindowSize);
-    rows[5].0.slow_call_rate_threshold = 0;
-    rows[5].0.max_concurrent_calls = 0;
-    rows[5].1 = Some(ConfigField::SlowCallRateThreshold);
-    for (parts, field) in rows {
-        let refused = match Config::new(parts) {
-            Ok(_) => None,
-            Err(bad) => Some(bad.field),
-        };
-        same(&rt, refused, field);
-    }
+    are_judged(
+        &rt,
+        &[
+            (DEFAULT, None),
+            (
+                ConfigParts {
+                    failure_rate_threshold: 101,
+                    ..DEFAULT
+                },
+                Some(ConfigField::FailureRateThreshold),
+            ),
+            (
+                ConfigParts {
+                    wait_duration_in_open_state: (1 << 40) + 1,
+                    ..DEFAULT
+                },
+                Some(ConfigField::WaitDurationInOpenState),
+            ),
+            (
+                ConfigParts {
+                    max_wait_duration: 5,
+                    ..DEFAULT
+                },
+                Some(ConfigField::MaxWaitDuration),
+            ),
+            (
+                ConfigParts {
+                    max_wait_duration_in_half_open_state: 1,
+                    ..DEFAULT
+                },
+                Some(ConfigField::MaxWaitDurationInHalfOpenState),
+            ),
+            (
+                ConfigParts {
+                    slow_call_rate_threshold: 0,
+                    max_concurrent_calls: 0,
+                    ..DEFAULT
+                },
+                Some(ConfigField::SlowCallRateThreshold),
+            ),
+            (
+                ConfigParts {
+                    sliding_window_type: SlidingWindowType::TimeBased,
+                    sliding_window_size: 3_600,
+                    ..DEFAULT
+                },
+                None,
+            ),
+            (
+                ConfigParts {
+                    sliding_window_type: SlidingWindowType::TimeBased,
+                    sliding_window_size: 3_601,
+                    ..DEFAULT
+                },
+                Some(ConfigField::SlidingWindowSize),
+            ),
+            (
+                ConfigParts {
+                    sliding_window_size: 10_001,
+                    ..DEFAULT
+                },
+                Some(ConfigField::SlidingWindowSize),
+            ),
+        ],
+    );
 }
 
 #[test]

@@ -1,10 +1,12 @@
 //! The worked rows through one seat of a fresh desk. After each call that made an entry, the page from the
 //! last number on is just that entry: the desk enters what it was asked, with the reply that it gave.
-use crate::checks::{is_true, same};
-use crate::desk_fixtures::{
-    OpenGate, Play, Wish, ask, finished, is_entry, moved, permitted, play_at_a_desk,
+use crate::checks::{is_true, is_true_at, same, same_at};
+use crate::desk_fixtures::{OpenGate, Play, ask, close, play_at_a_desk};
+use crate::wishes::{
+    Answer, FAILURE, FRESH, NO_TICKET, NOT_PERMITTED, SPENT, SUCCESS, Wish, is_entry, reply,
+    small_window,
 };
-use book::{ConfigParts, Fate, Reading, Reply, SlidingWindowType, State};
+use book::{ConfigParts, Entry, Fate, Reading, Reply, SlidingWindowType, State};
 use bpf_run::Verdict;
 use desk::{Desk, Seat};
 use refusals::RefusalNumber;
@@ -12,14 +14,32 @@ use std::alloc::Global;
 use std::process::Abort;
 use std::sync::Wait;
 use std::sync::ledger::Ledger;
-use std::test::Fail;
 use std::thread::Threads;
 
-/// Calls, each with its moment and what is replied, and then readings, each with its moment.
+/// A call, with its moment and its answer.
+type Called = (u64, Wish, Answer);
+
+/// What the seat does at its desk, and what comes of that.
+#[derive(Clone, Copy)]
+enum Step<'a> {
+    /// A call at a moment, and its answer.
+    Call(u64, Wish, Answer),
+    /// How the service stands at a moment.
+    Stands(u64, Reading),
+    /// No cut may be made.
+    CutFails(RefusalNumber),
+    /// A cut hands out the entries of these calls.
+    Cut(&'a [Called]),
+    /// The number of the last entry.
+    LastNumber(u64),
+    /// How many entries the calls of the seat have made.
+    Counts(u64),
+}
+
+/// The steps of the only seat of a desk, which is then closed.
 #[derive(Drop)]
 struct Rows<'a> {
-    calls: &'a [(u64, Wish, Reply)],
-    readings: &'a [(u64, Reading)],
+    steps: &'a [Step<'a>],
 }
 
 impl Play for Rows<'_> {
@@ -28,30 +48,69 @@ impl Play for Rows<'_> {
         rt: &R,
         alloc: Global,
         desk: Desk<L, M>,
-    ) -> Result<(), Fail> {
+    ) {
         let mut desk = desk;
         let mut seat = desk.sit().expect(rt, "a first seat");
-        let mut greatest = 0;
-        for (moment, wish, reply) in self.calls {
-            let count = seat.count();
-            same(
-                rt,
-                ask(
-                    rt, alloc, &desk, &mut seat, "pay", *moment, *wish, &OpenGate,
-                ),
-                *reply,
-            );
-            if seat.count() > count {
-                greatest = (*moment).max(greatest);
-                check_last(rt, &desk, &mut seat, *wish, greatest, *reply);
-            }
-        }
-        let service = desk.find("pay").expect(rt, "a service of the desk");
-        for (moment, reading) in self.readings {
-            same(rt, desk.read(rt, &mut seat, service, *moment), *reading);
-        }
-        Ok(())
+        go_through(rt, alloc, &desk, &mut seat, self.steps);
+        close_alone(rt, alloc, desk, seat);
     }
+}
+
+/// Goes through the steps. Moments are raised to the greatest one of an entry.
+fn go_through<L: Ledger, M: Ledger, R: Wait + Abort>(
+    rt: &R,
+    alloc: Global,
+    desk: &Desk<L, M>,
+    seat: &mut Seat<L>,
+    steps: &[Step<'_>],
+) {
+    let mut greatest = 0;
+    for step in steps {
+        match *step {
+            Step::Call(moment, wish, answer) => {
+                let raised = moment.max(greatest);
+                if is_entered(rt, alloc, desk, seat, (moment, wish, answer), raised) {
+                    greatest = raised;
+                }
+            }
+            Step::Stands(moment, reading) => same(rt, read(rt, desk, seat, moment), reading),
+            Step::CutFails(number) => cut_fails(rt, desk, seat, number),
+            Step::Cut(calls) => cut_has(rt, desk, seat, calls),
+            Step::LastNumber(number) => same(rt, read(rt, desk, seat, 0).entries, number),
+            Step::Counts(count) => same(rt, seat.count(), count),
+        }
+    }
+}
+
+/// Makes a call, which is answered so. Where that makes an entry, it is the last one, at the raised moment.
+fn is_entered<L: Ledger, M: Ledger, R: Wait + Abort>(
+    rt: &R,
+    alloc: Global,
+    desk: &Desk<L, M>,
+    seat: &mut Seat<L>,
+    called: Called,
+    raised: u64,
+) -> bool {
+    let (moment, wish, answer) = called;
+    let count = seat.count();
+    let found = ask(rt, alloc, desk, seat, "pay", moment, wish, &OpenGate);
+    same_at(rt, found, reply(answer), moment);
+    let has_entry = seat.count() > count;
+    if has_entry {
+        check_last(rt, desk, seat, wish, raised, reply(answer));
+    }
+    has_entry
+}
+
+/// Reads where the service stands.
+fn read<L: Ledger, M: Ledger, R: Wait + Abort>(
+    rt: &R,
+    desk: &Desk<L, M>,
+    seat: &mut Seat<L>,
+    moment: u64,
+) -> Reading {
+    let service = desk.find("pay").expect(rt, "a service of the desk");
+    desk.read(rt, seat, service, moment)
 }
 
 /// The page from the last number on is the entry of this call.
@@ -76,109 +135,144 @@ fn check_last<L: Ledger, M: Ledger, R: Wait + Abort>(
     );
 }
 
-/// Parts that differ from the defaults in the window's size and the minimum.
-fn small_window(size: u64, minimum: u64) -> ConfigParts {
-    let mut parts = ConfigParts::DEFAULT;
-    parts.sliding_window_size = size;
-    parts.minimum_number_of_calls = minimum;
-    parts
+/// Tries to make a cut, which is refused.
+fn cut_fails<L: Ledger, M: Ledger, R: Wait + Abort>(
+    rt: &R,
+    desk: &Desk<L, M>,
+    seat: &mut Seat<L>,
+    wanted: RefusalNumber,
+) {
+    let service = desk.find("pay").expect(rt, "a service of the desk");
+    let refused = desk.cut(rt, seat, service, 0).err();
+    same(rt, refused, Some(wanted));
 }
 
-/// How a service with the default classifier stands in CLOSED, with the first rates not shown yet.
-const FRESH: Reading = Reading {
-    state: State::Closed,
-    period: 1,
-    version: 1,
-    budget: 6,
-    total: 0,
-    failed: 0,
-    slow: 0,
-    failure_rate: None,
-    slow_rate: None,
-    open_tickets: 0,
-    free: 25,
-    not_permitted: 0,
-    entries: 0,
-};
+/// Makes a cut, which hands out the entries of these calls.
+fn cut_has<L: Ledger, M: Ledger, R: Wait + Abort>(
+    rt: &R,
+    desk: &Desk<L, M>,
+    seat: &mut Seat<L>,
+    calls: &[Called],
+) {
+    let service = desk.find("pay").expect(rt, "a service of the desk");
+    let entries = desk.cut(rt, seat, service, 1).expect(rt, "ample memory");
+    are_entries(rt, &entries, seat.number(), calls);
+}
+
+/// Entries are those of a seat's calls.
+fn are_entries(rt: &impl Abort, entries: &[Entry], seat: u32, calls: &[Called]) {
+    same(rt, entries.len(), calls.len());
+    for (entry, called) in entries.iter().zip(calls) {
+        let (moment, wish, answer) = *called;
+        is_true_at(
+            rt,
+            is_entry(rt, entry, seat, wish, moment, reply(answer)),
+            moment,
+        );
+    }
+}
+
+/// Closes the desk: the book of its only service has as many entries as the seat's calls have made.
+fn close_alone<L: Ledger, M: Ledger>(
+    rt: &impl Abort,
+    alloc: Global,
+    desk: Desk<L, M>,
+    seat: Seat<L>,
+) {
+    let count = seat.count();
+    let seats = Vec::from_array(alloc, [seat]).expect(rt, "ample memory");
+    let books = close(rt, alloc, desk, seats);
+    assert_eq!(rt; books.len(), 1);
+    same(rt, books[0].last_number(), count);
+}
+
+/// Goes through the steps of the only seat of a new desk with one service, whose configuration has these parts.
+fn play<R: Threads + Wait + Abort + Sync>(
+    rt: &R,
+    alloc: Global,
+    parts: ConfigParts,
+    steps: &[Step<'_>],
+) {
+    play_at_a_desk(rt, alloc, &["pay"], parts, &Rows { steps });
+}
 
 #[test]
-fn calls_are_reported_once(rt: HostRuntime) -> Result<(), Fail> {
-    let spent = Reply::Refused(RefusalNumber::TicketSpent);
-    let rows = Rows {
-        calls: &[
-            (1000, Wish::Acquire, permitted(1, 1, State::Closed)),
-            (
+fn calls_are_reported_once(rt: HostRuntime) {
+    play(
+        &rt,
+        rt.alloc(),
+        ConfigParts::DEFAULT,
+        &[
+            Step::Call(1000, Wish::Acquire, Answer::Permitted(1, 1, State::Closed)),
+            Step::Call(1020, Wish::Report(1, 500), FAILURE),
+            Step::Call(1020, Wish::Report(1, 500), SPENT),
+            Step::Stands(
                 1020,
-                Wish::Report(1, 500),
-                finished(Fate::Recorded, Verdict::Failure, State::Closed),
-            ),
-            (1020, Wish::Report(1, 500), spent),
-        ],
-        readings: &[(
-            1020,
-            Reading {
-                total: 1,
-                failed: 1,
-                entries: 2,
-                ..FRESH
-            },
-        )],
-    };
-    play_at_a_desk(&rt, rt.alloc(), &["pay"], ConfigParts::DEFAULT, &rows)
-}
-
-#[test]
-fn failures_open_the_breaker(rt: HostRuntime) -> Result<(), Fail> {
-    for (minimum, state, entries) in [(2, State::Open, 4), (3, State::Closed, 4)] {
-        let is_closed = state == State::Closed;
-        let rows = Rows {
-            calls: &[
-                (0, Wish::Acquire, permitted(1, 1, State::Closed)),
-                (
-                    0,
-                    Wish::Report(1, 200),
-                    finished(Fate::Recorded, Verdict::Success, State::Closed),
-                ),
-                (0, Wish::Acquire, permitted(2, 1, State::Closed)),
-                (
-                    0,
-                    Wish::Report(2, 500),
-                    finished(Fate::Recorded, Verdict::Failure, state),
-                ),
-            ],
-            readings: &[(
-                0,
                 Reading {
-                    state,
-                    period: if is_closed { 1 } else { 2 },
-                    total: if is_closed { 2 } else { 0 },
-                    failed: if is_closed { 1 } else { 0 },
-                    entries,
+                    total: 1,
+                    failed: 1,
+                    entries: 2,
                     ..FRESH
                 },
-            )],
-        };
-        play_at_a_desk(&rt, rt.alloc(), &["pay"], small_window(4, minimum), &rows)?;
-    }
-    Ok(())
+            ),
+        ],
+    );
+}
+
+/// Half of two calls fail, in a window with this minimum: the state after that, and how the service stands.
+fn half_fails<R: Threads + Wait + Abort + Sync>(
+    rt: &R,
+    alloc: Global,
+    minimum: u64,
+    state: State,
+    reading: Reading,
+) {
+    let last = Answer::Finished(Fate::Recorded, Verdict::Failure, state);
+    play(
+        rt,
+        alloc,
+        small_window(4, minimum),
+        &[
+            Step::Call(0, Wish::Acquire, Answer::Permitted(1, 1, State::Closed)),
+            Step::Call(0, Wish::Report(1, 200), SUCCESS),
+            Step::Call(0, Wish::Acquire, Answer::Permitted(2, 1, State::Closed)),
+            Step::Call(0, Wish::Report(2, 500), last),
+            Step::Stands(0, reading),
+        ],
+    );
 }
 
 #[test]
-fn seconds_leave_the_window(rt: HostRuntime) -> Result<(), Fail> {
+fn failures_open_the_breaker(rt: HostRuntime) {
+    let open = Reading {
+        state: State::Open,
+        period: 2,
+        entries: 4,
+        ..FRESH
+    };
+    half_fails(&rt, rt.alloc(), 2, State::Open, open);
+    let closed = Reading {
+        total: 2,
+        failed: 1,
+        entries: 4,
+        ..FRESH
+    };
+    half_fails(&rt, rt.alloc(), 3, State::Closed, closed);
+}
+
+#[test]
+fn seconds_leave_the_window(rt: HostRuntime) {
     let mut parts = ConfigParts::DEFAULT;
     parts.sliding_window_type = SlidingWindowType::TimeBased;
     parts.sliding_window_size = 10;
-    let rows = Rows {
-        calls: &[
-            (1000, Wish::Acquire, permitted(1, 1, State::Closed)),
-            (
-                1000,
-                Wish::Report(1, 200),
-                finished(Fate::Recorded, Verdict::Success, State::Closed),
-            ),
-        ],
-        readings: &[
-            (
+    play(
+        &rt,
+        rt.alloc(),
+        parts,
+        &[
+            Step::Call(1000, Wish::Acquire, Answer::Permitted(1, 1, State::Closed)),
+            Step::Call(1000, Wish::Report(1, 200), SUCCESS),
+            Step::Stands(
                 10_999,
                 Reading {
                     total: 1,
@@ -186,7 +280,7 @@ fn seconds_leave_the_window(rt: HostRuntime) -> Result<(), Fail> {
                     ..FRESH
                 },
             ),
-            (
+            Step::Stands(
                 11_000,
                 Reading {
                     entries: 2,
@@ -194,321 +288,227 @@ fn seconds_leave_the_window(rt: HostRuntime) -> Result<(), Fail> {
                 },
             ),
         ],
-    };
-    play_at_a_desk(&rt, rt.alloc(), &["pay"], parts, &rows)
+    );
 }
 
 #[test]
-fn ignored_verdicts_free_their_permission(rt: HostRuntime) -> Result<(), Fail> {
+fn ignored_verdicts_free_their_permission(rt: HostRuntime) {
     let mut parts = ConfigParts::DEFAULT;
     parts.permitted_number_of_calls_in_half_open_state = 2;
-    let half_open = State::HalfOpen;
-    let success = Reply::Finished {
-        fate: Fate::Recorded,
-        verdict: Verdict::Success,
-        steps: 6,
-        version: 3,
-        state: half_open,
-    };
-    let rows = Rows {
-        calls: &[
-            (
+    play(
+        &rt,
+        rt.alloc(),
+        parts,
+        &[
+            Step::Call(0, Wish::InstallIgnoring, Answer::Installed(2, 2)),
+            Step::Call(
                 0,
-                Wish::InstallIgnoring,
-                Reply::Installed {
-                    version: 2,
-                    budget: 2,
-                },
+                Wish::Move(State::HalfOpen),
+                Answer::Moved(State::HalfOpen, 2),
             ),
-            (0, Wish::Move(half_open), moved(half_open, 2)),
-            (0, Wish::Acquire, permitted(1, 2, half_open)),
-            (
-                0,
-                Wish::InstallDefault,
-                Reply::Installed {
-                    version: 3,
-                    budget: 6,
-                },
-            ),
-            (0, Wish::Acquire, permitted(2, 3, half_open)),
-            (
-                0,
-                Wish::Acquire,
-                Reply::Refused(RefusalNumber::CallNotPermitted),
-            ),
-            (
+            Step::Call(0, Wish::Acquire, Answer::Permitted(1, 2, State::HalfOpen)),
+            Step::Call(0, Wish::InstallDefault, Answer::Installed(3, 6)),
+            Step::Call(0, Wish::Acquire, Answer::Permitted(2, 3, State::HalfOpen)),
+            Step::Call(0, Wish::Acquire, NOT_PERMITTED),
+            Step::Call(
                 0,
                 Wish::Report(1, 500),
-                Reply::Finished {
-                    fate: Fate::Ignored,
-                    verdict: Verdict::Ignored,
-                    steps: 2,
-                    version: 2,
-                    state: half_open,
-                },
+                Answer::IgnoredBy(2, State::HalfOpen),
             ),
-            (0, Wish::Acquire, permitted(3, 3, half_open)),
-            (0, Wish::Report(2, 200), success),
-            (
+            Step::Call(0, Wish::Acquire, Answer::Permitted(3, 3, State::HalfOpen)),
+            Step::Call(
+                0,
+                Wish::Report(2, 200),
+                Answer::FinishedBy(3, Fate::Recorded, Verdict::Success, State::HalfOpen),
+            ),
+            Step::Call(
                 0,
                 Wish::Report(3, 200),
-                Reply::Finished {
-                    fate: Fate::Recorded,
-                    verdict: Verdict::Success,
-                    steps: 6,
+                Answer::FinishedBy(3, Fate::Recorded, Verdict::Success, State::Closed),
+            ),
+            Step::Stands(
+                0,
+                Reading {
+                    period: 3,
                     version: 3,
-                    state: State::Closed,
+                    entries: 10,
+                    ..FRESH
                 },
             ),
         ],
-        readings: &[(
-            0,
-            Reading {
-                period: 3,
-                version: 3,
-                entries: 10,
-                ..FRESH
-            },
-        )],
-    };
-    play_at_a_desk(&rt, rt.alloc(), &["pay"], parts, &rows)
+    );
 }
 
 #[test]
-fn tickets_are_judged_by_their_version(rt: HostRuntime) -> Result<(), Fail> {
-    let rows = Rows {
-        calls: &[
-            (0, Wish::Acquire, permitted(1, 1, State::Closed)),
-            (
+fn tickets_are_judged_by_their_version(rt: HostRuntime) {
+    play(
+        &rt,
+        rt.alloc(),
+        ConfigParts::DEFAULT,
+        &[
+            Step::Call(0, Wish::Acquire, Answer::Permitted(1, 1, State::Closed)),
+            Step::Call(0, Wish::InstallIgnoring, Answer::Installed(2, 2)),
+            Step::Call(0, Wish::Report(1, 500), FAILURE),
+            Step::Stands(
                 0,
-                Wish::InstallIgnoring,
-                Reply::Installed {
+                Reading {
                     version: 2,
                     budget: 2,
+                    total: 1,
+                    failed: 1,
+                    entries: 3,
+                    ..FRESH
                 },
             ),
-            (
-                0,
-                Wish::Report(1, 500),
-                finished(Fate::Recorded, Verdict::Failure, State::Closed),
-            ),
         ],
-        readings: &[(
-            0,
-            Reading {
-                version: 2,
-                budget: 2,
-                total: 1,
-                failed: 1,
-                entries: 3,
-                ..FRESH
-            },
-        )],
-    };
-    play_at_a_desk(&rt, rt.alloc(), &["pay"], ConfigParts::DEFAULT, &rows)
+    );
 }
 
 #[test]
-fn tickets_of_earlier_periods_are_stale(rt: HostRuntime) -> Result<(), Fail> {
-    let rows = Rows {
-        calls: &[
-            (0, Wish::Acquire, permitted(1, 1, State::Closed)),
-            (1, Wish::Move(State::HalfOpen), moved(State::HalfOpen, 2)),
-            (
+fn tickets_of_earlier_periods_are_stale(rt: HostRuntime) {
+    play(
+        &rt,
+        rt.alloc(),
+        ConfigParts::DEFAULT,
+        &[
+            Step::Call(0, Wish::Acquire, Answer::Permitted(1, 1, State::Closed)),
+            Step::Call(
+                1,
+                Wish::Move(State::HalfOpen),
+                Answer::Moved(State::HalfOpen, 2),
+            ),
+            Step::Call(
                 2,
                 Wish::Report(1, 500),
-                finished(Fate::Stale, Verdict::Failure, State::HalfOpen),
+                Answer::Finished(Fate::Stale, Verdict::Failure, State::HalfOpen),
+            ),
+            Step::Stands(
+                3,
+                Reading {
+                    state: State::HalfOpen,
+                    period: 2,
+                    entries: 3,
+                    ..FRESH
+                },
             ),
         ],
-        readings: &[(
-            3,
-            Reading {
-                state: State::HalfOpen,
-                period: 2,
-                entries: 3,
-                ..FRESH
-            },
-        )],
-    };
-    play_at_a_desk(&rt, rt.alloc(), &["pay"], ConfigParts::DEFAULT, &rows)
+    );
 }
 
 #[test]
-fn a_full_bulkhead_leaves_half_open(rt: HostRuntime) -> Result<(), Fail> {
+fn a_full_bulkhead_leaves_half_open(rt: HostRuntime) {
     let mut parts = ConfigParts::DEFAULT;
     parts.max_concurrent_calls = 1;
     parts.wait_duration_in_open_state = 1000;
-    let full = Reply::Refused(RefusalNumber::BulkheadFull);
-    let rows = Rows {
-        calls: &[
-            (0, Wish::Acquire, permitted(1, 1, State::Closed)),
-            (0, Wish::Acquire, full),
-            (0, Wish::Move(State::Open), moved(State::Open, 2)),
-            (1000, Wish::Acquire, full),
-        ],
-        readings: &[(
-            1000,
-            Reading {
-                state: State::HalfOpen,
-                period: 3,
-                open_tickets: 1,
-                free: 0,
-                entries: 4,
-                ..FRESH
-            },
-        )],
-    };
-    play_at_a_desk(&rt, rt.alloc(), &["pay"], parts, &rows)
-}
-
-#[test]
-fn states_are_moved_to(rt: HostRuntime) -> Result<(), Fail> {
-    let rows = Rows {
-        calls: &[
-            (0, Wish::Move(State::Disabled), moved(State::Disabled, 2)),
-            (0, Wish::Acquire, permitted(1, 1, State::Disabled)),
-            (
-                0,
-                Wish::Report(1, 500),
-                finished(Fate::Off, Verdict::Failure, State::Disabled),
-            ),
-            (
-                0,
-                Wish::Move(State::ForcedOpen),
-                moved(State::ForcedOpen, 3),
-            ),
-            (
+    play(
+        &rt,
+        rt.alloc(),
+        parts,
+        &[
+            Step::Call(0, Wish::Acquire, Answer::Permitted(1, 1, State::Closed)),
+            Step::Call(
                 0,
                 Wish::Acquire,
-                Reply::Refused(RefusalNumber::CallNotPermitted),
+                Answer::Refused(RefusalNumber::BulkheadFull),
             ),
-            (0, Wish::Reset, moved(State::Closed, 4)),
+            Step::Call(0, Wish::Move(State::Open), Answer::Moved(State::Open, 2)),
+            Step::Call(
+                1000,
+                Wish::Acquire,
+                Answer::Refused(RefusalNumber::BulkheadFull),
+            ),
+            Step::Stands(
+                1000,
+                Reading {
+                    state: State::HalfOpen,
+                    period: 3,
+                    open_tickets: 1,
+                    free: 0,
+                    entries: 4,
+                    ..FRESH
+                },
+            ),
         ],
-        readings: &[(
-            0,
-            Reading {
-                period: 4,
-                entries: 6,
-                ..FRESH
-            },
-        )],
-    };
-    play_at_a_desk(&rt, rt.alloc(), &["pay"], ConfigParts::DEFAULT, &rows)
+    );
 }
 
 #[test]
-fn tickets_are_released(rt: HostRuntime) -> Result<(), Fail> {
-    let rows = Rows {
-        calls: &[
-            (0, Wish::Acquire, permitted(1, 1, State::Closed)),
-            (
+fn states_are_moved_to(rt: HostRuntime) {
+    play(
+        &rt,
+        rt.alloc(),
+        ConfigParts::DEFAULT,
+        &[
+            Step::Call(
                 0,
-                Wish::Release(1),
-                Reply::Released {
-                    state: State::Closed,
+                Wish::Move(State::Disabled),
+                Answer::Moved(State::Disabled, 2),
+            ),
+            Step::Call(0, Wish::Acquire, Answer::Permitted(1, 1, State::Disabled)),
+            Step::Call(
+                0,
+                Wish::Report(1, 500),
+                Answer::Finished(Fate::Off, Verdict::Failure, State::Disabled),
+            ),
+            Step::Call(
+                0,
+                Wish::Move(State::ForcedOpen),
+                Answer::Moved(State::ForcedOpen, 3),
+            ),
+            Step::Call(0, Wish::Acquire, NOT_PERMITTED),
+            Step::Call(0, Wish::Reset, Answer::Moved(State::Closed, 4)),
+            Step::Stands(
+                0,
+                Reading {
+                    period: 4,
+                    entries: 6,
+                    ..FRESH
                 },
             ),
-            (0, Wish::Release(2), Reply::Refused(RefusalNumber::NoTicket)),
         ],
-        readings: &[(
-            0,
-            Reading {
-                entries: 3,
-                ..FRESH
-            },
-        )],
-    };
-    play_at_a_desk(&rt, rt.alloc(), &["pay"], ConfigParts::DEFAULT, &rows)
+    );
+}
+
+#[test]
+fn tickets_are_released(rt: HostRuntime) {
+    play(
+        &rt,
+        rt.alloc(),
+        ConfigParts::DEFAULT,
+        &[
+            Step::Call(0, Wish::Acquire, Answer::Permitted(1, 1, State::Closed)),
+            Step::Call(0, Wish::Release(1), Answer::Released(State::Closed)),
+            Step::Call(0, Wish::Release(2), NO_TICKET),
+            Step::Stands(
+                0,
+                Reading {
+                    entries: 3,
+                    ..FRESH
+                },
+            ),
+        ],
+    );
 }
 
 /// A journal that is cut once its ticket has ended.
-#[derive(Drop)]
-struct Cut;
-
-impl Play for Cut {
-    fn play<L: Ledger + Send + Sync, M: Ledger + Send + Sync, R: Threads + Wait + Abort + Sync>(
-        &self,
-        rt: &R,
-        alloc: Global,
-        desk: Desk<L, M>,
-    ) -> Result<(), Fail> {
-        let mut desk = desk;
-        let mut seat = desk.sit().expect(rt, "a first seat");
-        let service = desk.find("pay").expect(rt, "a service of the desk");
-        let ticket = ask(
-            rt,
-            alloc,
-            &desk,
-            &mut seat,
-            "pay",
-            0,
-            Wish::Acquire,
-            &OpenGate,
-        );
-        same(rt, ticket, permitted(1, 1, State::Closed));
-        let open = desk.cut(rt, &mut seat, service, 0);
-        is_true(rt, matches!(open, Err(RefusalNumber::TicketsOpen)));
-        let recorded = finished(Fate::Recorded, Verdict::Success, State::Closed);
-        let reported = ask(
-            rt,
-            alloc,
-            &desk,
-            &mut seat,
-            "pay",
-            1,
-            Wish::Report(1, 200),
-            &OpenGate,
-        );
-        same(rt, reported, recorded);
-        let entries = desk
-            .cut(rt, &mut seat, service, 1)
-            .expect(rt, "ample memory");
-        assert_eq!(rt; entries.len(), 2);
-        is_true(rt, is_entry(rt, &entries[0], 1, Wish::Acquire, 0, ticket));
-        is_true(
-            rt,
-            is_entry(rt, &entries[1], 1, Wish::Report(1, 200), 1, recorded),
-        );
-        let ticket = ask(
-            rt,
-            alloc,
-            &desk,
-            &mut seat,
-            "pay",
-            0,
-            Wish::Acquire,
-            &OpenGate,
-        );
-        same(rt, ticket, permitted(2, 1, State::Closed));
-        let page = desk
-            .page(rt, &mut seat, service, 0, 3)
-            .expect(rt, "ample memory");
-        assert_eq!(rt; page.len(), 1);
-        same(rt, page[0].number(), 3);
-        is_true(rt, is_entry(rt, &page[0], 1, Wish::Acquire, 1, ticket));
-        let spent = ask(
-            rt,
-            alloc,
-            &desk,
-            &mut seat,
-            "pay",
-            0,
-            Wish::Report(1, 200),
-            &OpenGate,
-        );
-        same(rt, spent, Reply::Refused(RefusalNumber::TicketSpent));
-        same(rt, seat.count(), 3);
-        let seats = Vec::from_array(alloc, [seat])?;
-        let Ok(books) = desk.close(alloc, seats) else {
-            return Err(Fail::from("all seats are given"));
-        };
-        assert_eq!(rt; books.len(), 1);
-        same(rt, books[0].last_number(), 3);
-        Ok(())
-    }
-}
-
 #[test]
-fn numbers_go_on_over_cuts(rt: HostRuntime) -> Result<(), Fail> {
-    play_at_a_desk(&rt, rt.alloc(), &["pay"], ConfigParts::DEFAULT, &Cut)
+fn numbers_go_on_over_cuts(rt: HostRuntime) {
+    play(
+        &rt,
+        rt.alloc(),
+        ConfigParts::DEFAULT,
+        &[
+            Step::Call(0, Wish::Acquire, Answer::Permitted(1, 1, State::Closed)),
+            Step::CutFails(RefusalNumber::TicketsOpen),
+            Step::Call(1, Wish::Report(1, 200), SUCCESS),
+            Step::Cut(&[
+                (0, Wish::Acquire, Answer::Permitted(1, 1, State::Closed)),
+                (1, Wish::Report(1, 200), SUCCESS),
+            ]),
+            Step::Call(0, Wish::Acquire, Answer::Permitted(2, 1, State::Closed)),
+            Step::LastNumber(3),
+            Step::Call(0, Wish::Report(1, 200), SPENT),
+            Step::Counts(3),
+        ],
+    );
 }

@@ -1,266 +1,400 @@
 //! Each event by hand, time windows at their edges, and cuts.
-use crate::books::{apply, book, finished, permitted, read, report, small_window};
-use crate::checks::{same, same_at};
-use book::{ConfigParts, Event, Fate, Reply, SlidingWindowType, State};
+use crate::histories::{Step, play};
+use crate::wishes::{
+    Answer, FAILURE, FRESH, NO_TICKET, NOT_PERMITTED, SPENT, SUCCESS, Wish, small_window,
+};
+use book::{ConfigParts, Fate, Reading, SlidingWindowType, State};
 use bpf_run::Verdict;
 use refusals::RefusalNumber;
 use std::alloc::Global;
 use std::process::Abort;
-use std::sync::Arc;
-use std::test::Fail;
-use verifier::{Verified, verify};
-
-/// The program that ignores every outcome.
-fn ignorer<R: Abort>(rt: &R, alloc: Global) -> Result<Arc<Verified>, Fail> {
-    let bytes = [0xb7, 0, 0, 0, 2, 0, 0, 0, 0x95, 0, 0, 0, 0, 0, 0, 0];
-    Ok(Arc::new(alloc, verify(alloc, &bytes).expect(rt, "a constant answer"))?)
-}
-
-fn refused(number: RefusalNumber) -> Reply {
-    Reply::Refused(number)
-}
 
 #[test]
 fn a_release_frees_its_place(rt: HostRuntime) {
     let mut parts = ConfigParts::DEFAULT;
     parts.max_concurrent_calls = 1;
-    let mut book = book(&rt, rt.alloc(), parts);
-    apply(&mut book, 1, 0, Event::Acquire);
-    let released = Reply::Released {
-        state: State::Closed,
-    };
-    same(&rt, apply(&mut book, 1, 5, Event::Release(1)), released);
-    let reading = read(&book, 5);
-    same(
+    play(
         &rt,
-        (reading.free, reading.total, reading.open_tickets),
-        (1, 0, 0),
+        rt.alloc(),
+        parts,
+        &[
+            Step::Call(0, Wish::Acquire, Answer::Permitted(1, 1, State::Closed)),
+            Step::Call(5, Wish::Release(1), Answer::Released(State::Closed)),
+            Step::Stands(
+                5,
+                Reading {
+                    free: 1,
+                    entries: 2,
+                    ..FRESH
+                },
+            ),
+            Step::Call(5, Wish::Release(1), SPENT),
+            Step::Call(5, Wish::Release(2), NO_TICKET),
+            Step::Call(5, Wish::Release(0), NO_TICKET),
+            Step::LastNumber(5),
+        ],
     );
-    let spent = refused(RefusalNumber::TicketSpent);
-    same(&rt, apply(&mut book, 1, 5, Event::Release(1)), spent);
-    let unknown = refused(RefusalNumber::NoTicket);
-    same(&rt, apply(&mut book, 1, 5, Event::Release(2)), unknown);
-    same(&rt, apply(&mut book, 1, 5, Event::Release(0)), unknown);
-    same(&rt, book.last_number(), 5);
+}
+
+/// Parts that differ from the defaults in that one call may be made in HALF_OPEN.
+fn one_in_half_open() -> ConfigParts {
+    let mut parts = ConfigParts::DEFAULT;
+    parts.permitted_number_of_calls_in_half_open_state = 1;
+    parts
 }
 
 #[test]
 fn a_release_frees_its_permission(rt: HostRuntime) {
-    let mut parts = ConfigParts::DEFAULT;
-    parts.permitted_number_of_calls_in_half_open_state = 1;
-    let mut book = book(&rt, rt.alloc(), parts);
-    apply(&mut book, 1, 0, Event::Move(State::HalfOpen));
-    same(
+    play(
         &rt,
-        apply(&mut book, 1, 0, Event::Acquire),
-        permitted(1, State::HalfOpen),
-    );
-    let full = refused(RefusalNumber::CallNotPermitted);
-    same(&rt, apply(&mut book, 1, 0, Event::Acquire), full);
-    apply(&mut book, 1, 0, Event::Release(1));
-    same(
-        &rt,
-        apply(&mut book, 1, 0, Event::Acquire),
-        permitted(2, State::HalfOpen),
+        rt.alloc(),
+        one_in_half_open(),
+        &[
+            Step::Call(
+                0,
+                Wish::Move(State::HalfOpen),
+                Answer::Moved(State::HalfOpen, 2),
+            ),
+            Step::Call(0, Wish::Acquire, Answer::Permitted(1, 1, State::HalfOpen)),
+            Step::Call(0, Wish::Acquire, NOT_PERMITTED),
+            Step::Call(0, Wish::Release(1), Answer::Released(State::HalfOpen)),
+            Step::Call(0, Wish::Acquire, Answer::Permitted(2, 1, State::HalfOpen)),
+        ],
     );
 }
 
 #[test]
 fn a_stale_verdict_gives_no_permission(rt: HostRuntime) {
-    let mut parts = ConfigParts::DEFAULT;
-    parts.permitted_number_of_calls_in_half_open_state = 1;
-    let mut book = book(&rt, rt.alloc(), parts);
-    apply(&mut book, 1, 0, Event::Acquire);
-    apply(&mut book, 1, 1, Event::Move(State::HalfOpen));
-    same(
+    play(
         &rt,
-        apply(&mut book, 1, 2, Event::Acquire),
-        permitted(2, State::HalfOpen),
+        rt.alloc(),
+        one_in_half_open(),
+        &[
+            Step::Call(0, Wish::Acquire, Answer::Permitted(1, 1, State::Closed)),
+            Step::Call(
+                1,
+                Wish::Move(State::HalfOpen),
+                Answer::Moved(State::HalfOpen, 2),
+            ),
+            Step::Call(2, Wish::Acquire, Answer::Permitted(2, 1, State::HalfOpen)),
+            Step::Call(
+                3,
+                Wish::Report(1, 500),
+                Answer::Finished(Fate::Stale, Verdict::Failure, State::HalfOpen),
+            ),
+            Step::Call(4, Wish::Acquire, NOT_PERMITTED),
+        ],
     );
-    let stale = finished(Fate::Stale, Verdict::Failure, State::HalfOpen);
-    same(&rt, report(&rt, &mut book, 3, 1, 500), stale);
-    let full = refused(RefusalNumber::CallNotPermitted);
-    same(&rt, apply(&mut book, 1, 4, Event::Acquire), full);
 }
 
 #[test]
-fn an_installed_program_judges_new_tickets(rt: HostRuntime) -> Result<(), Fail> {
-    let mut book = book(&rt, rt.alloc(), ConfigParts::DEFAULT);
-    apply(&mut book, 1, 0, Event::Acquire);
-    let installed = Reply::Installed {
-        version: 2,
-        budget: 2,
-    };
-    let program = ignorer(&rt, rt.alloc())?;
-    same(
+fn an_installed_program_judges_new_tickets(rt: HostRuntime) {
+    play(
         &rt,
-        apply(&mut book, 1, 0, Event::Install(program)),
-        installed,
+        rt.alloc(),
+        ConfigParts::DEFAULT,
+        &[
+            Step::Call(0, Wish::Acquire, Answer::Permitted(1, 1, State::Closed)),
+            Step::Call(0, Wish::InstallIgnoring, Answer::Installed(2, 2)),
+            Step::Call(0, Wish::Report(1, 500), FAILURE),
+            Step::Call(0, Wish::Acquire, Answer::Permitted(2, 2, State::Closed)),
+            Step::Call(0, Wish::Report(2, 500), Answer::IgnoredBy(2, State::Closed)),
+            Step::Stands(
+                0,
+                Reading {
+                    version: 2,
+                    budget: 2,
+                    total: 1,
+                    failed: 1,
+                    entries: 5,
+                    ..FRESH
+                },
+            ),
+        ],
     );
-    let failed = finished(Fate::Recorded, Verdict::Failure, State::Closed);
-    same(&rt, report(&rt, &mut book, 0, 1, 500), failed);
-    let ticket = Reply::Permitted {
-        ticket: 2,
-        version: 2,
-        state: State::Closed,
-    };
-    same(&rt, apply(&mut book, 1, 0, Event::Acquire), ticket);
-    let ignored = Reply::Finished {
-        fate: Fate::Ignored,
-        verdict: Verdict::Ignored,
-        steps: 2,
-        version: 2,
-        state: State::Closed,
-    };
-    same(&rt, report(&rt, &mut book, 0, 2, 500), ignored);
-    let reading = read(&book, 0);
-    same(
-        &rt,
-        (reading.version, reading.budget, reading.total),
-        (2, 2, 1),
-    );
-    Ok(())
 }
 
 #[test]
-fn two_hundred_and_fifty_six_versions_are_held(rt: HostRuntime) -> Result<(), Fail> {
-    let mut book = book(&rt, rt.alloc(), ConfigParts::DEFAULT);
-    let program = ignorer(&rt, rt.alloc())?;
-    for version in 2..=256 {
-        let installed = Reply::Installed { version, budget: 2 };
-        let owner = Arc::try_clone(&program)?;
-        same(
-            &rt,
-            apply(&mut book, 1, 0, Event::Install(owner)),
-            installed,
-        );
+fn two_hundred_and_fifty_six_versions_are_held(rt: HostRuntime) {
+    play(
+        &rt,
+        rt.alloc(),
+        ConfigParts::DEFAULT,
+        &[
+            Step::Versions(256),
+            Step::Call(
+                9,
+                Wish::InstallIgnoring,
+                Answer::Refused(RefusalNumber::VersionsFull),
+            ),
+            Step::LastNumber(255),
+            Step::Cut(255, 255, 0),
+            Step::Stands(
+                0,
+                Reading {
+                    period: 2,
+                    version: 256,
+                    budget: 2,
+                    entries: 255,
+                    ..FRESH
+                },
+            ),
+            Step::Call(0, Wish::InstallIgnoring, Answer::Installed(257, 2)),
+        ],
+    );
+}
+
+/// What a call is answered in each state that the breaker is moved to.
+const STATES: [(State, Answer); 6] = [
+    (State::Disabled, Answer::Permitted(1, 1, State::Disabled)),
+    (State::ForcedOpen, NOT_PERMITTED),
+    (
+        State::MetricsOnly,
+        Answer::Permitted(1, 1, State::MetricsOnly),
+    ),
+    (State::HalfOpen, Answer::Permitted(1, 1, State::HalfOpen)),
+    (State::Open, NOT_PERMITTED),
+    (State::Closed, Answer::Permitted(1, 1, State::Closed)),
+];
+
+/// The breaker is moved to one state and then to another, in which a call is answered so.
+fn is_reached(rt: &impl Abort, alloc: Global, from: State, state: State, answer: Answer) {
+    play(
+        rt,
+        alloc,
+        ConfigParts::DEFAULT,
+        &[
+            Step::Call(0, Wish::Move(from), Answer::Moved(from, 2)),
+            Step::Call(7, Wish::Move(state), Answer::Moved(state, 3)),
+            Step::Call(7, Wish::Acquire, answer),
+        ],
+    );
+}
+
+/// A state is reached from each of these.
+fn is_reached_from_each(
+    rt: &impl Abort,
+    alloc: Global,
+    states: &[(State, Answer)],
+    state: State,
+    answer: Answer,
+) {
+    for (from, _) in states {
+        is_reached(rt, alloc, *from, state, answer);
     }
-    let full = refused(RefusalNumber::VersionsFull);
-    let owner = Arc::try_clone(&program)?;
-    same(&rt, apply(&mut book, 1, 9, Event::Install(owner)), full);
-    same(&rt, book.last_number(), 255);
-    let entries = book.cut().expect(&rt, "no open ticket");
-    assert_eq!(rt; entries.len(), 255);
-    same(&rt, read(&book, 0).version, 256);
-    let next = Reply::Installed {
-        version: 257,
-        budget: 2,
-    };
-    same(&rt, apply(&mut book, 1, 0, Event::Install(program)), next);
-    Ok(())
+}
+
+/// Each of these states is reached from each of them.
+fn are_reached(rt: &impl Abort, alloc: Global, states: &[(State, Answer)]) {
+    for (state, answer) in states {
+        is_reached_from_each(rt, alloc, states, *state, *answer);
+    }
 }
 
 #[test]
 fn every_state_is_reached(rt: HostRuntime) {
-    let refusal = refused(RefusalNumber::CallNotPermitted);
-    let rows = [
-        (State::Disabled, permitted(1, State::Disabled)),
-        (State::ForcedOpen, refusal),
-        (State::MetricsOnly, permitted(1, State::MetricsOnly)),
-        (State::HalfOpen, permitted(1, State::HalfOpen)),
-        (State::Open, refusal),
-        (State::Closed, permitted(1, State::Closed)),
-    ];
-    for (state, answer) in rows {
-        for (from, _) in rows {
-            let mut book = book(&rt, rt.alloc(), ConfigParts::DEFAULT);
-            apply(&mut book, 1, 0, Event::Move(from));
-            let moved = Reply::Moved { state, period: 3 };
-            same(&rt, apply(&mut book, 1, 7, Event::Move(state)), moved);
-            same(&rt, apply(&mut book, 1, 7, Event::Acquire), answer);
-        }
-    }
+    are_reached(&rt, rt.alloc(), &STATES);
 }
 
 #[test]
 fn a_disabled_breaker_counts_nothing(rt: HostRuntime) {
-    let mut book = book(&rt, rt.alloc(), small_window(1, 1));
-    apply(&mut book, 1, 0, Event::Move(State::Disabled));
-    apply(&mut book, 1, 0, Event::Acquire);
-    let off = finished(Fate::Off, Verdict::Failure, State::Disabled);
-    same(&rt, report(&rt, &mut book, 0, 1, 500), off);
-    same(&rt, read(&book, 0).total, 0);
+    play(
+        &rt,
+        rt.alloc(),
+        small_window(1, 1),
+        &[
+            Step::Call(
+                0,
+                Wish::Move(State::Disabled),
+                Answer::Moved(State::Disabled, 2),
+            ),
+            Step::Call(0, Wish::Acquire, Answer::Permitted(1, 1, State::Disabled)),
+            Step::Call(
+                0,
+                Wish::Report(1, 500),
+                Answer::Finished(Fate::Off, Verdict::Failure, State::Disabled),
+            ),
+            Step::Stands(
+                0,
+                Reading {
+                    state: State::Disabled,
+                    period: 2,
+                    entries: 3,
+                    ..FRESH
+                },
+            ),
+        ],
+    );
 }
 
 #[test]
 fn a_measuring_breaker_stays(rt: HostRuntime) {
-    let mut book = book(&rt, rt.alloc(), small_window(1, 1));
-    apply(&mut book, 1, 0, Event::Move(State::MetricsOnly));
-    apply(&mut book, 1, 0, Event::Acquire);
-    let counted = finished(Fate::Recorded, Verdict::Failure, State::MetricsOnly);
-    same(&rt, report(&rt, &mut book, 0, 1, 500), counted);
-    let reading = read(&book, 0);
-    same(&rt, (reading.total, reading.failure_rate), (1, Some(100)));
+    play(
+        &rt,
+        rt.alloc(),
+        small_window(1, 1),
+        &[
+            Step::Call(
+                0,
+                Wish::Move(State::MetricsOnly),
+                Answer::Moved(State::MetricsOnly, 2),
+            ),
+            Step::Call(
+                0,
+                Wish::Acquire,
+                Answer::Permitted(1, 1, State::MetricsOnly),
+            ),
+            Step::Call(
+                0,
+                Wish::Report(1, 500),
+                Answer::Finished(Fate::Recorded, Verdict::Failure, State::MetricsOnly),
+            ),
+            Step::Stands(
+                0,
+                Reading {
+                    state: State::MetricsOnly,
+                    period: 2,
+                    total: 1,
+                    failed: 1,
+                    failure_rate: Some(100),
+                    slow_rate: Some(0),
+                    entries: 3,
+                    ..FRESH
+                },
+            ),
+        ],
+    );
 }
 
 #[test]
 fn a_reset_forgets_notes_and_refusals(rt: HostRuntime) {
-    let mut book = book(&rt, rt.alloc(), ConfigParts::DEFAULT);
-    apply(&mut book, 1, 0, Event::Acquire);
-    report(&rt, &mut book, 0, 1, 500);
-    apply(&mut book, 1, 0, Event::Move(State::ForcedOpen));
-    apply(&mut book, 1, 0, Event::Acquire);
-    same(&rt, read(&book, 0).not_permitted, 1);
-    let closed = Reply::Moved {
-        state: State::Closed,
-        period: 3,
-    };
-    same(&rt, apply(&mut book, 1, 0, Event::Reset), closed);
-    let reading = read(&book, 0);
-    same(&rt, (reading.total, reading.not_permitted), (0, 0));
+    play(
+        &rt,
+        rt.alloc(),
+        ConfigParts::DEFAULT,
+        &[
+            Step::Call(0, Wish::Acquire, Answer::Permitted(1, 1, State::Closed)),
+            Step::Call(0, Wish::Report(1, 500), FAILURE),
+            Step::Call(
+                0,
+                Wish::Move(State::ForcedOpen),
+                Answer::Moved(State::ForcedOpen, 2),
+            ),
+            Step::Call(0, Wish::Acquire, NOT_PERMITTED),
+            Step::Stands(
+                0,
+                Reading {
+                    state: State::ForcedOpen,
+                    period: 2,
+                    not_permitted: 1,
+                    entries: 4,
+                    ..FRESH
+                },
+            ),
+            Step::Call(0, Wish::Reset, Answer::Moved(State::Closed, 3)),
+            Step::Stands(
+                0,
+                Reading {
+                    period: 3,
+                    entries: 5,
+                    ..FRESH
+                },
+            ),
+        ],
+    );
+}
+
+/// How a service stands that counts one failure in two entries.
+const ONE_FAILED: Reading = Reading {
+    total: 1,
+    failed: 1,
+    entries: 2,
+    ..FRESH
+};
+
+/// How a service stands that counts none in two entries.
+const NONE_COUNTED: Reading = Reading {
+    entries: 2,
+    ..FRESH
+};
+
+/// Parts of a time window of so many seconds, with this minimum.
+fn seconds(size: u64, minimum: u64) -> ConfigParts {
+    let mut parts = small_window(size, minimum);
+    parts.sliding_window_type = SlidingWindowType::TimeBased;
+    parts
 }
 
 #[test]
 fn a_time_window_has_its_last_seconds(rt: HostRuntime) {
-    let mut parts = small_window(10, 100);
-    parts.sliding_window_type = SlidingWindowType::TimeBased;
-    let mut book = book(&rt, rt.alloc(), parts);
-    apply(&mut book, 1, 1000, Event::Acquire);
-    report(&rt, &mut book, 1000, 1, 500);
-    for (moment, total) in [(0, 1), (1000, 1), (10_999, 1), (11_000, 0), (u64::MAX, 0)] {
-        same_at(&rt, read(&book, moment).total, total, &moment);
-    }
+    play(
+        &rt,
+        rt.alloc(),
+        seconds(10, 100),
+        &[
+            Step::Call(1000, Wish::Acquire, Answer::Permitted(1, 1, State::Closed)),
+            Step::Call(1000, Wish::Report(1, 500), FAILURE),
+            Step::Stands(0, ONE_FAILED),
+            Step::Stands(1000, ONE_FAILED),
+            Step::Stands(10_999, ONE_FAILED),
+            Step::Stands(11_000, NONE_COUNTED),
+            Step::Stands(u64::MAX, NONE_COUNTED),
+        ],
+    );
+}
+
+/// Two calls fail, the second one at this moment: the state after that.
+fn is_decided(rt: &impl Abort, alloc: Global, moment: u64, state: State) {
+    let last = Answer::Finished(Fate::Recorded, Verdict::Failure, state);
+    play(
+        rt,
+        alloc,
+        seconds(1, 2),
+        &[
+            Step::Call(0, Wish::Acquire, Answer::Permitted(1, 1, State::Closed)),
+            Step::Call(0, Wish::Acquire, Answer::Permitted(2, 1, State::Closed)),
+            Step::Call(0, Wish::Report(1, 500), FAILURE),
+            Step::Call(moment, Wish::Report(2, 500), last),
+        ],
+    );
 }
 
 #[test]
 fn a_time_window_decides_by_its_last_seconds(rt: HostRuntime) {
-    for (moment, state) in [(999, State::Open), (1000, State::Closed)] {
-        let mut parts = small_window(1, 2);
-        parts.sliding_window_type = SlidingWindowType::TimeBased;
-        let mut book = book(&rt, rt.alloc(), parts);
-        apply(&mut book, 1, 0, Event::Acquire);
-        apply(&mut book, 1, 0, Event::Acquire);
-        report(&rt, &mut book, 0, 1, 500);
-        let last = finished(Fate::Recorded, Verdict::Failure, state);
-        same_at(&rt, report(&rt, &mut book, moment, 2, 500), last, &moment);
-    }
+    is_decided(&rt, rt.alloc(), 999, State::Open);
+    is_decided(&rt, rt.alloc(), 1000, State::Closed);
 }
 
 #[test]
 fn a_cut_hands_out_all_entries(rt: HostRuntime) {
-    let mut book = book(&rt, rt.alloc(), ConfigParts::DEFAULT);
-    apply(&mut book, 1, 0, Event::Acquire);
-    same(&rt, book.cut().err(), Some(RefusalNumber::TicketsOpen));
-    same(&rt, book.last_number(), 1);
-    report(&rt, &mut book, 1, 1, 200);
-    let entries = book.cut().expect(&rt, "no open ticket");
-    assert_eq!(rt; entries.len(), 2);
-    same(&rt, (entries[1].number(), entries[1].moment()), (2, 1));
-    let reading = read(&book, 0);
-    same(
+    play(
         &rt,
-        (reading.entries, reading.period, reading.total),
-        (2, 2, 0),
+        rt.alloc(),
+        ConfigParts::DEFAULT,
+        &[
+            Step::Call(0, Wish::Acquire, Answer::Permitted(1, 1, State::Closed)),
+            Step::CutFails(RefusalNumber::TicketsOpen),
+            Step::LastNumber(1),
+            Step::Call(1, Wish::Report(1, 200), SUCCESS),
+            Step::Cut(2, 2, 1),
+            Step::Stands(
+                0,
+                Reading {
+                    period: 2,
+                    entries: 2,
+                    ..FRESH
+                },
+            ),
+            Step::Entries(0, 0),
+            Step::CallFrom(3, 0, Wish::Acquire, Answer::Permitted(2, 1, State::Closed)),
+            Step::LastEntry(
+                3,
+                3,
+                1,
+                Wish::Acquire,
+                Answer::Permitted(2, 1, State::Closed),
+            ),
+            Step::Call(1, Wish::Report(1, 200), SPENT),
+        ],
     );
-    assert_eq!(rt; book.entries(0).len(), 0);
-    same(
-        &rt,
-        apply(&mut book, 3, 0, Event::Acquire),
-        permitted(2, State::Closed),
-    );
-    let last = book.entries(3);
-    assert_eq!(rt; last.len(), 1);
-    same(&rt, (last[0].number(), last[0].moment()), (3, 1));
-    let spent = refused(RefusalNumber::TicketSpent);
-    same(&rt, report(&rt, &mut book, 1, 1, 200), spent);
 }

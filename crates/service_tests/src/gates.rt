@@ -2,18 +2,16 @@
 ghost use Rattle.std.specs.Prelude.{◌≡◌};
 
 use crate::checks::{is_true, same};
-use crate::desk_fixtures::{Caller, OpenGate, Wish, ask, is_entry, open_desk, permitted};
-use book::{Book, ConfigParts, Fate, Reply, State};
-use bpf_run::Verdict;
+use crate::desk_fixtures::{Caller, OpenGate, ask, close, open_desk};
+use crate::wishes::{Answer, FAILURE, SPENT, Wish, is_entry, reply};
+use book::{Book, ConfigParts, Reply, State};
 use desk::{Desk, Gate, Seat};
-use refusals::RefusalNumber;
 use std::alloc::{AllocError, Global};
 use std::marker::Brand;
 use std::process::Abort;
 use std::sync::Wait;
 use std::sync::atomic::{AtomicU64, Ordering};
 use std::sync::ledger::{Blank, Ledger};
-use std::test::Fail;
 use std::thread;
 use std::thread::Threads;
 
@@ -186,83 +184,105 @@ fn hold_and_overtake<
 }
 
 /// Closes a desk of one service and two seats.
-fn close<L: Ledger, M: Ledger>(
+fn close_both<L: Ledger, M: Ledger>(
     rt: &impl Abort,
     alloc: Global,
     desk: Desk<L, M>,
     seats: (Seat<L>, Seat<L>),
-) -> Result<Book, Fail> {
+) -> Book {
     let count = seats.0.count().saturating_add(seats.1.count());
-    let seats = Vec::from_array(alloc, [seats.0, seats.1])?;
-    let Ok(mut books) = desk.close(alloc, seats) else {
-        return Err(Fail::from("all seats are given"));
-    };
-    assert_eq!(rt; books.len(), 1);
+    let seats = Vec::from_array(alloc, [seats.0, seats.1]).expect(rt, "ample memory");
+    let mut books = close(rt, alloc, desk, seats);
+    same(rt, books.len(), 1);
     let book = books.pop().expect(rt, "one book");
     same(rt, book.last_number(), count);
-    Ok(book)
+    book
 }
 
-/// The entry of this number is that of this call.
-fn check_entry(
-    rt: &impl Abort,
-    book: &Book,
-    number: u64,
-    seat: u32,
-    wish: Wish,
-    moment: u64,
-    reply: Reply,
-) {
+/// An entry: its number, its seat, and what that asked for, at which moment, with its answer.
+type Entered = (u64, u32, Wish, u64, Answer);
+
+/// A journal's entry is this one.
+fn check_entry(rt: &impl Abort, book: &Book, entered: Entered) {
+    let (number, seat, wish, moment, answer) = entered;
     let entries = book.entries(number);
     assert!(rt; !entries.is_empty());
     same(rt, entries[0].number(), number);
-    is_true(rt, is_entry(rt, &entries[0], seat, wish, moment, reply));
+    is_true(
+        rt,
+        is_entry(rt, &entries[0], seat, wish, moment, reply(answer)),
+    );
 }
 
-const RECORDED: Reply = Reply::Finished {
-    fate: Fate::Recorded,
-    verdict: Verdict::Failure,
-    steps: 6,
-    version: 1,
-    state: State::Closed,
-};
+/// A journal has these entries.
+fn check_entries(rt: &impl Abort, book: &Book, entries: &[Entered]) {
+    for entered in entries {
+        check_entry(rt, book, *entered);
+    }
+}
 
-/// Two seats, of which each has a ticket where it is asked for.
+/// A seat gets the ticket of this number.
+fn get_ticket<L: Ledger, M: Ledger, R: Wait + Abort>(
+    rt: &R,
+    alloc: Global,
+    desk: &Desk<L, M>,
+    seat: &mut Seat<L>,
+    number: u64,
+) {
+    let found = ask(rt, alloc, desk, seat, "pay", 0, Wish::Acquire, &OpenGate);
+    same(
+        rt,
+        found,
+        reply(Answer::Permitted(number, 1, State::Closed)),
+    );
+}
+
+/// Two seats, of which the first has ticket 1, and the second ticket 2 where there are two tickets.
 fn two_seats<L: Ledger, M: Ledger, R: Wait + Abort>(
     rt: &R,
     alloc: Global,
     desk: &mut Desk<L, M>,
-    tickets: (bool, bool),
+    has_two_tickets: bool,
 ) -> (Seat<L>, Seat<L>) {
     let mut first = desk.sit().expect(rt, "a first seat");
     let mut second = desk.sit().expect(rt, "a second seat");
-    if tickets.0 {
-        let ticket = ask(
-            rt,
-            alloc,
-            desk,
-            &mut first,
-            "pay",
-            0,
-            Wish::Acquire,
-            &OpenGate,
-        );
-        same(rt, ticket, permitted(1, 1, State::Closed));
-    }
-    if tickets.1 {
-        let ticket = ask(
-            rt,
-            alloc,
-            desk,
-            &mut second,
-            "pay",
-            0,
-            Wish::Acquire,
-            &OpenGate,
-        );
-        same(rt, ticket, permitted(2, 1, State::Closed));
+    get_ticket(rt, alloc, desk, &mut first, 1);
+    if has_two_tickets {
+        get_ticket(rt, alloc, desk, &mut second, 2);
     }
     (first, second)
+}
+
+/// The first seat's report is held while the second seat makes a call.
+#[derive(Clone, Copy)]
+struct Overtaking<'a> {
+    has_two_tickets: bool,
+    wishes: (Wish, Wish),
+    answers: (Answer, Answer),
+    /// The entries that there are then, of which the last one is the journal's.
+    entries: &'a [Entered],
+    last_number: u64,
+}
+
+/// Holds a report at a new desk, and compares what comes of that.
+fn check_overtaking<
+    L: Ledger + Send + Sync,
+    M: Ledger + Send + Sync,
+    R: Threads + Wait + Abort + Sync,
+>(rt: &R, alloc: Global, given: Blank, entries: Blank, wanted: &Overtaking<'_>)
+    requires seats_name { given.name ≡ L.name }
+    requires seats_parts { (given.parts ≡ L.parts) × (L.parts ≡ 129) }
+    requires entries_name { entries.name ≡ M.name }
+    requires entries_parts { (entries.parts ≡ M.parts) × (M.parts ≡ 65) }
+{
+    let mut desk = open_desk::<L, M, R>(rt, alloc, given, entries, &["pay"], ConfigParts::DEFAULT);
+    let seats = two_seats(rt, alloc, &mut desk, wanted.has_two_tickets);
+    let both = hold_and_overtake(rt, alloc, &desk, seats, wanted.wishes).expect(rt, "ample memory");
+    same(rt, both.first, reply(wanted.answers.0));
+    same(rt, both.second, reply(wanted.answers.1));
+    let book = close_both(rt, alloc, desk, both.seats);
+    check_entries(rt, &book, wanted.entries);
+    same(rt, book.last_number(), wanted.last_number);
 }
 
 /// The report of ticket 2 is answered while that of ticket 1 is held: outcomes are judged under no lock.
@@ -270,32 +290,33 @@ fn overtake_another_ticket<
     L: Ledger + Send + Sync,
     M: Ledger + Send + Sync,
     R: Threads + Wait + Abort + Sync,
->(rt: &R, alloc: Global, given: Blank, entries: Blank) -> Result<(), Fail>
+>(rt: &R, alloc: Global, given: Blank, entries: Blank)
     requires seats_name { given.name ≡ L.name }
     requires seats_parts { (given.parts ≡ L.parts) × (L.parts ≡ 129) }
     requires entries_name { entries.name ≡ M.name }
     requires entries_parts { (entries.parts ≡ M.parts) × (M.parts ≡ 65) }
 {
-    let mut desk = open_desk::<L, M, R>(rt, alloc, given, entries, &["pay"], ConfigParts::DEFAULT)?;
-    let seats = two_seats(rt, alloc, &mut desk, (true, true));
-    let wishes = (Wish::Report(1, 500), Wish::Report(2, 500));
-    let both = hold_and_overtake(rt, alloc, &desk, seats, wishes)?;
-    same(rt, (both.first, both.second), (RECORDED, RECORDED));
-    let book = close(rt, alloc, desk, both.seats)?;
-    check_entry(rt, &book, 3, 2, wishes.1, 2, RECORDED);
-    check_entry(rt, &book, 4, 1, wishes.0, 2, RECORDED);
-    same(rt, book.last_number(), 4);
-    Ok(())
+    let wanted = Overtaking {
+        has_two_tickets: true,
+        wishes: (Wish::Report(1, 500), Wish::Report(2, 500)),
+        answers: (FAILURE, FAILURE),
+        entries: &[
+            (3, 2, Wish::Report(2, 500), 2, FAILURE),
+            (4, 1, Wish::Report(1, 500), 2, FAILURE),
+        ],
+        last_number: 4,
+    };
+    check_overtaking::<L, M, R>(rt, alloc, given, entries, &wanted);
 }
 
 #[test]
-fn reports_overtake_one_another(rt: HostRuntime) -> Result<(), Fail> {
+fn reports_overtake_one_another(rt: HostRuntime) {
     overtake_another_ticket::<Brand, Brand, HostRuntime>(
         &rt,
         rt.alloc(),
         Blank::new(129),
         Blank::new(65),
-    )
+    );
 }
 
 /// Two reports of ticket 1: the one that finishes first is recorded.
@@ -303,33 +324,33 @@ fn overtake_the_same_ticket<
     L: Ledger + Send + Sync,
     M: Ledger + Send + Sync,
     R: Threads + Wait + Abort + Sync,
->(rt: &R, alloc: Global, given: Blank, entries: Blank) -> Result<(), Fail>
+>(rt: &R, alloc: Global, given: Blank, entries: Blank)
     requires seats_name { given.name ≡ L.name }
     requires seats_parts { (given.parts ≡ L.parts) × (L.parts ≡ 129) }
     requires entries_name { entries.name ≡ M.name }
     requires entries_parts { (entries.parts ≡ M.parts) × (M.parts ≡ 65) }
 {
-    let mut desk = open_desk::<L, M, R>(rt, alloc, given, entries, &["pay"], ConfigParts::DEFAULT)?;
-    let seats = two_seats(rt, alloc, &mut desk, (true, false));
-    let wishes = (Wish::Report(1, 500), Wish::Report(1, 500));
-    let both = hold_and_overtake(rt, alloc, &desk, seats, wishes)?;
-    let spent = Reply::Refused(RefusalNumber::TicketSpent);
-    same(rt, (both.first, both.second), (spent, RECORDED));
-    let book = close(rt, alloc, desk, both.seats)?;
-    check_entry(rt, &book, 2, 2, wishes.1, 2, RECORDED);
-    check_entry(rt, &book, 3, 1, wishes.0, 2, spent);
-    same(rt, book.last_number(), 3);
-    Ok(())
+    let wanted = Overtaking {
+        has_two_tickets: false,
+        wishes: (Wish::Report(1, 500), Wish::Report(1, 500)),
+        answers: (SPENT, FAILURE),
+        entries: &[
+            (2, 2, Wish::Report(1, 500), 2, FAILURE),
+            (3, 1, Wish::Report(1, 500), 2, SPENT),
+        ],
+        last_number: 3,
+    };
+    check_overtaking::<L, M, R>(rt, alloc, given, entries, &wanted);
 }
 
 #[test]
-fn one_of_two_reports_is_recorded(rt: HostRuntime) -> Result<(), Fail> {
+fn one_of_two_reports_is_recorded(rt: HostRuntime) {
     overtake_the_same_ticket::<Brand, Brand, HostRuntime>(
         &rt,
         rt.alloc(),
         Blank::new(129),
         Blank::new(65),
-    )
+    );
 }
 
 /// A program is installed while a report is held: the report is judged by its ticket's version.
@@ -337,38 +358,40 @@ fn overtake_by_a_program<
     L: Ledger + Send + Sync,
     M: Ledger + Send + Sync,
     R: Threads + Wait + Abort + Sync,
->(rt: &R, alloc: Global, given: Blank, entries: Blank) -> Result<(), Fail>
+>(rt: &R, alloc: Global, given: Blank, entries: Blank)
     requires seats_name { given.name ≡ L.name }
     requires seats_parts { (given.parts ≡ L.parts) × (L.parts ≡ 129) }
     requires entries_name { entries.name ≡ M.name }
     requires entries_parts { (entries.parts ≡ M.parts) × (M.parts ≡ 65) }
 {
-    let mut desk = open_desk::<L, M, R>(rt, alloc, given, entries, &["pay"], ConfigParts::DEFAULT)?;
-    let seats = two_seats(rt, alloc, &mut desk, (true, false));
-    let wishes = (Wish::Report(1, 500), Wish::InstallIgnoring);
-    let both = hold_and_overtake(rt, alloc, &desk, seats, wishes)?;
-    let installed = Reply::Installed {
-        version: 2,
-        budget: 2,
+    let wanted = Overtaking {
+        has_two_tickets: false,
+        wishes: (Wish::Report(1, 500), Wish::InstallIgnoring),
+        answers: (FAILURE, Answer::Installed(2, 2)),
+        entries: &[
+            (
+                1,
+                1,
+                Wish::Acquire,
+                0,
+                Answer::Permitted(1, 1, State::Closed),
+            ),
+            (2, 2, Wish::InstallIgnoring, 2, Answer::Installed(2, 2)),
+            (3, 1, Wish::Report(1, 500), 2, FAILURE),
+        ],
+        last_number: 3,
     };
-    same(rt, (both.first, both.second), (RECORDED, installed));
-    let book = close(rt, alloc, desk, both.seats)?;
-    let ticket = permitted(1, 1, State::Closed);
-    check_entry(rt, &book, 1, 1, Wish::Acquire, 0, ticket);
-    check_entry(rt, &book, 2, 2, wishes.1, 2, installed);
-    check_entry(rt, &book, 3, 1, wishes.0, 2, RECORDED);
-    same(rt, book.last_number(), 3);
-    Ok(())
+    check_overtaking::<L, M, R>(rt, alloc, given, entries, &wanted);
 }
 
 #[test]
-fn tickets_keep_their_version_while_another_is_installed(rt: HostRuntime) -> Result<(), Fail> {
+fn tickets_keep_their_version_while_another_is_installed(rt: HostRuntime) {
     overtake_by_a_program::<Brand, Brand, HostRuntime>(
         &rt,
         rt.alloc(),
         Blank::new(129),
         Blank::new(65),
-    )
+    );
 }
 
 /// Two threads report ticket 1.
@@ -387,36 +410,35 @@ fn report_twice<L: Ledger + Send + Sync, M: Ledger + Send + Sync, R: Threads + W
     Ok(in_order(rt, answered))
 }
 
+/// Whether one of two replies is that the report was recorded, and the other that the ticket is spent.
+fn has_one_winner(first: Reply, second: Reply) -> bool {
+    let (recorded, spent) = (reply(FAILURE), reply(SPENT));
+    first == recorded && second == spent || first == spent && second == recorded
+}
+
 /// Two reports of ticket 1 with nothing between them.
 fn race<L: Ledger + Send + Sync, M: Ledger + Send + Sync, R: Threads + Wait + Abort + Sync>(
     rt: &R,
     alloc: Global,
     given: Blank,
     entries: Blank,
-) -> Result<(), Fail>
+)
     requires seats_name { given.name ≡ L.name }
     requires seats_parts { (given.parts ≡ L.parts) × (L.parts ≡ 129) }
     requires entries_name { entries.name ≡ M.name }
     requires entries_parts { (entries.parts ≡ M.parts) × (M.parts ≡ 65) }
 {
-    let mut desk = open_desk::<L, M, R>(rt, alloc, given, entries, &["pay"], ConfigParts::DEFAULT)?;
-    let seats = two_seats(rt, alloc, &mut desk, (true, false));
-    let both = report_twice(rt, alloc, &desk, seats)?;
-    let spent = Reply::Refused(RefusalNumber::TicketSpent);
-    let replies = (both.first, both.second);
-    is_true(
-        rt,
-        replies == (RECORDED, spent) || replies == (spent, RECORDED),
-    );
-    let book = close(rt, alloc, desk, both.seats)?;
-    is_true(rt, book.last_number() == 2 || book.last_number() == 3);
-    Ok(())
+    let mut desk = open_desk::<L, M, R>(rt, alloc, given, entries, &["pay"], ConfigParts::DEFAULT);
+    let seats = two_seats(rt, alloc, &mut desk, false);
+    let both = report_twice(rt, alloc, &desk, seats).expect(rt, "ample memory");
+    is_true(rt, has_one_winner(both.first, both.second));
+    let book = close_both(rt, alloc, desk, both.seats);
+    is_true(rt, matches!(book.last_number(), 2 | 3));
 }
 
 #[test]
-fn races_have_one_winner(rt: HostRuntime) -> Result<(), Fail> {
+fn races_have_one_winner(rt: HostRuntime) {
     for _ in 0..1000 {
-        race::<Brand, Brand, HostRuntime>(&rt, rt.alloc(), Blank::new(129), Blank::new(65))?;
+        race::<Brand, Brand, HostRuntime>(&rt, rt.alloc(), Blank::new(129), Blank::new(65));
     }
-    Ok(())
 }

@@ -21,6 +21,8 @@ mod events;
 #[cfg(test)]
 mod gates;
 #[cfg(test)]
+mod histories;
+#[cfg(test)]
 mod registries;
 #[cfg(test)]
 mod seats;
@@ -28,3 +30,5 @@ mod seats;
 mod sliding_windows;
 #[cfg(test)]
 mod threads;
+#[cfg(test)]
+mod wishes;

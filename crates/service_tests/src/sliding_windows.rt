@@ -1,8 +1,7 @@
 //! Windows by hand, and beside the plain filter over all notes.
-use crate::checks::{same, same_at};
-use std::alloc::Global;
+use crate::checks::same_at;
+use std::alloc::{AllocError, Global};
 use std::process::Abort;
-use std::test::Fail;
 use windows::{CountWindow, Note, TimeWindow, Totals, Window};
 
 fn totals(total: u64, failed: u64, slow: u64) -> Totals {
@@ -10,6 +9,30 @@ fn totals(total: u64, failed: u64, slow: u64) -> Totals {
         total,
         failed,
         slow,
+    }
+}
+
+/// What is done with a window, or read from it.
+#[derive(Clone, Copy)]
+enum Step {
+    /// At a moment a note is made, of a call that failed or not, and that was slow or not.
+    Note(u64, bool, bool),
+    /// At a moment so many notes count, of which so many failed and so many were slow.
+    Counts(u64, (u64, u64, u64)),
+    Clear,
+}
+
+/// Goes through the steps of a window.
+fn play<W: Window>(rt: &impl Abort, window: &mut W, steps: &[Step]) {
+    for (index, step) in steps.iter().enumerate() {
+        match *step {
+            Step::Note(moment, failed, slow) => note(rt, window, moment, failed, slow),
+            Step::Counts(moment, (total, failed, slow)) => {
+                let wanted = totals(total, failed, slow);
+                same_at(rt, window.totals(moment), wanted, index);
+            }
+            Step::Clear => window.clear(),
+        }
     }
 }
 
@@ -22,47 +45,58 @@ fn note<W: Window>(rt: &impl Abort, window: &mut W, moment: u64, failed: bool, s
 }
 
 #[test]
-fn the_last_notes_count(rt: HostRuntime) -> Result<(), Fail> {
-    let mut window = CountWindow::new(rt.alloc(), 2)?;
-    same(&rt, window.totals(0), totals(0, 0, 0));
-    note(&rt, &mut window, 1, true, false);
-    same(&rt, window.totals(1), totals(1, 1, 0));
-    note(&rt, &mut window, 1, false, true);
-    same(&rt, window.totals(9), totals(2, 1, 1));
-    note(&rt, &mut window, 2, true, true);
-    same(&rt, window.totals(u64::MAX), totals(2, 1, 2));
-    window.clear();
-    same(&rt, window.totals(2), totals(0, 0, 0));
-    Ok(())
+fn the_last_notes_count(rt: HostRuntime) {
+    let mut window = CountWindow::new(rt.alloc(), 2).expect(&rt, "ample memory");
+    play(
+        &rt,
+        &mut window,
+        &[
+            Step::Counts(0, (0, 0, 0)),
+            Step::Note(1, true, false),
+            Step::Counts(1, (1, 1, 0)),
+            Step::Note(1, false, true),
+            Step::Counts(9, (2, 1, 1)),
+            Step::Note(2, true, true),
+            Step::Counts(u64::MAX, (2, 1, 2)),
+            Step::Clear,
+            Step::Counts(2, (0, 0, 0)),
+        ],
+    );
 }
 
 #[test]
-fn the_last_seconds_count(rt: HostRuntime) -> Result<(), Fail> {
-    let mut window = TimeWindow::new(rt.alloc(), 3)?;
-    note(&rt, &mut window, 0, false, false);
-    note(&rt, &mut window, 1000, true, false);
-    note(&rt, &mut window, 2000, false, true);
-    for (moment, counted) in [
-        (2000, totals(3, 1, 1)),
-        (2999, totals(3, 1, 1)),
-        (3000, totals(2, 1, 1)),
-        (4000, totals(1, 0, 1)),
-        (5000, totals(0, 0, 0)),
-    ] {
-        same_at(&rt, window.totals(moment), counted, &moment);
-    }
-    window.clear();
-    same(&rt, window.totals(2000), totals(0, 0, 0));
-    Ok(())
+fn the_last_seconds_count(rt: HostRuntime) {
+    let mut window = TimeWindow::new(rt.alloc(), 3).expect(&rt, "ample memory");
+    play(
+        &rt,
+        &mut window,
+        &[
+            Step::Note(0, false, false),
+            Step::Note(1000, true, false),
+            Step::Note(2000, false, true),
+            Step::Counts(2000, (3, 1, 1)),
+            Step::Counts(2999, (3, 1, 1)),
+            Step::Counts(3000, (2, 1, 1)),
+            Step::Counts(4000, (1, 0, 1)),
+            Step::Counts(5000, (0, 0, 0)),
+            Step::Clear,
+            Step::Counts(2000, (0, 0, 0)),
+        ],
+    );
 }
 
 #[test]
-fn the_last_moment_counts(rt: HostRuntime) -> Result<(), Fail> {
-    let mut window = TimeWindow::new(rt.alloc(), 3600)?;
-    note(&rt, &mut window, 0, false, false);
-    note(&rt, &mut window, u64::MAX, false, false);
-    same(&rt, window.totals(u64::MAX), totals(1, 0, 0));
-    Ok(())
+fn the_last_moment_counts(rt: HostRuntime) {
+    let mut window = TimeWindow::new(rt.alloc(), 3600).expect(&rt, "ample memory");
+    play(
+        &rt,
+        &mut window,
+        &[
+            Step::Note(0, false, false),
+            Step::Note(u64::MAX, false, false),
+            Step::Counts(u64::MAX, (1, 0, 0)),
+        ],
+    );
 }
 
 /// The totals over the notes from a place on that are of a second or a later one.
@@ -84,7 +118,7 @@ fn first_second(seconds: u64, moment: u64) -> u64 {
 }
 
 /// Notes at moments that go up, by up to a second and a half or, one time in eight, by up to a minute.
-fn random_notes(alloc: Global, count: usize) -> Result<Vec<Note>, Fail> {
+fn random_notes(alloc: Global, count: usize) -> Result<Vec<Note>, AllocError> {
     let mut notes = Vec::new(alloc);
     let mut random: u64 = 7;
     let mut moment: u64 = 0;
@@ -104,36 +138,63 @@ fn random_notes(alloc: Global, count: usize) -> Result<Vec<Note>, Fail> {
     Ok(notes)
 }
 
-#[test]
-fn a_count_window_is_the_last_notes(rt: HostRuntime) -> Result<(), Fail> {
-    let notes = random_notes(rt.alloc(), 300)?;
-    let mut window = CountWindow::new(rt.alloc(), 17)?;
+/// A window counts of the notes so far those that the plain filter does.
+fn agrees<W: Window>(
+    rt: &impl Abort,
+    window: &W,
+    so_far: &[Note],
+    moment: u64,
+    first: usize,
+    second: u64,
+) {
+    let wanted = counted(so_far, first, second);
+    same_at(rt, window.totals(moment), wanted, (&moment, &first));
+}
+
+/// A count window of 17 notes agrees with the filter behind each note.
+fn counts_notes(rt: &impl Abort, window: &mut CountWindow, notes: &[Note]) {
     for (index, noted) in notes.iter().enumerate() {
-        note(&rt, &mut window, noted.moment, noted.failed, noted.slow);
+        note(rt, window, noted.moment, noted.failed, noted.slow);
         let so_far = &notes[..index + 1];
         let first = so_far.len().saturating_sub(17);
-        same_at(
-            &rt,
-            window.totals(noted.moment),
-            counted(so_far, first, 0),
-            &index,
-        );
+        agrees(rt, window, so_far, noted.moment, first, 0);
     }
-    Ok(())
 }
 
 #[test]
-fn a_time_window_is_the_notes_of_its_seconds(rt: HostRuntime) -> Result<(), Fail> {
-    let notes = random_notes(rt.alloc(), 300)?;
-    let mut window = TimeWindow::new(rt.alloc(), 17)?;
-    for (index, noted) in notes.iter().enumerate() {
-        note(&rt, &mut window, noted.moment, noted.failed, noted.slow);
-        let so_far = &notes[..index + 1];
-        for later in [0, 900, 5_000, 16_000, 100_000] {
-            let moment = noted.moment.saturating_add(later);
-            let wanted = counted(so_far, 0, first_second(17, moment));
-            same_at(&rt, window.totals(moment), wanted, (&index, &later));
-        }
+fn a_count_window_is_the_last_notes(rt: HostRuntime) {
+    let notes = random_notes(rt.alloc(), 300).expect(&rt, "ample memory");
+    let mut window = CountWindow::new(rt.alloc(), 17).expect(&rt, "ample memory");
+    counts_notes(&rt, &mut window, &notes);
+}
+
+/// A time window of 17 seconds agrees with the filter at a moment, and so long behind it.
+fn counts_later(
+    rt: &impl Abort,
+    window: &TimeWindow,
+    so_far: &[Note],
+    moment: u64,
+    delays: &[u64],
+) {
+    for delay in delays {
+        let later = moment.saturating_add(*delay);
+        agrees(rt, window, so_far, later, 0, first_second(17, later));
     }
-    Ok(())
+}
+
+/// A time window of 17 seconds agrees with the filter behind each note.
+fn counts_seconds(rt: &impl Abort, window: &mut TimeWindow, notes: &[Note]) {
+    for (index, noted) in notes.iter().enumerate() {
+        note(rt, window, noted.moment, noted.failed, noted.slow);
+        let so_far = &notes[..index + 1];
+        let delays = &[0, 900, 5_000, 16_000, 100_000];
+        counts_later(rt, window, so_far, noted.moment, delays);
+    }
+}
+
+#[test]
+fn a_time_window_is_the_notes_of_its_seconds(rt: HostRuntime) {
+    let notes = random_notes(rt.alloc(), 300).expect(&rt, "ample memory");
+    let mut window = TimeWindow::new(rt.alloc(), 17).expect(&rt, "ample memory");
+    counts_seconds(&rt, &mut window, &notes);
 }

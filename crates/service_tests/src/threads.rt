@@ -3,16 +3,15 @@
 ghost use Rattle.std.specs.Prelude.{◌≡◌};
 
 use crate::checks::{is_true, same};
-use crate::desk_fixtures::{Caller, OpenGate, Wish, ask, is_entry, open_desk};
+use crate::desk_fixtures::{Caller, OpenGate, ask, close_late, open_desk};
+use crate::wishes::{Wish, is_entry};
 use book::{Book, ConfigParts, Reply};
-use desk::{Desk, Seat, Unclosed};
-use refusals::RefusalNumber;
+use desk::{Desk, Seat};
 use std::alloc::{AllocError, Global};
 use std::marker::Brand;
 use std::process::Abort;
 use std::sync::Wait;
 use std::sync::ledger::{Blank, Ledger};
-use std::test::Fail;
 use std::thread;
 use std::thread::Threads;
 
@@ -24,12 +23,36 @@ struct Made {
     reply: Reply,
 }
 
-/// A seat, with the calls that it made on both services.
+/// The calls that a seat made on both services.
+#[derive(Drop)]
+struct Calls {
+    pay: Vec<Made>,
+    ship: Vec<Made>,
+}
+
+/// A seat, with its calls.
 #[derive(Drop)]
 struct Worked<L: Ledger> {
     seat: Seat<L>,
-    pay: Vec<Made>,
-    ship: Vec<Made>,
+    calls: Calls,
+}
+
+/// Makes a call.
+fn call<L: Ledger, M: Ledger, R: Wait + Abort>(
+    rt: &R,
+    alloc: Global,
+    desk: &Desk<L, M>,
+    seat: &mut Seat<L>,
+    name: &str,
+    moment: u64,
+    wish: Wish,
+) -> Made {
+    let reply = ask(rt, alloc, desk, seat, name, moment, wish, &OpenGate);
+    Made {
+        wish,
+        moment,
+        reply,
+    }
 }
 
 /// So many times a ticket and its report, by moments that differ from those of other seats.
@@ -44,34 +67,15 @@ fn make_calls<L: Ledger, M: Ledger, R: Wait + Abort>(
     let mut made = Vec::new(alloc);
     for round in 0..times {
         let moment = round as u64 * 10 + seat.number() as u64;
-        let acquired = ask(
-            rt,
-            alloc,
-            desk,
-            seat,
-            name,
-            moment,
-            Wish::Acquire,
-            &OpenGate,
-        );
-        let ticket = match acquired {
+        let acquired = call(rt, alloc, desk, seat, name, moment, Wish::Acquire);
+        let ticket = match acquired.reply {
             Reply::Permitted { ticket, .. } => ticket,
             _ => 0,
         };
         let wish = Wish::Report(ticket, 200);
-        let reported = ask(rt, alloc, desk, seat, name, moment + 5, wish, &OpenGate);
-        let first = Made {
-            wish: Wish::Acquire,
-            moment,
-            reply: acquired,
-        };
-        let second = Made {
-            wish,
-            moment: moment + 5,
-            reply: reported,
-        };
-        made.push(first).expect(rt, "ample memory");
-        made.push(second).expect(rt, "ample memory");
+        let reported = call(rt, alloc, desk, seat, name, moment + 5, wish);
+        made.push(acquired).expect(rt, "ample memory");
+        made.push(reported).expect(rt, "ample memory");
     }
     made
 }
@@ -85,7 +89,8 @@ fn work<L: Ledger, M: Ledger, R: Wait + Abort>(
     let Caller { desk, mut seat } = caller;
     let pay = make_calls(rt, alloc, desk, &mut seat, "pay", 100);
     let ship = make_calls(rt, alloc, desk, &mut seat, "ship", 50);
-    Worked { seat, pay, ship }
+    let calls = Calls { pay, ship };
+    Worked { seat, calls }
 }
 
 /// Four threads, with what each of them did, in the order of their seats.
@@ -119,11 +124,59 @@ fn check_calls(rt: &impl Abort, book: &Book, seat: u32, made: &[Made]) {
     same(rt, next, made.len());
 }
 
-/// The journals of both services have the calls of a seat.
-fn check_seat(rt: &impl Abort, books: &[Book], seat: u32, pay: &[Made], ship: &[Made]) {
+/// The journals of both services have the calls of each seat.
+fn check_books(rt: &impl Abort, books: &[Book], seats: &[u32], made: &[Calls]) {
     assert_eq!(rt; books.len(), 2);
-    check_calls(rt, &books[0], seat, pay);
-    check_calls(rt, &books[1], seat, ship);
+    same(rt, books[0].last_number(), 800);
+    same(rt, books[1].last_number(), 400);
+    same(rt, made.len(), seats.len());
+    for (seat, calls) in seats.iter().zip(made) {
+        check_calls(rt, &books[0], *seat, &calls.pay);
+        check_calls(rt, &books[1], *seat, &calls.ship);
+    }
+}
+
+/// How many entries a seat made, and how many both services have.
+fn check_counts<L: Ledger, M: Ledger, R: Wait + Abort>(
+    rt: &R,
+    desk: &Desk<L, M>,
+    seat: &mut Seat<L>,
+    services: &[(&str, u64)],
+) {
+    same(rt, seat.count(), 300);
+    for (name, entries) in services {
+        let service = desk.find(name).expect(rt, "a service of the desk");
+        same(rt, desk.read(rt, seat, service, 0).entries, *entries);
+    }
+}
+
+/// Four seats of a new desk.
+fn four_seats<L: Ledger, M: Ledger>(
+    rt: &impl Abort,
+    alloc: Global,
+    desk: &mut Desk<L, M>,
+) -> Vec<Seat<L>> {
+    let mut seats = Vec::new(alloc);
+    for _ in 0..4 {
+        let seat = desk.sit().expect(rt, "a seat that is left");
+        seats.push(seat).expect(rt, "ample memory");
+    }
+    seats
+}
+
+/// The seats, and the calls of each.
+fn apart<L: Ledger>(
+    rt: &impl Abort,
+    alloc: Global,
+    worked: Vec<Worked<L>>,
+) -> (Vec<Seat<L>>, Vec<Calls>) {
+    let mut seats = Vec::new(alloc);
+    let mut made = Vec::new(alloc);
+    for Worked { seat, calls } in worked {
+        seats.push(seat).expect(rt, "ample memory");
+        made.push(calls).expect(rt, "ample memory");
+    }
+    (seats, made)
 }
 
 /// Four threads, and a desk that is closed once all four seats are back.
@@ -131,7 +184,7 @@ fn call_from_four_threads<
     L: Ledger + Send + Sync,
     M: Ledger + Send + Sync,
     R: Threads + Wait + Abort + Sync,
->(rt: &R, alloc: Global, given: Blank, entries: Blank) -> Result<(), Fail>
+>(rt: &R, alloc: Global, given: Blank, entries: Blank)
     requires seats_name { given.name ≡ L.name }
     requires seats_parts { (given.parts ≡ L.parts) × (L.parts ≡ 129) }
     requires entries_name { entries.name ≡ M.name }
@@ -144,69 +197,22 @@ fn call_from_four_threads<
         entries,
         &["pay", "ship"],
         ConfigParts::DEFAULT,
-    )?;
-    let mut seats = Vec::new(alloc);
-    for _ in 0..4 {
-        seats.push(desk.sit().expect(rt, "a seat that is left"))?;
-    }
-    let mut worked = work_at_once(rt, alloc, &desk, seats)?;
-    assert_eq!(rt; worked.len(), 4);
-    let Worked {
-        seat: seat_d,
-        pay: pay_d,
-        ship: ship_d,
-    } = worked.pop().expect(rt, "a fourth");
-    let Worked {
-        seat: seat_c,
-        pay: pay_c,
-        ship: ship_c,
-    } = worked.pop().expect(rt, "a third");
-    let Worked {
-        seat: seat_b,
-        pay: pay_b,
-        ship: ship_b,
-    } = worked.pop().expect(rt, "a second");
-    let Worked {
-        seat: mut seat_a,
-        pay: pay_a,
-        ship: ship_a,
-    } = worked.pop().expect(rt, "a first");
-    for (name, entries) in [("pay", 800), ("ship", 400)] {
-        let service = desk.find(name).expect(rt, "a service of the desk");
-        same(rt, desk.read(rt, &mut seat_a, service, 0).entries, entries);
-    }
-    same(rt, seat_a.count(), 300);
-    let three = Vec::from_array(alloc, [seat_a, seat_b, seat_c])?;
-    let Err(unclosed) = desk.close(alloc, three) else {
-        return Err(Fail::from("a seat is missing"));
-    };
-    same(rt, unclosed.number, RefusalNumber::SeatsMissing);
-    let Unclosed {
-        desk,
-        mut seats,
-        ..
-    } = unclosed;
-    assert_eq!(rt; seats.len(), 3);
-    seats.push(seat_d)?;
-    let Ok(books) = desk.close(alloc, seats) else {
-        return Err(Fail::from("all seats are given"));
-    };
-    assert_eq!(rt; books.len(), 2);
-    same(rt, books[0].last_number(), 800);
-    same(rt, books[1].last_number(), 400);
-    check_seat(rt, &books, 1, &pay_a, &ship_a);
-    check_seat(rt, &books, 2, &pay_b, &ship_b);
-    check_seat(rt, &books, 3, &pay_c, &ship_c);
-    check_seat(rt, &books, 4, &pay_d, &ship_d);
-    Ok(())
+    );
+    let seats = four_seats(rt, alloc, &mut desk);
+    let worked = work_at_once(rt, alloc, &desk, seats).expect(rt, "ample memory");
+    let (mut seats, made) = apart(rt, alloc, worked);
+    assert!(rt; !seats.is_empty());
+    check_counts(rt, &desk, &mut seats[0], &[("pay", 800), ("ship", 400)]);
+    let books = close_late(rt, alloc, desk, seats);
+    check_books(rt, &books, &[1, 2, 3, 4], &made);
 }
 
 #[test]
-fn four_threads_make_all_entries(rt: HostRuntime) -> Result<(), Fail> {
+fn four_threads_make_all_entries(rt: HostRuntime) {
     call_from_four_threads::<Brand, Brand, HostRuntime>(
         &rt,
         rt.alloc(),
         Blank::new(129),
         Blank::new(65),
-    )
+    );
 }
