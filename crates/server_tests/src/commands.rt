@@ -1,5 +1,5 @@
 //! The lines that commands print, and the statuses that they end with.
-use crate::checks::{same, same_at};
+use crate::checks::same_at;
 use counted_io::Counted;
 use sidecar_commands::Status;
 use std::alloc::Global;
@@ -37,7 +37,7 @@ pub(crate) fn ends(
     input: &[u8],
     status: u8,
     printed: &str,
-) -> Result<(), Fail> {
+) {
     let mut reader = input;
     let mut out = Vec::new(alloc);
     let mut err = Vec::new(alloc);
@@ -46,7 +46,24 @@ pub(crate) fn ends(
     same_at(rt, out.as_slice(), printed.as_bytes(), &words);
     same_at(rt, err.as_slice(), usage.as_bytes(), &words);
     same_at(rt, found, status, &words);
-    Ok(())
+}
+
+/// A command with a program and its input, the status, and what is printed.
+type Run<'a> = (&'a str, &'a str, &'a [u8], u8, &'a str);
+
+/// Commands with a program end so.
+fn are_run(rt: &impl Abort, alloc: Global, rows: &[Run<'_>]) {
+    for row in rows {
+        let (name, program, input, status, printed) = *row;
+        ends(rt, alloc, &[name, program], input, status, printed);
+    }
+}
+
+/// That each of these words is answered with the usage.
+pub(crate) fn are_wrong(rt: &impl Abort, alloc: Global, input: &[u8], rows: &[&[&str]]) {
+    for words in rows {
+        ends(rt, alloc, words, input, 2, "");
+    }
 }
 
 /// A reader that always fails.
@@ -74,138 +91,135 @@ impl Write for Full {
 }
 
 #[test]
-fn programs_are_verified(rt: HostRuntime) -> Result<(), Fail> {
-    for (program, status, printed) in [
-        (BY_STATUS, 0, "accepted budget=6 slots=8\n"),
-        (
-            "b7000000030000009500000000000000",
-            1,
-            "refused 22 AnswerRange slot 1\n",
-        ),
-        ("", 1, "refused 1 Length slot 0\n"),
-        ("9g", 1, "refused 46 BadHex\n"),
-        ("9", 1, "refused 46 BadHex\n"),
-    ] {
-        ends(&rt, rt.alloc(), &["verify", program], b"", status, printed)?;
-    }
-    Ok(())
-}
-
-#[test]
-fn outcomes_are_judged(rt: HostRuntime) -> Result<(), Fail> {
-    for (program, outcome, status, printed) in [
-        (FAILURE, "{}", 0, "failure steps=2 budget=2\n"),
-        (FAILURE, "", 1, "refused 58 BadJson\n"),
-        (FAILURE, "[]", 1, "refused 59 BadField\n"),
-        (FAILURE, "{\"status\":null}", 1, "refused 59 BadField\n"),
-        (
-            "9500000000000000",
-            "",
-            1,
-            "refused 12 UnsetRegister slot 0\n",
-        ),
-    ] {
-        ends(
-            &rt,
-            rt.alloc(),
-            &["judge", program],
-            outcome.as_bytes(),
-            status,
-            printed,
-        )?;
-    }
-    ends(
+fn programs_are_verified(rt: HostRuntime) {
+    are_run(
         &rt,
         rt.alloc(),
-        &["judge", FAILURE],
-        b"\xff",
-        1,
-        "refused 58 BadJson\n",
-    )
+        &[
+            ("verify", BY_STATUS, b"", 0, "accepted budget=6 slots=8\n"),
+            (
+                "verify",
+                "b7000000030000009500000000000000",
+                b"",
+                1,
+                "refused 22 AnswerRange slot 1\n",
+            ),
+            ("verify", "", b"", 1, "refused 1 Length slot 0\n"),
+            ("verify", "9g", b"", 1, "refused 46 BadHex\n"),
+            ("verify", "9", b"", 1, "refused 46 BadHex\n"),
+        ],
+    );
 }
 
 #[test]
-fn wrong_words_are_answered_with_the_usage(rt: HostRuntime) -> Result<(), Fail> {
-    let alloc = rt.alloc();
-    ends(&rt, alloc, &[], b"{}", 2, "")?;
-    ends(&rt, alloc, &["judge"], b"{}", 2, "")?;
-    ends(&rt, alloc, &["judge", FAILURE, FAILURE], b"{}", 2, "")?;
-    ends(&rt, alloc, &["frob", "x"], b"{}", 2, "")
+fn outcomes_are_judged(rt: HostRuntime) {
+    are_run(
+        &rt,
+        rt.alloc(),
+        &[
+            ("judge", FAILURE, b"{}", 0, "failure steps=2 budget=2\n"),
+            ("judge", FAILURE, b"", 1, "refused 58 BadJson\n"),
+            ("judge", FAILURE, b"[]", 1, "refused 59 BadField\n"),
+            (
+                "judge",
+                FAILURE,
+                b"{\"status\":null}",
+                1,
+                "refused 59 BadField\n",
+            ),
+            (
+                "judge",
+                "9500000000000000",
+                b"",
+                1,
+                "refused 12 UnsetRegister slot 0\n",
+            ),
+            ("judge", FAILURE, b"\xff", 1, "refused 58 BadJson\n"),
+        ],
+    );
+}
+
+#[test]
+fn wrong_words_are_answered_with_the_usage(rt: HostRuntime) {
+    are_wrong(
+        &rt,
+        rt.alloc(),
+        b"{}",
+        &[
+            &[],
+            &["judge"],
+            &["judge", FAILURE, FAILURE],
+            &["frob", "x"],
+        ],
+    );
 }
 
 /// Replays, whose answers are tested in the crate below.
 #[test]
-fn events_are_replayed(rt: HostRuntime) -> Result<(), Fail> {
+fn events_are_replayed(rt: HostRuntime) {
     let alloc = rt.alloc();
-    let events = b"{}\n{\"at\":1000,\"do\":\"acquire\"}\n".as_slice();
+    let events = b"{}\n{\"at\":1000,\"do\":\"acquire\"}\n";
     let acquired = "200 {\"state\":\"CLOSED\",\"ticket\":1,\"version\":1}\n";
-    ends(&rt, alloc, &["replay"], events, 0, acquired)?;
-    ends(
-        &rt,
-        alloc,
-        &["replay"],
-        b"[]\n",
-        1,
-        "refused 47 BadConfig\n",
-    )?;
-    ends(&rt, alloc, &["replay", "x"], b"{}", 2, "")
+    ends(&rt, alloc, &["replay"], events, 0, acquired);
+    let refused = "refused 47 BadConfig\n";
+    ends(&rt, alloc, &["replay"], b"[]\n", 1, refused);
+    are_wrong(&rt, alloc, b"{}", &[&["replay", "x"]]);
 }
 
 #[test]
 fn long_input_is_refused(rt: HostRuntime) -> Result<(), Fail> {
     let alloc = rt.alloc();
     let program: String<Global> = "95".chars().cycle().take(1 << 20).collect(alloc)?;
-    ends(
-        &rt,
-        alloc,
-        &["verify", program.as_str()],
-        b"",
-        1,
-        "refused 1 Length slot 0\n",
-    )?;
+    let refused = "refused 1 Length slot 0\n";
+    ends(&rt, alloc, &["verify", &program], b"", 1, refused);
     let blanks = vec![in alloc; b' '; 10_000_000]?;
-    ends(
-        &rt,
-        alloc,
-        &["judge", FAILURE],
-        &blanks,
-        1,
-        "refused 58 BadJson\n",
-    )
+    let refused = "refused 58 BadJson\n";
+    ends(&rt, alloc, &["judge", FAILURE], &blanks, 1, refused);
+    Ok(())
+}
+
+/// A command with a program ends so, whose input can't be read.
+fn ends_unread(rt: &impl Abort, alloc: Global, words: &[&str], status: u8, printed: &str) {
+    let mut out = Vec::new(alloc);
+    let mut err = Vec::new(alloc);
+    let found = command(alloc, words, &mut Broken, &mut out, &mut err);
+    same_at(rt, out.as_slice(), printed.as_bytes(), &words);
+    same_at(rt, err.as_slice(), b"", &words);
+    same_at(rt, found, status, &words);
 }
 
 #[test]
 fn refused_programs_come_before_input(rt: HostRuntime) {
     let alloc = rt.alloc();
-    for (name, program, status, printed) in [
-        ("verify", FAILURE, 0, "accepted budget=2 slots=2\n"),
-        ("judge", "9g", 1, "refused 46 BadHex\n"),
-    ] {
-        let mut out = Vec::new(alloc);
-        let mut err = Vec::new(alloc);
-        let found = command(alloc, &[name, program], &mut Broken, &mut out, &mut err);
-        same(&rt, out.as_slice(), printed.as_bytes());
-        assert!(rt; err.is_empty());
-        same(&rt, found, status);
-    }
+    let accepted = "accepted budget=2 slots=2\n";
+    ends_unread(&rt, alloc, &["verify", FAILURE], 0, accepted);
+    ends_unread(&rt, alloc, &["judge", "9g"], 1, "refused 46 BadHex\n");
+}
+
+/// A command ends so where its output can't be written, and no error is printed.
+fn ends_unwritten(rt: &impl Abort, alloc: Global, words: &[&str], input: &[u8], status: u8) {
+    let mut reader = input;
+    let mut err = Vec::new(alloc);
+    let found = command(alloc, words, &mut reader, &mut Full, &mut err);
+    same_at(rt, found, status, &words);
+    same_at(rt, err.as_slice(), b"", &words);
+}
+
+/// A command ends so where its errors can't be written, and nothing else is printed.
+fn ends_untold(rt: &impl Abort, alloc: Global, words: &[&str], input: &[u8], status: u8) {
+    let mut reader = input;
+    let mut out = Vec::new(alloc);
+    let found = command(alloc, words, &mut reader, &mut out, &mut Full);
+    same_at(rt, found, status, &words);
+    same_at(rt, out.as_slice(), b"", &words);
 }
 
 #[test]
 fn failures_of_readers_and_writers_print_nothing(rt: HostRuntime) {
     let alloc = rt.alloc();
-    let mut out = Vec::new(alloc);
-    let mut err = Vec::new(alloc);
-    let words = ["judge", FAILURE];
-    let status = command(alloc, &words, &mut Broken, &mut out, &mut err);
-    same(&rt, status, 1);
-    assert!(rt; out.is_empty() && err.is_empty());
-    let mut outcome = b"{}".as_slice();
-    let status = command(alloc, &words, &mut outcome, &mut Full, &mut err);
-    same(&rt, status, 1);
-    assert!(rt; err.is_empty());
-    let status = command(alloc, &["judge"], &mut outcome, &mut out, &mut Full);
-    same(&rt, status, 2);
-    assert!(rt; out.is_empty());
+    ends_unread(&rt, alloc, &["judge", FAILURE], 1, "");
+    ends_unwritten(&rt, alloc, &["judge", FAILURE], b"{}", 1);
+    ends_untold(&rt, alloc, &["judge"], b"", 2);
 }
 
 /// How the words end with a reader and writers that fail, and how many calls of each did.
@@ -223,32 +237,30 @@ fn fails(rt: &impl Abort, alloc: Global, words: &[&str], status: Status, failure
     );
 }
 
+/// Words, how they end with a reader and writers that fail, and how many calls of each did.
+type Failed<'a> = (&'a [&'a str], Status, [u64; 3]);
+
+/// How words end with a reader and writers that fail.
+fn are_failed(rt: &impl Abort, alloc: Global, rows: &[Failed<'_>]) {
+    for row in rows {
+        let (words, status, failures) = *row;
+        fails(rt, alloc, words, status, failures);
+    }
+}
+
 #[test]
 fn failures_are_told_apart(rt: HostRuntime) {
-    let alloc = rt.alloc();
-    fails(
+    are_failed(
         &rt,
-        alloc,
-        &["judge", FAILURE],
-        Status::ReadFailed,
-        [1, 0, 0],
+        rt.alloc(),
+        &[
+            (&["judge", FAILURE], Status::ReadFailed, [1, 0, 0]),
+            (&["replay"], Status::ReadFailed, [1, 0, 0]),
+            (&["asm"], Status::ReadFailed, [1, 0, 0]),
+            (&["judge", "zz"], Status::WriteFailed, [0, 1, 0]),
+            (&["verify", FAILURE], Status::WriteFailed, [0, 1, 0]),
+            (&["dis", FAILURE], Status::WriteFailed, [0, 1, 0]),
+            (&["judge"], Status::UsageFailed, [0, 0, 1]),
+        ],
     );
-    fails(&rt, alloc, &["replay"], Status::ReadFailed, [1, 0, 0]);
-    fails(&rt, alloc, &["asm"], Status::ReadFailed, [1, 0, 0]);
-    fails(&rt, alloc, &["judge", "zz"], Status::WriteFailed, [0, 1, 0]);
-    fails(
-        &rt,
-        alloc,
-        &["verify", FAILURE],
-        Status::WriteFailed,
-        [0, 1, 0],
-    );
-    fails(
-        &rt,
-        alloc,
-        &["dis", FAILURE],
-        Status::WriteFailed,
-        [0, 1, 0],
-    );
-    fails(&rt, alloc, &["judge"], Status::UsageFailed, [0, 0, 1]);
 }

@@ -1,13 +1,18 @@
 //! What the tests serve: a service under the name `pay`, messages with their answers, and readers and
 //! writers that fail.
+ghost use Rattle.std.specs.Prelude.{◌≡◌};
+
+use crate::checks::same_at;
 use book::{Book, Config, ConfigParts};
 use counted_io::Counted;
+use desk::Desk;
 use http_front::{Books, Clock, Ended, NamedBook, serve};
 use std::alloc::{AllocError, Global};
 use std::io;
 use std::io::{Read, Write};
 use std::process::Abort;
 use std::sync::Wait;
+use std::sync::ledger::{Blank, Ledger};
 use verifier::default_classifier;
 
 /// The answer to row after row is at this moment.
@@ -18,8 +23,6 @@ pub(crate) const MOMENT: u64 = 7;
 pub(crate) struct Still;
 
 impl Clock for Still {
-    ghost use Rattle.std.specs.Prelude.{◌≡◌};
-
     ghost ticks = { λ old moment new. moment ≡ 7 };
 
     fn now_ms(&mut self) -> u64 {
@@ -28,14 +31,36 @@ impl Clock for Still {
 }
 
 /// A service of the defaults with the default classifier.
-pub(crate) fn pay(rt: &impl Abort, alloc: Global) -> Result<Books, AllocError> {
+pub(crate) fn pay(rt: &impl Abort, alloc: Global) -> Books {
     let config = Config::new(ConfigParts::DEFAULT).expect(rt, "the defaults");
     let classifier = default_classifier(alloc).expect(rt, "the default classifier");
-    let book = Book::open(alloc, config, classifier)?;
-    let name = String::from_str(alloc, "pay")?;
+    let book = Book::open(alloc, config, classifier).expect(rt, "ample memory");
+    let name = String::from_str(alloc, "pay").expect(rt, "ample memory");
     let mut services = Vec::new(alloc);
-    services.push(NamedBook { name, book })?;
-    Ok(Books::new(alloc, services))
+    services
+        .push(NamedBook { name, book })
+        .expect(rt, "ample memory");
+    Books::new(alloc, services)
+}
+
+/// A new desk with such a service.
+pub(crate) fn open_desk<L: Ledger, M: Ledger, R: Abort>(
+    rt: &R,
+    alloc: Global,
+    seats: Blank,
+    entries: Blank,
+) -> Result<Desk<L, M>, AllocError>
+    requires seats_name { seats.name ≡ L.name }
+    requires seats_parts { (seats.parts ≡ L.parts) × (L.parts ≡ 129) }
+    requires entries_name { entries.name ≡ M.name }
+    requires entries_parts { (entries.parts ≡ M.parts) × (M.parts ≡ 65) }
+{
+    let config = Config::new(ConfigParts::DEFAULT).expect(rt, "the defaults");
+    let classifier = default_classifier(alloc).expect(rt, "the default classifier");
+    let mut services = Vec::new(alloc);
+    services.push((String::from_str(alloc, "pay")?, config, classifier))?;
+    assert!(rt; services.len() <= 64);
+    Desk::<L, M>::open(alloc, seats, entries, services)
 }
 
 /// How many entries the journal of the first service has.
@@ -65,6 +90,67 @@ pub(crate) fn served(
     let mut writer = Counted::new(Vec::new(alloc));
     let ended = serve(rt, alloc, &mut reader, &mut writer, books, &mut Still);
     (ended, writer.inner)
+}
+
+/// An input is answered so, and serving it ends so.
+pub(crate) fn is_answered(
+    rt: &(impl Wait + Abort),
+    alloc: Global,
+    books: &mut Books,
+    input: &[u8],
+    text: &str,
+    end: Ended,
+) {
+    let (ended, written) = served(rt, alloc, books, input);
+    same_at(rt, written.as_slice(), text.as_bytes(), input);
+    same_at(rt, ended, end, input);
+}
+
+/// The same over a service of its own, whose journal then has so many entries.
+pub(crate) fn makes_entries(
+    rt: &(impl Wait + Abort),
+    alloc: Global,
+    input: &[u8],
+    text: &str,
+    end: Ended,
+    count: u64,
+) {
+    let mut books = pay(rt, alloc);
+    is_answered(rt, alloc, &mut books, input, text, end);
+    same_at(rt, entries(&books), count, input);
+}
+
+/// An input, its answer, and how serving it ends.
+pub(crate) type Answered<'a> = (&'a str, &'a str, Ended);
+
+/// Each input is answered over a service of its own.
+pub(crate) fn are_answered(rt: &(impl Wait + Abort), alloc: Global, rows: &[Answered<'_>]) {
+    for row in rows {
+        let (input, text, end) = *row;
+        is_answered(rt, alloc, &mut pay(rt, alloc), input.as_bytes(), text, end);
+    }
+}
+
+/// The inputs are answered one after another over one service, and none ends its connection.
+pub(crate) fn are_answered_in_turn(
+    rt: &(impl Wait + Abort),
+    alloc: Global,
+    books: &mut Books,
+    rows: &[(&str, &str)],
+) {
+    for row in rows {
+        let (input, text) = *row;
+        is_answered(rt, alloc, books, input.as_bytes(), text, Ended::Closed);
+    }
+}
+
+/// Texts, one behind another.
+pub(crate) fn joined(rt: &impl Abort, alloc: Global, texts: &[&str]) -> String {
+    let mut all = String::new(alloc);
+    for text in texts {
+        all.push_str(text).expect(rt, "ample memory");
+    }
+    all
 }
 
 /// Gives at most so many bytes a call, but one at least, or takes at most so many; and fails at each call

@@ -2,9 +2,8 @@
 use crate::checks::{is_true, same, same_at};
 use http_messages::{Fault, Front, Head, HeadParser};
 use refusals::RefusalNumber;
-use std::alloc::{AllocError, Global};
+use std::alloc::Global;
 use std::process::Abort;
-use std::test::Fail;
 
 fn front(rt: &impl Abort, alloc: Global, bytes: &[u8]) -> Front {
     let mut parser = HeadParser::new(alloc).expect(rt, "ample memory");
@@ -27,24 +26,38 @@ fn refused(number: RefusalNumber) -> Front {
     })
 }
 
-/// A request with these fields.
-fn with_fields(alloc: Global, fields: &str) -> Result<String, AllocError> {
-    format!(in alloc; "PUT /v1/services/pay/program HTTP/1.1\r\n{fields}\r\n")
+/// What a request with these fields is as the front of a message.
+fn with_fields(rt: &impl Abort, alloc: Global, fields: &str) -> Front {
+    let text = format!(in alloc; "PUT /v1/services/pay/program HTTP/1.1\r\n{fields}\r\n");
+    front(rt, alloc, text.expect(rt, "ample memory").as_bytes())
+}
+
+/// The head of a request with these fields.
+fn head_with_fields(rt: &impl Abort, alloc: Global, fields: &str) -> Head {
+    match with_fields(rt, alloc, fields) {
+        Front::Whole(head) => Some(head),
+        _ => None,
+    }
+    .expect(rt, "a head")
 }
 
 /// A head of this many bytes, with this many fields.
-fn long_head(alloc: Global, size: usize, fields: usize) -> Result<String, AllocError> {
+fn long_head(rt: &impl Abort, alloc: Global, size: usize, fields: usize) -> String {
     let mut text = String::new(alloc);
-    text.push_str("GET / HTTP/1.1\r\n")?;
+    push(rt, &mut text, "GET / HTTP/1.1\r\n");
     for _ in 1..fields {
-        text.push_str("a:b\r\n")?;
+        push(rt, &mut text, "a:b\r\n");
     }
-    text.push_str("c:")?;
-    for _ in 0..size.saturating_sub(text.len() + 4) {
-        text.push('d')?;
+    push(rt, &mut text, "c:");
+    for _ in 0..size.saturating_sub(text.len().saturating_add(4)) {
+        push(rt, &mut text, "d");
     }
-    text.push_str("\r\n\r\n")?;
-    Ok(text)
+    push(rt, &mut text, "\r\n\r\n");
+    text
+}
+
+fn push(rt: &impl Abort, text: &mut String, more: &str) {
+    text.push_str(more).expect(rt, "ample memory");
 }
 
 #[test]
@@ -63,176 +76,211 @@ fn parts_of_a_head_are_found(rt: HostRuntime) {
     is_true(&rt, !found.closes);
 }
 
-#[test]
-fn heads_come_in_parts(rt: HostRuntime) -> Result<(), Fail> {
-    let text = b"\r\n\nGET / HTTP/1.1\nHost:\n\nx".as_slice();
-    let mut parser = HeadParser::new(rt.alloc())?;
-    for count in 0..25 {
-        same_at(&rt, parser.front(&text[..count]), Front::Part, &count);
-    }
-    for count in 25..27 {
-        let size = match parser.front(&text[..count]) {
-            Front::Whole(head) => head.size,
-            _ => 0,
+/// The beginnings of a text are parts of its head, until that is whole.
+fn comes_in_parts(rt: &impl Abort, alloc: Global, text: &[u8], size: usize) {
+    let mut parser = HeadParser::new(alloc).expect(rt, "ample memory");
+    for count in 0..=text.len() {
+        let found = match parser.front(&text[..count]) {
+            Front::Part => None,
+            Front::Whole(head) => Some(head.size),
+            Front::Refused(_) => Some(0),
         };
-        same(&rt, size, 25);
+        let wanted = if count < size { None } else { Some(size) };
+        same_at(rt, found, wanted, count);
     }
-    Ok(())
+}
+
+#[test]
+fn heads_come_in_parts(rt: HostRuntime) {
+    comes_in_parts(&rt, rt.alloc(), b"\r\n\nGET / HTTP/1.1\nHost:\n\nx", 25);
+}
+
+/// What is no head at all.
+fn are_bad(rt: &impl Abort, alloc: Global, texts: &[&str]) {
+    for text in texts {
+        let found = front(rt, alloc, text.as_bytes());
+        same_at(rt, found, refused(RefusalNumber::BadHead), text);
+    }
 }
 
 #[test]
 fn what_is_no_head_is_refused(rt: HostRuntime) {
-    for text in [
-        "GET  / HTTP/1.1\r\n\r\n",
-        "G\u{e4}T / HTTP/1.1",
-        "GET / HTTP/2.0\r\n\r\n",
-        "GET / HTTP/1.1\r\nHost a\r\n\r\n",
-        "GET / HTTP/1.1\r\nHost : a\r\n\r\n",
-        "GET / HTTP/1.1\r\n Host: a\r\n\r\n",
-        "GET / HTTP/1.1\r\nHost: a\rb\r\n\r\n",
-    ] {
-        same_at(
-            &rt,
-            front(&rt, rt.alloc(), text.as_bytes()),
-            refused(RefusalNumber::BadHead),
-            &text,
-        );
-    }
-    // A target that is no UTF-8 is seen where it ends.
-    let target = b"GET /\xff HTTP/1.1\r\n\r\n".as_slice();
-    same(
+    are_bad(
         &rt,
-        front(&rt, rt.alloc(), target),
-        refused(RefusalNumber::BadHead),
+        rt.alloc(),
+        &[
+            "GET  / HTTP/1.1\r\n\r\n",
+            "G\u{e4}T / HTTP/1.1",
+            "GET / HTTP/2.0\r\n\r\n",
+            "GET / HTTP/1.1\r\nHost a\r\n\r\n",
+            "GET / HTTP/1.1\r\nHost : a\r\n\r\n",
+            "GET / HTTP/1.1\r\n Host: a\r\n\r\n",
+            "GET / HTTP/1.1\r\nHost: a\rb\r\n\r\n",
+        ],
+    );
+    // A target that is no UTF-8 is seen where it ends.
+    let found = front(&rt, rt.alloc(), b"GET /\xff HTTP/1.1\r\n\r\n");
+    same(&rt, found, refused(RefusalNumber::BadHead));
+}
+
+/// A head of 8,192 bytes is whole, and a part where its last byte is missing.
+fn is_a_long_head(rt: &impl Abort, alloc: Global, fields: usize) {
+    let long = long_head(rt, alloc, 8_192, fields);
+    same_at(rt, long.len(), 8_192, fields);
+    let found = head(rt, alloc, long.as_str()).expect(rt, "a head");
+    same_at(rt, found.size, 8_192, fields);
+    let cut = long.get(..8_191).expect(rt, "bytes");
+    same_at(rt, front(rt, alloc, cut.as_bytes()), Front::Part, fields);
+}
+
+/// A head of 8,193 bytes is refused from its byte 8,192 on.
+fn is_too_long(rt: &impl Abort, alloc: Global) {
+    let longer = long_head(rt, alloc, 8_193, 32);
+    for count in 8_192..8_194 {
+        let cut = longer.get(..count).expect(rt, "bytes");
+        let found = front(rt, alloc, cut.as_bytes());
+        same_at(rt, found, refused(RefusalNumber::HeadTooLarge), count);
+    }
+}
+
+#[test]
+fn heads_have_at_most_8192_bytes(rt: HostRuntime) {
+    is_a_long_head(&rt, rt.alloc(), 1);
+    is_a_long_head(&rt, rt.alloc(), 32);
+    is_too_long(&rt, rt.alloc());
+}
+
+/// A head with so many fields is refused.
+fn has_too_many_fields(rt: &impl Abort, alloc: Global, fields: usize) {
+    let more = long_head(rt, alloc, 0, fields);
+    let found = front(rt, alloc, more.as_bytes());
+    same_at(rt, found, refused(RefusalNumber::HeadTooLarge), fields);
+}
+
+#[test]
+fn heads_have_at_most_32_fields(rt: HostRuntime) {
+    let alloc = rt.alloc();
+    let most = long_head(&rt, alloc, 0, 32);
+    is_true(&rt, head(&rt, alloc, most.as_str()).is_some());
+    has_too_many_fields(&rt, alloc, 33);
+    has_too_many_fields(&rt, alloc, 1_000);
+}
+
+/// Fields, with the refusal of a request that has them.
+fn are_refused(rt: &impl Abort, alloc: Global, rows: &[(&str, RefusalNumber)]) {
+    for row in rows {
+        let (fields, number) = *row;
+        same_at(rt, with_fields(rt, alloc, fields), refused(number), fields);
+    }
+}
+
+#[test]
+fn fields_are_refused_in_order(rt: HostRuntime) {
+    are_refused(
+        &rt,
+        rt.alloc(),
+        &[
+            (
+                "Transfer-Encoding: chunked\r\nContent-Length: x\r\n",
+                RefusalNumber::TransferCoding,
+            ),
+            (
+                "Content-Length: 65537\r\ntransfer-encoding:\r\n",
+                RefusalNumber::TransferCoding,
+            ),
+            ("Content-Length: +5\r\n", RefusalNumber::BadContentLength),
+            ("Content-Length: -5\r\n", RefusalNumber::BadContentLength),
+            ("Content-Length:\r\n", RefusalNumber::BadContentLength),
+            ("Content-Length: 5 5\r\n", RefusalNumber::BadContentLength),
+            ("Content-Length: 5, 5\r\n", RefusalNumber::BadContentLength),
+            ("Content-Length: 0x5\r\n", RefusalNumber::BadContentLength),
+            (
+                "Content-Length: 18446744073709551616\r\n",
+                RefusalNumber::BadContentLength,
+            ),
+            (
+                "Content-Length: 5\r\ncontent-length: 6\r\n",
+                RefusalNumber::BadContentLength,
+            ),
+            (
+                "Content-Length: 65537\r\nContent-Length: 5\r\n",
+                RefusalNumber::BadContentLength,
+            ),
+            ("Content-Length: 65537\r\n", RefusalNumber::BodyTooLarge),
+            (
+                "Content-Length: 18446744073709551615\r\n",
+                RefusalNumber::BodyTooLarge,
+            ),
+        ],
     );
 }
 
-#[test]
-fn heads_have_at_most_8192_bytes(rt: HostRuntime) -> Result<(), Fail> {
-    let alloc = rt.alloc();
-    for fields in [1, 32] {
-        let long = long_head(alloc, 8_192, fields)?;
-        same(&rt, long.len(), 8_192);
-        let found = head(&rt, alloc, long.as_str()).expect(&rt, "a head");
-        same(&rt, found.size, 8_192);
-        let cut = long.get(..8_191).expect(&rt, "bytes");
-        same(&rt, front(&rt, alloc, cut.as_bytes()), Front::Part);
+/// Fields, with the length of the body that they tell.
+fn are_lengths(rt: &impl Abort, alloc: Global, rows: &[(&str, usize)]) {
+    for row in rows {
+        let (fields, size) = *row;
+        same_at(rt, head_with_fields(rt, alloc, fields).body, size, fields);
     }
-    let longer = long_head(alloc, 8_193, 32)?;
-    for count in 8_192..8_194 {
-        let cut = longer.get(..count).expect(&rt, "bytes");
-        same(
-            &rt,
-            front(&rt, alloc, cut.as_bytes()),
-            refused(RefusalNumber::HeadTooLarge),
-        );
-    }
-    Ok(())
 }
 
 #[test]
-fn heads_have_at_most_32_fields(rt: HostRuntime) -> Result<(), Fail> {
-    let alloc = rt.alloc();
-    let most = long_head(alloc, 0, 32)?;
-    is_true(&rt, head(&rt, alloc, most.as_str()).is_some());
-    for fields in [33, 1_000] {
-        let more = long_head(alloc, 0, fields)?;
-        same(
-            &rt,
-            front(&rt, alloc, more.as_bytes()),
-            refused(RefusalNumber::HeadTooLarge),
-        );
+fn lengths_are_read(rt: HostRuntime) {
+    are_lengths(
+        &rt,
+        rt.alloc(),
+        &[
+            ("", 0),
+            ("Content-Length: 16\r\n", 16),
+            ("CONTENT-LENGTH:\t0016 \r\n", 16),
+            ("Content-Length: 5\r\nHost: a\r\nContent-Length: 05\r\n", 5),
+            ("Content-Length: 65536\r\n", 65_536),
+            ("X-Content-Length: x\r\n", 0),
+        ],
+    );
+}
+
+/// Fields, and whether the connection ends behind a request that has them.
+fn are_closing(rt: &impl Abort, alloc: Global, rows: &[(&str, bool)]) {
+    for row in rows {
+        let (fields, closes) = *row;
+        let found = head_with_fields(rt, alloc, fields).closes;
+        same_at(rt, found, closes, fields);
     }
-    Ok(())
 }
 
 #[test]
-fn fields_are_refused_in_order(rt: HostRuntime) -> Result<(), Fail> {
-    let alloc = rt.alloc();
-    let coding = RefusalNumber::TransferCoding;
-    let length = RefusalNumber::BadContentLength;
-    for (fields, number) in [
-        (
-            "Transfer-Encoding: chunked\r\nContent-Length: x\r\n",
-            coding,
-        ),
-        ("Content-Length: 65537\r\ntransfer-encoding:\r\n", coding),
-        ("Content-Length: +5\r\n", length),
-        ("Content-Length: -5\r\n", length),
-        ("Content-Length:\r\n", length),
-        ("Content-Length: 5 5\r\n", length),
-        ("Content-Length: 5, 5\r\n", length),
-        ("Content-Length: 0x5\r\n", length),
-        ("Content-Length: 18446744073709551616\r\n", length),
-        ("Content-Length: 5\r\ncontent-length: 6\r\n", length),
-        ("Content-Length: 65537\r\nContent-Length: 5\r\n", length),
-        ("Content-Length: 65537\r\n", RefusalNumber::BodyTooLarge),
-        (
-            "Content-Length: 18446744073709551615\r\n",
-            RefusalNumber::BodyTooLarge,
-        ),
-    ] {
-        let text = with_fields(alloc, fields)?;
-        same_at(
-            &rt,
-            front(&rt, alloc, text.as_bytes()),
-            refused(number),
-            &fields,
-        );
-    }
-    Ok(())
-}
-
-#[test]
-fn lengths_are_read(rt: HostRuntime) -> Result<(), Fail> {
-    let alloc = rt.alloc();
-    for (fields, size) in [
-        ("", 0),
-        ("Content-Length: 16\r\n", 16),
-        ("CONTENT-LENGTH:\t0016 \r\n", 16),
-        ("Content-Length: 5\r\nHost: a\r\nContent-Length: 05\r\n", 5),
-        ("Content-Length: 65536\r\n", 65_536),
-        ("X-Content-Length: x\r\n", 0),
-    ] {
-        let text = with_fields(alloc, fields)?;
-        let found = head(&rt, alloc, text.as_str()).expect(&rt, "a head");
-        same_at(&rt, found.body, size, &fields);
-    }
-    Ok(())
-}
-
-#[test]
-fn connections_end_where_they_are_asked_to(rt: HostRuntime) -> Result<(), Fail> {
-    let alloc = rt.alloc();
-    for (fields, closes) in [
-        ("", false),
-        ("Connection: close\r\n", true),
-        ("connection: CLOSE \r\n", true),
-        ("Connection: keep-alive\r\nConnection: close\r\n", true),
-        ("Connection: close, x\r\n", false),
-        ("Connection: closed\r\n", false),
-        ("X: close\r\n", false),
-    ] {
-        let text = with_fields(alloc, fields)?;
-        let found = head(&rt, alloc, text.as_str()).expect(&rt, "a head");
-        same_at(&rt, found.closes, closes, &fields);
-    }
+fn connections_end_where_they_are_asked_to(rt: HostRuntime) {
+    are_closing(
+        &rt,
+        rt.alloc(),
+        &[
+            ("", false),
+            ("Connection: close\r\n", true),
+            ("connection: CLOSE \r\n", true),
+            ("Connection: keep-alive\r\nConnection: close\r\n", true),
+            ("Connection: close, x\r\n", false),
+            ("Connection: closed\r\n", false),
+            ("X: close\r\n", false),
+        ],
+    );
     let old = "GET / HTTP/1.0\r\nConnection: keep-alive\r\n\r\n";
-    is_true(&rt, head(&rt, alloc, old).expect(&rt, "a head").closes);
-    Ok(())
+    is_true(&rt, head(&rt, rt.alloc(), old).expect(&rt, "a head").closes);
+}
+
+/// A message that is refused, and whether its method is HEAD.
+fn is_to_head(rt: &impl Abort, alloc: Global, text: &str, to_head: bool) {
+    let fault = Fault {
+        number: RefusalNumber::TransferCoding,
+        to_head,
+    };
+    let found = front(rt, alloc, text.as_bytes());
+    same_at(rt, found, Front::Refused(fault), text);
 }
 
 #[test]
 fn answers_to_head_have_no_body(rt: HostRuntime) {
-    for (text, to_head) in [
-        ("HEAD / HTTP/1.1\r\nTransfer-Encoding: x\r\n\r\n", true),
-        ("head / HTTP/1.1\r\nTransfer-Encoding: x\r\n\r\n", false),
-    ] {
-        let number = RefusalNumber::TransferCoding;
-        same(
-            &rt,
-            front(&rt, rt.alloc(), text.as_bytes()),
-            Front::Refused(Fault { number, to_head }),
-        );
-    }
+    let upper = "HEAD / HTTP/1.1\r\nTransfer-Encoding: x\r\n\r\n";
+    is_to_head(&rt, rt.alloc(), upper, true);
+    let lower = "head / HTTP/1.1\r\nTransfer-Encoding: x\r\n\r\n";
+    is_to_head(&rt, rt.alloc(), lower, false);
 }

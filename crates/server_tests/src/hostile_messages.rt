@@ -1,11 +1,13 @@
 //! Heads and bodies at their limits, heads of real clients, and messages in other forms.
-use crate::checks::{same, same_at};
-use crate::fixtures::{ACQUIRE, ACQUIRED, INSTALL, INSTALLED, entries, pay, served, version};
-use http_front::{Books, Ended};
+use crate::checks::same_at;
+use crate::fixtures::{
+    ACQUIRE, ACQUIRED, INSTALL, INSTALLED, are_answered, are_answered_in_turn, is_answered, joined,
+    makes_entries, pay, version,
+};
+use http_front::Ended;
 use std::alloc::{AllocError, Global};
 use std::process::Abort;
 use std::sync::Wait;
-use std::test::Fail;
 
 /// How a fresh service stands.
 const STATE: &str =
@@ -38,75 +40,74 @@ fn long_head(alloc: Global, size: usize, fields: usize) -> Result<String, AllocE
     Ok(text)
 }
 
-/// A service was asked for one input, and answers so.
-fn is_answered(
-    rt: &(impl Wait + Abort),
-    books: &mut Books,
-    alloc: Global,
-    input: &str,
-    text: &str,
-    end: Ended,
-) {
-    let (ended, written) = served(rt, alloc, books, input.as_bytes());
-    same_at(rt, written.as_slice(), text.as_bytes(), &input);
-    same_at(rt, ended, end, &input);
+/// How many entries a call makes: one, where its connection stays open.
+fn entry_count(end: Ended) -> u64 {
+    match end {
+        Ended::Closed => 1,
+        _ => 0,
+    }
+}
+
+/// How many bytes and fields a head has, the answer, and how serving ends.
+type Long<'a> = (usize, usize, &'a str, Ended);
+
+/// Calls with heads of these sizes.
+fn have_limits(rt: &(impl Wait + Abort), alloc: Global, rows: &[Long<'_>]) {
+    for row in rows {
+        let (size, fields, text, end) = *row;
+        let head = long_head(alloc, size, fields).expect(rt, "ample memory");
+        makes_entries(rt, alloc, head.as_bytes(), text, end, entry_count(end));
+    }
 }
 
 #[test]
-fn heads_at_the_limits(rt: HostRuntime) -> Result<(), Fail> {
-    let alloc = rt.alloc();
-    for (size, fields, text, end) in [
-        (8_192, 1, ACQUIRED, Ended::Closed),
-        (8_192, 32, ACQUIRED, Ended::Closed),
-        (8_193, 1, HEAD_TOO_LARGE, Ended::Finished),
-        (8_193, 32, HEAD_TOO_LARGE, Ended::Finished),
-        (0, 32, ACQUIRED, Ended::Closed),
-        (0, 33, HEAD_TOO_LARGE, Ended::Finished),
-    ] {
-        let mut books = pay(&rt, alloc)?;
-        let head = long_head(alloc, size, fields)?;
-        is_answered(&rt, &mut books, alloc, head.as_str(), text, end);
-        same(
-            &rt,
-            entries(&books),
-            if end == Ended::Closed { 1 } else { 0 },
-        );
+fn heads_at_the_limits(rt: HostRuntime) {
+    have_limits(
+        &rt,
+        rt.alloc(),
+        &[
+            (8_192, 1, ACQUIRED, Ended::Closed),
+            (8_192, 32, ACQUIRED, Ended::Closed),
+            (8_193, 1, HEAD_TOO_LARGE, Ended::Finished),
+            (8_193, 32, HEAD_TOO_LARGE, Ended::Finished),
+            (0, 32, ACQUIRED, Ended::Closed),
+            (0, 33, HEAD_TOO_LARGE, Ended::Finished),
+        ],
+    );
+}
+
+/// Calls with these fields, with the answer, and how serving ends.
+fn have_lengths(rt: &(impl Wait + Abort), alloc: Global, rows: &[(&str, &str, Ended)]) {
+    for row in rows {
+        let (lengths, text, end) = *row;
+        let head = "POST /v1/services/pay/acquire HTTP/1.1\r\n";
+        let input = joined(rt, alloc, &[head, lengths, "\r\nabcde"]);
+        makes_entries(rt, alloc, input.as_bytes(), text, end, entry_count(end));
     }
-    Ok(())
 }
 
 #[test]
-fn lengths_at_the_limits(rt: HostRuntime) -> Result<(), Fail> {
-    let alloc = rt.alloc();
-    for (lengths, text, end) in [
-        ("Content-Length: +5\r\n", BAD_LENGTH, Ended::Finished),
-        ("Content-Length:\r\n", BAD_LENGTH, Ended::Finished),
-        (
-            "Content-Length: 5\r\nContent-Length: 6\r\n",
-            BAD_LENGTH,
-            Ended::Finished,
-        ),
-        (
-            "Content-Length: 5\r\nContent-Length: 05\r\n",
-            ACQUIRED,
-            Ended::Closed,
-        ),
-        ("Content-Length: 65537\r\n", BODY_TOO_LARGE, Ended::Finished),
-        ("Content-Length: 65536\r\n", "", Ended::Truncated),
-    ] {
-        let mut books = pay(&rt, alloc)?;
-        let input = format!(in alloc;
-            "POST /v1/services/pay/acquire HTTP/1.1\r\n{lengths}\r\nabcde"
-        )?;
-        is_answered(&rt, &mut books, alloc, input.as_str(), text, end);
-        same_at(
-            &rt,
-            entries(&books),
-            if end == Ended::Closed { 1 } else { 0 },
-            &lengths,
-        );
-    }
-    Ok(())
+fn lengths_at_the_limits(rt: HostRuntime) {
+    have_lengths(
+        &rt,
+        rt.alloc(),
+        &[
+            ("Content-Length: +5\r\n", BAD_LENGTH, Ended::Finished),
+            ("Content-Length:\r\n", BAD_LENGTH, Ended::Finished),
+            (
+                "Content-Length: 5\r\nContent-Length: 6\r\n",
+                BAD_LENGTH,
+                Ended::Finished,
+            ),
+            (
+                "Content-Length: 5\r\nContent-Length: 05\r\n",
+                ACQUIRED,
+                Ended::Closed,
+            ),
+            ("Content-Length: 65537\r\n", BODY_TOO_LARGE, Ended::Finished),
+            ("Content-Length: 65536\r\n", "", Ended::Truncated),
+        ],
+    );
 }
 
 /// A program of this many slots: each but the last moves 2 to R0, and the last exits.
@@ -123,67 +124,72 @@ fn put_program(alloc: Global, slots: usize) -> Result<Vec<u8>, AllocError> {
     Ok(input)
 }
 
-#[test]
-fn programs_at_the_limits(rt: HostRuntime) -> Result<(), Fail> {
-    let alloc = rt.alloc();
-    for (slots, text, version_after) in [
-        (
-            4_096,
-            "HTTP/1.1 200 OK\r\nContent-Type: application/json\r\nContent-Length: 27\r\n\r\n{\"budget\":4096,\"version\":2}",
-            2,
-        ),
-        (
-            4_097,
-            "HTTP/1.1 422 Unprocessable Entity\r\nContent-Type: application/json\r\nContent-Length: 36\r\n\r\n{\"error\":1,\"name\":\"Length\",\"slot\":0}",
-            1,
-        ),
-        (
-            8_192,
-            "HTTP/1.1 422 Unprocessable Entity\r\nContent-Type: application/json\r\nContent-Length: 36\r\n\r\n{\"error\":1,\"name\":\"Length\",\"slot\":0}",
-            1,
-        ),
-    ] {
-        let mut books = pay(&rt, alloc)?;
-        let input = put_program(alloc, slots)?;
-        let (ended, written) = served(&rt, alloc, &mut books, &input);
-        same_at(&rt, written.as_slice(), text.as_bytes(), &slots);
-        same_at(&rt, ended, Ended::Closed, &slots);
-        same_at(&rt, version(&books), version_after, &slots);
+/// Programs of so many slots, with the answer, and the version of new tickets then.
+fn are_installed(rt: &(impl Wait + Abort), alloc: Global, rows: &[(usize, &str, u64)]) {
+    for row in rows {
+        let (slots, text, version_after) = *row;
+        let mut books = pay(rt, alloc);
+        let input = put_program(alloc, slots).expect(rt, "ample memory");
+        is_answered(rt, alloc, &mut books, &input, text, Ended::Closed);
+        same_at(rt, version(&books), version_after, slots);
     }
-    Ok(())
 }
 
 #[test]
-fn what_is_refused_is_the_last_message(rt: HostRuntime) -> Result<(), Fail> {
-    let alloc = rt.alloc();
-    for (input, text) in [
-        (
-            "PUT / HTTP/1.1\r\nContent-Length: 65537\r\n\r\n",
-            BODY_TOO_LARGE,
-        ),
-        ("GET / HTTP/1.1\r\nContent-Length: x\r\n\r\n", BAD_LENGTH),
-        (
-            "get it\r\n\r\n",
-            "HTTP/1.1 400 Bad Request\r\nContent-Type: application/json\r\nContent-Length: 29\r\nConnection: close\r\n\r\n{\"error\":51,\"name\":\"BadHead\"}",
-        ),
-        (
-            "HEAD / HTTP/1.1\r\nTransfer-Encoding: gzip\r\n\r\n",
-            "HTTP/1.1 501 Not Implemented\r\nContent-Type: application/json\r\nContent-Length: 36\r\nConnection: close\r\n\r\n",
-        ),
-    ] {
-        let mut books = pay(&rt, alloc)?;
-        let input = format!(in alloc; "{input}{ACQUIRE}")?;
-        is_answered(
-            &rt,
-            &mut books,
-            alloc,
-            input.as_str(),
-            text,
-            Ended::Finished,
-        );
-        same(&rt, entries(&books), 0);
+fn programs_at_the_limits(rt: HostRuntime) {
+    are_installed(
+        &rt,
+        rt.alloc(),
+        &[
+            (
+                4_096,
+                "HTTP/1.1 200 OK\r\nContent-Type: application/json\r\nContent-Length: 27\r\n\r\n{\"budget\":4096,\"version\":2}",
+                2,
+            ),
+            (
+                4_097,
+                "HTTP/1.1 422 Unprocessable Entity\r\nContent-Type: application/json\r\nContent-Length: 36\r\n\r\n{\"error\":1,\"name\":\"Length\",\"slot\":0}",
+                1,
+            ),
+            (
+                8_192,
+                "HTTP/1.1 422 Unprocessable Entity\r\nContent-Type: application/json\r\nContent-Length: 36\r\n\r\n{\"error\":1,\"name\":\"Length\",\"slot\":0}",
+                1,
+            ),
+        ],
+    );
+}
+
+/// Messages that are refused, with the answer; a call behind each makes no entry.
+fn are_last(rt: &(impl Wait + Abort), alloc: Global, rows: &[(&str, &str)]) {
+    for row in rows {
+        let (refused, text) = *row;
+        let input = joined(rt, alloc, &[refused, ACQUIRE]);
+        makes_entries(rt, alloc, input.as_bytes(), text, Ended::Finished, 0);
     }
-    Ok(())
+}
+
+#[test]
+fn what_is_refused_is_the_last_message(rt: HostRuntime) {
+    are_last(
+        &rt,
+        rt.alloc(),
+        &[
+            (
+                "PUT / HTTP/1.1\r\nContent-Length: 65537\r\n\r\n",
+                BODY_TOO_LARGE,
+            ),
+            ("GET / HTTP/1.1\r\nContent-Length: x\r\n\r\n", BAD_LENGTH),
+            (
+                "get it\r\n\r\n",
+                "HTTP/1.1 400 Bad Request\r\nContent-Type: application/json\r\nContent-Length: 29\r\nConnection: close\r\n\r\n{\"error\":51,\"name\":\"BadHead\"}",
+            ),
+            (
+                "HEAD / HTTP/1.1\r\nTransfer-Encoding: gzip\r\n\r\n",
+                "HTTP/1.1 501 Not Implemented\r\nContent-Type: application/json\r\nContent-Length: 36\r\nConnection: close\r\n\r\n",
+            ),
+        ],
+    );
 }
 
 /// What curl 7.88 sends for `curl http://127.0.0.1:8080/v1/services/pay/state`.
@@ -206,88 +212,84 @@ const CHROMIUM: &str =
     "GET /v1/services/pay/state HTTP/1.1\r\nHost: 127.0.0.1:8899\r\nConnection: keep-alive\r\nsec-ch-ua: \"Not:A-Brand\";v=\"8\", \"Chromium\";v=\"156\"\r\nsec-ch-ua-mobile: ?0\r\nsec-ch-ua-platform: \"Linux\"\r\nUpgrade-Insecure-Requests: 1\r\nUser-Agent: Mozilla/5.0 (X11; Linux x86_64) AppleWebKit/537.36 (KHTML, like Gecko) HeadlessChrome/156.0.0.0 Safari/537.36\r\nAccept: text/html,application/xhtml+xml,application/xml;q=0.9,image/jxl,image/avif,image/webp,image/apng,*/*;q=0.8,application/signed-exchange;v=b3;q=0.7\r\nSec-Fetch-Site: none\r\nSec-Fetch-Mode: navigate\r\nSec-Fetch-User: ?1\r\nSec-Fetch-Dest: document\r\nAccept-Encoding: gzip, deflate, br, zstd\r\nAccept-Language: en-US,en;q=0.9\r\nCookie: visitor=0f3a9c51b7; theme=dark\r\n\r\n";
 
 #[test]
-fn real_clients_are_answered(rt: HostRuntime) -> Result<(), Fail> {
+fn real_clients_are_answered(rt: HostRuntime) {
     let alloc = rt.alloc();
-    let mut books = pay(&rt, alloc)?;
-    is_answered(&rt, &mut books, alloc, CURL_GET, STATE, Ended::Closed);
-    is_answered(&rt, &mut books, alloc, CHROMIUM, STATE, Ended::Closed);
-    is_answered(&rt, &mut books, alloc, ACQUIRE, ACQUIRED, Ended::Closed);
-    is_answered(&rt, &mut books, alloc, CURL_POST, REPORTED, Ended::Closed);
-    let mut input = Vec::from_slice(alloc, CURL_PUT.as_bytes())?;
-    input.extend_from_slice(INSTALL.get(INSTALL.len() - 16..).expect(&rt, "a program"))?;
-    let (ended, written) = served(&rt, alloc, &mut books, &input);
-    same(&rt, written.as_slice(), INSTALLED.as_bytes());
-    same(&rt, ended, Ended::Closed);
-    Ok(())
-}
-
-#[test]
-fn other_forms_are_answered(rt: HostRuntime) -> Result<(), Fail> {
-    let alloc = rt.alloc();
-    let closing =
-        "HTTP/1.1 200 OK\r\nContent-Type: application/json\r\nContent-Length: 41\r\nConnection: close\r\n\r\n{\"state\":\"CLOSED\",\"ticket\":1,\"version\":1}";
-    for (input, text, end) in [
-        // Empty lines before a request.
-        (
-            "\r\n\n\r\nPOST /v1/services/pay/acquire HTTP/1.1\r\n\r\n",
-            ACQUIRED,
-            Ended::Closed,
-        ),
-        // Lines that end in a line feed alone.
-        (
-            "POST /v1/services/pay/acquire HTTP/1.1\nHost: a\n\n",
-            ACQUIRED,
-            Ended::Closed,
-        ),
-        (
-            "POST /v1/services/pay/acquire HTTP/1.0\r\n\r\nGET",
-            closing,
-            Ended::Finished,
-        ),
-        (
-            "POST /v1/services/pay/acquire HTTP/1.1\r\nconnection: Close\r\n\r\nGET",
-            closing,
-            Ended::Finished,
-        ),
-        // A body that the route ignores.
-        (
-            "POST /v1/services/pay/acquire HTTP/1.1\r\nContent-Length: 3\r\n\r\nabc",
-            ACQUIRED,
-            Ended::Closed,
-        ),
-        (
-            "HEAD /v1/services/pay/acquire HTTP/1.1\r\n\r\n",
-            "HTTP/1.1 405 Method Not Allowed\r\nContent-Type: application/json\r\nContent-Length: 33\r\nAllow: POST\r\n\r\n",
-            Ended::Closed,
-        ),
-        (
-            "HEAD /v1/services/pay/other HTTP/1.0\r\n\r\n",
-            "HTTP/1.1 404 Not Found\r\nContent-Type: application/json\r\nContent-Length: 29\r\nConnection: close\r\n\r\n",
-            Ended::Finished,
-        ),
-    ] {
-        let mut books = pay(&rt, alloc)?;
-        is_answered(&rt, &mut books, alloc, input, text, end);
-    }
-    Ok(())
-}
-
-#[test]
-fn messages_in_one_piece_are_all_answered(rt: HostRuntime) -> Result<(), Fail> {
-    let alloc = rt.alloc();
-    let mut books = pay(&rt, alloc)?;
-    let input = format!(in alloc; "{CURL_GET}{ACQUIRE}{CURL_POST}{ACQUIRE}")?;
-    let text = format!(in alloc;
-        "{STATE}{ACQUIRED}{REPORTED}HTTP/1.1 200 OK\r\nContent-Type: application/json\r\nContent-Length: 41\r\n\r\n{{\"state\":\"CLOSED\",\"ticket\":2,\"version\":1}}"
-    )?;
-    is_answered(
+    let mut books = pay(&rt, alloc);
+    are_answered_in_turn(
         &rt,
-        &mut books,
         alloc,
-        input.as_str(),
-        text.as_str(),
-        Ended::Closed,
+        &mut books,
+        &[
+            (CURL_GET, STATE),
+            (CHROMIUM, STATE),
+            (ACQUIRE, ACQUIRED),
+            (CURL_POST, REPORTED),
+        ],
     );
-    same(&rt, entries(&books), 3);
-    Ok(())
+    let program = INSTALL.get(INSTALL.len() - 16..).expect(&rt, "a program");
+    let mut input = Vec::from_slice(alloc, CURL_PUT.as_bytes()).expect(&rt, "ample memory");
+    input.extend_from_slice(program).expect(&rt, "ample memory");
+    is_answered(&rt, alloc, &mut books, &input, INSTALLED, Ended::Closed);
+}
+
+/// The answer to the first call for a ticket where the connection ends behind it.
+const CLOSING: &str =
+    "HTTP/1.1 200 OK\r\nContent-Type: application/json\r\nContent-Length: 41\r\nConnection: close\r\n\r\n{\"state\":\"CLOSED\",\"ticket\":1,\"version\":1}";
+
+#[test]
+fn other_forms_are_answered(rt: HostRuntime) {
+    are_answered(
+        &rt,
+        rt.alloc(),
+        &[
+            // Empty lines before a request.
+            (
+                "\r\n\n\r\nPOST /v1/services/pay/acquire HTTP/1.1\r\n\r\n",
+                ACQUIRED,
+                Ended::Closed,
+            ),
+            // Lines that end in a line feed alone.
+            (
+                "POST /v1/services/pay/acquire HTTP/1.1\nHost: a\n\n",
+                ACQUIRED,
+                Ended::Closed,
+            ),
+            (
+                "POST /v1/services/pay/acquire HTTP/1.0\r\n\r\nGET",
+                CLOSING,
+                Ended::Finished,
+            ),
+            (
+                "POST /v1/services/pay/acquire HTTP/1.1\r\nconnection: Close\r\n\r\nGET",
+                CLOSING,
+                Ended::Finished,
+            ),
+            // A body that the route ignores.
+            (
+                "POST /v1/services/pay/acquire HTTP/1.1\r\nContent-Length: 3\r\n\r\nabc",
+                ACQUIRED,
+                Ended::Closed,
+            ),
+            (
+                "HEAD /v1/services/pay/acquire HTTP/1.1\r\n\r\n",
+                "HTTP/1.1 405 Method Not Allowed\r\nContent-Type: application/json\r\nContent-Length: 33\r\nAllow: POST\r\n\r\n",
+                Ended::Closed,
+            ),
+            (
+                "HEAD /v1/services/pay/other HTTP/1.0\r\n\r\n",
+                "HTTP/1.1 404 Not Found\r\nContent-Type: application/json\r\nContent-Length: 29\r\nConnection: close\r\n\r\n",
+                Ended::Finished,
+            ),
+        ],
+    );
+}
+
+#[test]
+fn messages_in_one_piece_are_all_answered(rt: HostRuntime) {
+    let alloc = rt.alloc();
+    let second =
+        "HTTP/1.1 200 OK\r\nContent-Type: application/json\r\nContent-Length: 41\r\n\r\n{\"state\":\"CLOSED\",\"ticket\":2,\"version\":1}";
+    let input = joined(&rt, alloc, &[CURL_GET, ACQUIRE, CURL_POST, ACQUIRE]);
+    let text = joined(&rt, alloc, &[STATE, ACQUIRED, REPORTED, second]);
+    makes_entries(&rt, alloc, input.as_bytes(), &text, Ended::Closed, 3);
 }

@@ -6,6 +6,7 @@ use sidecar_server::{Status, SystemClock, serve_file};
 use std::alloc::Global;
 use std::io::{Read, Write};
 use std::net::{IpAddr, Ipv4Addr, Net, SocketAddr, TcpListener, TcpStream};
+use std::process::Abort;
 use std::sync::Wait;
 use std::sync::atomic::{AtomicU64, Ordering};
 use std::test::Fail;
@@ -140,28 +141,44 @@ where
     )
 }
 
+/// All ask the same service: the tickets are given in the order of asking.
+fn are_in_order(rt: &impl Abort, alloc: Global, acquired: &[Vec<u8>]) {
+    same(rt, acquired.len(), 4);
+    for (answer, ticket) in acquired.iter().zip(1u64..) {
+        is_acquired(rt, alloc, answer, ticket);
+    }
+}
+
+/// An answer brings this ticket.
+fn is_acquired(rt: &impl Abort, alloc: Global, answer: &[u8], ticket: u64) {
+    let text = format!(in alloc;
+        "HTTP/1.1 200 OK\r\nContent-Type: application/json\r\nContent-Length: 41\r\n\r\n{{\"state\":\"CLOSED\",\"ticket\":{ticket},\"version\":1}}"
+    );
+    let text = text.expect(rt, "ample memory");
+    same(rt, answer, text.as_bytes());
+}
+
+/// Each worker has a seat of its own.
+fn have_seats(rt: &impl Abort, journal: &[u8], seats: &[&str]) {
+    let text = str::from_utf8(journal)
+        .ok()
+        .expect(rt, "the journal is text");
+    for seat in seats {
+        is_true_at(rt, text.contains(seat), text);
+    }
+}
+
 #[test]
 fn four_workers_serve_at_once(rt: HostRuntime) -> Result<(), Fail> {
     let alloc = rt.alloc();
     let (status, answers) = serve_and_call(&rt, alloc);
     same(&rt, status, Status::Done);
     let Answers { acquired, journal } = answers?;
-    // All ask the same service: the tickets are given in the order of asking.
-    assert_eq!(rt; acquired.len(), 4);
-    for (place, answer) in acquired.iter().enumerate() {
-        let ticket = place + 1;
-        let text = format!(in alloc;
-            "HTTP/1.1 200 OK\r\nContent-Type: application/json\r\nContent-Length: 41\r\n\r\n{{\"state\":\"CLOSED\",\"ticket\":{ticket},\"version\":1}}"
-        )?;
-        same(&rt, answer.as_slice(), text.as_bytes());
-    }
-    // Each worker has a seat of its own.
-    let Ok(journal) = str::from_utf8(&journal) else {
-        return Err(Fail::from("the journal is text"));
-    };
-    for seat in 1..=4 {
-        let made = format!(in alloc; "\"seat\":{seat}")?;
-        is_true_at(&rt, journal.contains(made.as_str()), &journal);
-    }
+    are_in_order(&rt, alloc, &acquired);
+    have_seats(
+        &rt,
+        &journal,
+        &["\"seat\":1", "\"seat\":2", "\"seat\":3", "\"seat\":4"],
+    );
     Ok(())
 }

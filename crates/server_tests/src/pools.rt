@@ -2,9 +2,9 @@
 //! the thread that starts the workers is all clients.
 ghost use Rattle.std.specs.Prelude.{◌≡◌};
 
-use crate::checks::{is_true, same};
-use book::{Book, Config, ConfigParts};
-use http_front::{Books, Clock, NamedBook};
+use crate::checks::{is_true_at, same};
+use crate::fixtures::{ACQUIRE, entries, pay};
+use http_front::{Books, Clock};
 use http_pool::{Worker, pool, serve_connections};
 use std::alloc::{AllocError, Global};
 use std::io;
@@ -12,9 +12,6 @@ use std::io::{Read, Write};
 use std::net::{Net, Shutdown, SocketAddr, TcpListener, TcpStream};
 use std::process::Abort;
 use std::test::Fail;
-use verifier::default_classifier;
-
-const ACQUIRE: &str = "POST /v1/services/pay/acquire HTTP/1.1\r\nHost: a\r\n\r\n";
 
 /// Tells how often it was read.
 #[derive(Drop)]
@@ -31,25 +28,6 @@ impl Clock for Readings {
     }
 }
 
-/// A service of the defaults with the default classifier.
-fn pay(rt: &impl Abort, alloc: Global) -> Result<Books, AllocError> {
-    let config = Config::new(ConfigParts::DEFAULT).expect(rt, "the defaults");
-    let classifier = default_classifier(alloc).expect(rt, "the default classifier");
-    let book = Book::open(alloc, config, classifier)?;
-    let name = String::from_str(alloc, "pay")?;
-    let mut services = Vec::new(alloc);
-    services.push(NamedBook { name, book })?;
-    Ok(Books::new(alloc, services))
-}
-
-/// How many entries the journal of the first service has.
-fn entries(books: &Books) -> u64 {
-    match books.services.first() {
-        Some(named) => named.book.last_number(),
-        None => u64::MAX,
-    }
-}
-
 /// Workers with a service each, whose clocks were read 0, 100, 200 times and so on.
 fn workers(
     rt: &impl Abort,
@@ -60,7 +38,7 @@ fn workers(
     for number in 0..count {
         let times = number.saturating_mul(100);
         workers.push(Worker {
-            answerer: pay(rt, alloc)?,
+            answerer: pay(rt, alloc),
             clock: Readings { times },
         })?;
     }
@@ -85,38 +63,57 @@ fn answer(alloc: Global, stream: &TcpStream) -> io::Result<Vec<u8>> {
     Ok(text)
 }
 
+/// The other side's answer begins so, and has this ending.
+fn is_answered(rt: &impl Abort, alloc: Global, stream: &TcpStream, ending: &str) -> io::Result<()> {
+    let text = answer(alloc, stream)?;
+    let text = text.as_slice();
+    is_true_at(rt, text.starts_with(b"HTTP/1.1 200 OK\r\n"), text);
+    is_true_at(rt, text.ends_with(ending.as_bytes()), text);
+    Ok(())
+}
+
+/// Each message was answered once, at the clock of the worker that has its entry: so many in all.
+fn have_answered(rt: &impl Abort, workers: &[Worker<Books, Readings>], wanted: u64) {
+    let mut answered: u64 = 0;
+    let mut times: u64 = 0;
+    for worker in workers {
+        let made = entries(&worker.answerer);
+        same(rt, worker.clock.times, times.saturating_add(made));
+        answered = answered.saturating_add(made);
+        times = times.saturating_add(100);
+    }
+    same(rt, answered, wanted);
+}
+
+/// So many connections, each of which asks.
+fn connect<R>(
+    rt: &R,
+    alloc: Global,
+    address: SocketAddr,
+    count: u64,
+) -> Result<Vec<TcpStream>, Fail>
+where
+    R: Net<Listener = TcpListener, Stream = TcpStream>,
+{
+    let mut streams = Vec::new(alloc);
+    for _ in 0..count {
+        streams.push(ask(rt, address, ACQUIRE)?)?;
+    }
+    Ok(streams)
+}
+
 #[test]
 fn workers_share_the_connections(rt: HostRuntime) -> Result<(), Fail> {
     let alloc = rt.alloc();
     let listener = TcpListener::bind(&rt, "127.0.0.1:0")?;
-    let address = listener.local_addr()?;
-    let mut streams = Vec::new(alloc);
-    for _ in 0..8 {
-        streams.push(ask(&rt, address, ACQUIRE)?)?;
-    }
+    let streams = connect(&rt, alloc, listener.local_addr()?, 8)?;
     let workers = workers(&rt, alloc, 3)?;
     assert_eq!(rt; workers.len(), 3);
     let workers = pool(&rt, alloc, &listener, 8, workers)?;
-    assert_eq!(rt; workers.len(), 3);
-    // Each message was answered once, at the clock of the worker that has its entry.
-    let mut answered: u64 = 0;
-    for (place, worker) in workers.iter().enumerate() {
-        let made = entries(&worker.answerer);
-        same(
-            &rt,
-            worker.clock.times,
-            (place as u64).saturating_mul(100).saturating_add(made),
-        );
-        answered = answered.saturating_add(made);
-    }
-    same(&rt, answered, 8);
+    same(&rt, workers.len(), 3);
+    have_answered(&rt, &workers, 8);
     for stream in &streams {
-        let text = answer(alloc, stream)?;
-        is_true(
-            &rt,
-            text.as_slice()
-                .starts_with(b"HTTP/1.1 200 OK\r\n".as_slice()),
-        );
+        is_answered(&rt, alloc, stream, "\"version\":1}")?;
     }
     Ok(())
 }
@@ -131,10 +128,9 @@ fn a_pool_ends_where_accepting_fails(rt: HostRuntime) -> Result<(), Fail> {
     let workers = workers(&rt, alloc, 2)?;
     assert_eq!(rt; workers.len(), 2);
     let workers = pool(&rt, alloc, &listener, 0, workers)?;
-    assert_eq!(rt; workers.len(), 2);
-    let answered = entries(&workers[0].answerer).saturating_add(entries(&workers[1].answerer));
-    same(&rt, answered, 1);
-    assert!(rt; !answer(alloc, &stream)?.is_empty());
+    same(&rt, workers.len(), 2);
+    have_answered(&rt, &workers, 1);
+    is_answered(&rt, alloc, &stream, "\"version\":1}")?;
     Ok(())
 }
 
@@ -147,21 +143,14 @@ fn connections_are_served_one_after_another(rt: HostRuntime) -> Result<(), Fail>
     // A message that is cut short ends its connection alone.
     let cut = ask(&rt, address, "POST")?;
     let last = ask(&rt, address, ACQUIRE)?;
-    let mut books = pay(&rt, alloc)?;
+    let mut books = pay(&rt, alloc);
     let mut clock = Readings { times: 0 };
     serve_connections(&rt, alloc, &listener, 3, &mut books, &mut clock);
-    same(&rt, entries(&books), 2);
-    same(&rt, clock.times, 2);
-    assert!(rt; answer(alloc, &cut)?.is_empty());
-    let text = answer(alloc, &first)?;
-    is_true(
-        &rt,
-        text.as_slice().ends_with(b"{\"state\":\"CLOSED\",\"ticket\":1,\"version\":1}".as_slice()),
-    );
-    let text = answer(alloc, &last)?;
-    is_true(
-        &rt,
-        text.as_slice().ends_with(b"{\"state\":\"CLOSED\",\"ticket\":2,\"version\":1}".as_slice()),
-    );
+    same(&rt, (entries(&books), clock.times), (2, 2));
+    same(&rt, answer(alloc, &cut)?.len(), 0);
+    let ending = "{\"state\":\"CLOSED\",\"ticket\":1,\"version\":1}";
+    is_answered(&rt, alloc, &first, ending)?;
+    let ending = "{\"state\":\"CLOSED\",\"ticket\":2,\"version\":1}";
+    is_answered(&rt, alloc, &last, ending)?;
     Ok(())
 }

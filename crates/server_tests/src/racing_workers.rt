@@ -2,8 +2,9 @@
 //! and its finish until the report of the other connection was answered.
 ghost use Rattle.std.specs.Prelude.{◌≡◌};
 
-use crate::checks::{is_true, same};
-use book::{Config, ConfigParts, Entry, Event, Reply};
+use crate::checks::{is_true, is_true_at, same};
+use crate::fixtures::open_desk;
+use book::{Entry, Event, Reply};
 use desk::{Desk, Gate, Seat};
 use http_desk::SeatedAnswerer;
 use http_front::Clock;
@@ -19,7 +20,6 @@ use std::sync::ledger::{Blank, Ledger};
 use std::test::Fail;
 use std::thread::Threads;
 use std::{io, thread};
-use verifier::default_classifier;
 
 /// How often a thread looks whether another one is there yet.
 const MOST_TURNS: u32 = 1_000_000;
@@ -67,6 +67,16 @@ struct OvertakingGate {
     overtaken: Flag,
 }
 
+impl OvertakingGate {
+    fn new() -> OvertakingGate {
+        OvertakingGate {
+            first_looked: Flag::new(),
+            second_answered: Flag::new(),
+            overtaken: Flag::new(),
+        }
+    }
+}
+
 impl Gate for OvertakingGate {
     fn between(&self, ticket: u64) {
         if ticket == 1 {
@@ -111,14 +121,31 @@ where
     Ok(stream)
 }
 
-/// Whether the other side sent, to its end, what has this piece.
-fn answers(alloc: Global, stream: &TcpStream, piece: &str) -> Result<bool, Fail> {
+/// The other side sent, to its end, that a report was recorded.
+fn is_recorded(rt: &impl Abort, alloc: Global, stream: &TcpStream) -> Result<(), Fail> {
     let mut text = Vec::new(alloc);
     (&mut &*stream).read_to_end(&mut text)?;
     let Ok(text) = str::from_utf8(&text) else {
-        return Ok(false);
+        return Err(Fail::from("an answer is text"));
     };
-    Ok(text.contains(piece))
+    is_true_at(rt, text.contains("\"fate\":\"recorded\""), text);
+    Ok(())
+}
+
+/// A seat gets the ticket of this number.
+fn get_ticket<L: Ledger, M: Ledger, R: Wait + Abort>(
+    rt: &R,
+    desk: &Desk<L, M>,
+    seat: &mut Seat<L>,
+    number: u64,
+) {
+    let service = desk.find("pay").expect(rt, "a service of the desk");
+    assert!(rt; seat.count() < 1_000_000);
+    let given = match desk.acquire(rt, seat, service, 1) {
+        Reply::Permitted { ticket, .. } => Some(ticket),
+        _ => None,
+    };
+    same(rt, given, Some(number));
 }
 
 /// A worker for each of two seats, in their order.
@@ -149,6 +176,20 @@ fn finishes(entry: &Entry, ticket: u64) -> bool {
     }
 }
 
+/// Both reports were entered, in the order of their finishes.
+fn are_in_order<L: Ledger, M: Ledger, R: Wait + Abort>(
+    rt: &R,
+    desk: &Desk<L, M>,
+    seat: &mut Seat<L>,
+) {
+    let service = desk.find("pay").expect(rt, "a service of the desk");
+    let page = desk.page(rt, seat, service, 8, 3);
+    let made = page.expect(rt, "entries 3 and 4");
+    assert_eq!(rt; made.len(), 2);
+    is_true(rt, finishes(&made[0], 2));
+    is_true(rt, finishes(&made[1], 1));
+}
+
 /// Lets two connections report to one service.
 fn reports_of_two_workers<
     L: Ledger + Send + Sync,
@@ -160,29 +201,13 @@ fn reports_of_two_workers<
     requires entries_name { entries.name ≡ M.name }
     requires entries_parts { (entries.parts ≡ M.parts) × (M.parts ≡ 65) }
 {
-    let config = Config::new(ConfigParts::DEFAULT).expect(rt, "the defaults");
-    let classifier = default_classifier(alloc).expect(rt, "the default classifier");
-    let mut services = Vec::new(alloc);
-    services.push((String::from_str(alloc, "pay")?, config, classifier))?;
-    assert!(rt; services.len() <= 64);
-    let mut desk = Desk::<L, M>::open(alloc, seats, entries, services)?;
+    let mut desk = open_desk::<L, M, R>(rt, alloc, seats, entries)?;
     let mut caller = desk.sit().expect(rt, "a seat for the tickets");
     let first = desk.sit().expect(rt, "a first worker's seat");
     let second = desk.sit().expect(rt, "a second worker's seat");
-    let service = desk.find("pay").expect(rt, "a service of the desk");
-    for ticket in 1..=2 {
-        assert!(rt; caller.count() < 1_000_000);
-        let Reply::Permitted { ticket: given, .. } = desk.acquire(rt, &mut caller, service, 1)
-        else {
-            return Err(Fail::from("a call is permitted"));
-        };
-        same(rt, given, ticket);
-    }
-    let gate = OvertakingGate {
-        first_looked: Flag::new(),
-        second_answered: Flag::new(),
-        overtaken: Flag::new(),
-    };
+    get_ticket(rt, &desk, &mut caller, 1);
+    get_ticket(rt, &desk, &mut caller, 2);
+    let gate = OvertakingGate::new();
     let listener = TcpListener::bind(rt, "127.0.0.1:0")?;
     let address = listener.local_addr()?;
     let held = ask(rt, address, FIRST_REPORT)?;
@@ -190,16 +215,11 @@ fn reports_of_two_workers<
     let workers = workers(rt, alloc, &desk, (first, second), &gate)?;
     assert_eq!(rt; workers.len(), 2);
     let workers = pool(rt, alloc, &listener, 2, workers)?;
-    assert_eq!(rt; workers.len(), 2);
+    same(rt, workers.len(), 2);
     is_true(rt, gate.overtaken.is_raised());
-    is_true(rt, answers(alloc, &held, "\"fate\":\"recorded\"")?);
-    is_true(rt, answers(alloc, &overtaking, "\"fate\":\"recorded\"")?);
-    // Both were recorded, in the order of their finishes.
-    let page = desk.page(rt, &mut caller, service, 8, 3);
-    let made = page.expect(rt, "entries 3 and 4");
-    assert_eq!(rt; made.len(), 2);
-    is_true(rt, finishes(&made[0], 2));
-    is_true(rt, finishes(&made[1], 1));
+    is_recorded(rt, alloc, &held)?;
+    is_recorded(rt, alloc, &overtaking)?;
+    are_in_order(rt, &desk, &mut caller);
     Ok(())
 }
 

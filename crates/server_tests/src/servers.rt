@@ -1,6 +1,6 @@
 //! Servers on the loopback address. A client connects and asks before its connection is accepted, so that one
 //! thread is both.
-use crate::checks::{is_true, is_true_at, same};
+use crate::checks::{is_true_at, same};
 use crate::fixtures::{ACQUIRE, ACQUIRED};
 use counted_io::Counted;
 use http_front::Clock;
@@ -8,12 +8,17 @@ use sidecar_server::{Status, SystemClock, serve_file, serve_path};
 use std::alloc::Global;
 use std::io::{Read, Write};
 use std::net::{Net, Shutdown, TcpListener, TcpStream};
+use std::process::Abort;
 use std::sync::Wait;
 use std::test::Fail;
 use std::thread::Threads;
 use std::{io, time};
 
 const STATE: &str = "GET /v1/services/pay/state HTTP/1.0\r\n\r\n";
+
+/// How the service stands behind one ticket.
+const STANDING: &str =
+    "\"entries\":1,\"failed\":0,\"failureRate\":-1,\"free\":24,\"notPermitted\":0,\"open\":1,\"period\":1,\"slow\":0,\"slowRate\":-1,\"state\":\"CLOSED\",\"total\":0,\"version\":1}";
 
 /// A writer that, when it is told the address of a server, connects to it for each input, and asks it.
 #[derive(Drop)]
@@ -66,6 +71,18 @@ fn answer(alloc: Global, stream: &TcpStream) -> io::Result<Vec<u8>> {
     Ok(text)
 }
 
+/// What three connections were answered: a ticket, nothing, and how the service stands.
+fn are_answered(rt: &impl Abort, alloc: Global, streams: &[TcpStream]) -> io::Result<()> {
+    assert_eq!(rt; streams.len(), 3);
+    let acquired = answer(alloc, &streams[0])?;
+    same(rt, acquired.as_slice(), ACQUIRED.as_bytes());
+    // A message that is cut short ends its connection alone.
+    same(rt, answer(alloc, &streams[1])?.len(), 0);
+    let state = answer(alloc, &streams[2])?;
+    is_true_at(rt, state.ends_with(STANDING.as_bytes()), state.as_slice());
+    Ok(())
+}
+
 #[test]
 fn connections_are_served(rt: HostRuntime) -> Result<(), Fail> {
     let file =
@@ -79,21 +96,8 @@ fn connections_are_served(rt: HostRuntime) -> Result<(), Fail> {
     });
     let mut clock = SystemClock::new(&rt);
     let status = serve_file(&rt, alloc, file.as_bytes(), &mut out, &mut clock);
-    same(&rt, status, Status::Done);
-    same(&rt, status.code(), 0);
-    let streams = &out.inner.streams;
-    assert_eq!(rt; streams.len(), 3);
-    same(
-        &rt,
-        answer(alloc, &streams[0])?.as_slice(),
-        ACQUIRED.as_bytes(),
-    );
-    // A message that is cut short ends its connection alone.
-    assert!(rt; answer(alloc, &streams[1])?.is_empty());
-    let state = answer(alloc, &streams[2])?;
-    let ending =
-        b"\"entries\":1,\"failed\":0,\"failureRate\":-1,\"free\":24,\"notPermitted\":0,\"open\":1,\"period\":1,\"slow\":0,\"slowRate\":-1,\"state\":\"CLOSED\",\"total\":0,\"version\":1}";
-    is_true(&rt, state.as_slice().ends_with(ending.as_slice()));
+    same(&rt, (status, status.code()), (Status::Done, 0));
+    are_answered(&rt, alloc, &out.inner.streams)?;
     Ok(())
 }
 

@@ -7,7 +7,6 @@ use http_serving::{Clock, Ended, Request, Responder, serve};
 use std::alloc::{AllocError, Global};
 use std::process::Abort;
 use std::sync::Wait;
-use std::test::Fail;
 
 /// How often it was asked.
 #[derive(Drop)]
@@ -63,24 +62,31 @@ impl Clock for Readings {
     }
 }
 
-/// Serves an input; reads and writes give and take at most so many bytes, and fail at these calls.
-fn served(
-    rt: &(impl Wait + Abort),
-    alloc: Global,
-    input: &[u8],
+/// An input, how many bytes a read gives and a write takes at most, and at which read and which write these
+/// begin to fail.
+#[derive(Clone, Copy)]
+struct Input<'a> {
+    bytes: &'a [u8],
     piece: usize,
     reads: u64,
     writes: u64,
-) -> (Ended, Vec<u8>, u64, u64) {
+}
+
+/// What is written, how serving ended, how often the responder was asked, and how many calls failed.
+type Outcome<'a> = (&'a [u8], Ended, u64, u64);
+
+/// Serves an input, and compares what comes of it.
+fn is_served(rt: &(impl Wait + Abort), alloc: Global, input: Input<'_>, wanted: Outcome<'_>) {
+    let (text, end, times, failures) = wanted;
     let mut reader = Counted::new(FailsAt {
-        inner: input,
-        calls_left: reads,
-        piece,
+        inner: input.bytes,
+        calls_left: input.reads,
+        piece: input.piece,
     });
     let mut writer = Counted::new(FailsAt {
         inner: Vec::new(alloc),
-        calls_left: writes,
-        piece,
+        calls_left: input.writes,
+        piece: input.piece,
     });
     let mut asked = Asked { times: 0 };
     let mut clock = Readings { times: 0 };
@@ -93,142 +99,165 @@ fn served(
         &mut asked,
         &mut clock,
     );
-    let failures = reader.failures.saturating_add(writer.failures);
     same(rt, asked.times, clock.times);
-    (ended, writer.inner.inner, asked.times, failures)
+    same_at(rt, writer.inner.inner.as_slice(), text, input.bytes);
+    let failed = reader.failures.saturating_add(writer.failures);
+    same_at(
+        rt,
+        (ended, asked.times, failed),
+        (end, times, failures),
+        input.bytes,
+    );
+}
+
+/// An input, what is written for it, how serving ends, and how often the responder is asked.
+type Served<'a> = (&'a str, &'a str, Ended, u64);
+
+/// Serves each input, where a read gives and a write takes at most so many bytes, and none fails.
+fn are_served(rt: &(impl Wait + Abort), alloc: Global, piece: usize, rows: &[Served<'_>]) {
+    for row in rows {
+        let (bytes, text, end, times) = *row;
+        let input = Input {
+            bytes: bytes.as_bytes(),
+            piece,
+            reads: 1_000,
+            writes: 1_000,
+        };
+        is_served(rt, alloc, input, (text.as_bytes(), end, times, 0));
+    }
+}
+
+const INPUTS: &[Served<'static>] = &[
+    ("", "", Ended::Closed, 0),
+    ("GET /a HTTP/1.1\r\n\r\n", "/a\n", Ended::Closed, 1),
+    ("\r\n", "", Ended::Truncated, 0),
+    ("GET /a HTTP/1.1\r\n\r", "", Ended::Truncated, 0),
+    (
+        "GET /a HTTP/1.1\r\n\r\nPUT /b HTTP/1.1\r\nContent-Length: 4\r\n\r\nxyz",
+        "/a\n",
+        Ended::Truncated,
+        1,
+    ),
+    (
+        "GET /a HTTP/1.0\r\n\r\nGET /b HTTP/1.1\r\n\r\n",
+        "/a\n",
+        Ended::Finished,
+        1,
+    ),
+    (
+        "GET /a HTTP/1.1\r\n\r\nGET /b HTTP/1.1\r\nConnection: Close\r\n\r\nGET /c HTTP/1.1\r\n\r\n",
+        "/a\n/b\n",
+        Ended::Finished,
+        2,
+    ),
+    (
+        "GET /a HTTP/1.1\r\n\r\nGET\r\n\r\nGET /c HTTP/1.1\r\n\r\n",
+        "/a\nrefused\n",
+        Ended::Finished,
+        1,
+    ),
+    (
+        "GET /a HTTP/1.1\r\nTransfer-Encoding: chunked\r\n\r\n",
+        "refused\n",
+        Ended::Finished,
+        0,
+    ),
+];
+
+#[test]
+fn inputs_are_served(rt: HostRuntime) {
+    are_served(&rt, rt.alloc(), 1, INPUTS);
+    are_served(&rt, rt.alloc(), 7, INPUTS);
+    are_served(&rt, rt.alloc(), 100_000, INPUTS);
+}
+
+/// So many times the letter `x` between two texts.
+fn long_text(rt: &impl Abort, alloc: Global, before: &str, count: u64, after: &str) -> Vec<u8> {
+    let mut text = Vec::from_slice(alloc, before.as_bytes()).expect(rt, "ample memory");
+    for _ in 0..count {
+        text.push(b'x').expect(rt, "ample memory");
+    }
+    text.extend_from_slice(after.as_bytes())
+        .expect(rt, "ample memory");
+    text
+}
+
+#[test]
+fn long_bodies_are_whole(rt: HostRuntime) {
+    let alloc = rt.alloc();
+    let head = "PUT / HTTP/1.1\r\nContent-Length: 65536\r\n\r\n";
+    let bytes = long_text(&rt, alloc, head, 65_536, "GET /b HTTP/1.1\r\n\r\n");
+    let text = long_text(&rt, alloc, "/", 65_536, "\n/b\n");
+    let input = Input {
+        bytes: &bytes,
+        piece: 1_000,
+        reads: 1_000,
+        writes: 1_000,
+    };
+    is_served(&rt, alloc, input, (&text, Ended::Closed, 2, 0));
 }
 
 /// Two messages, the second with a body.
 const TWO: &[u8] = b"GET /a HTTP/1.1\r\n\r\nPOST /b HTTP/1.1\r\nContent-Length: 3\r\n\r\nxyz";
 
-#[test]
-fn inputs_are_served(rt: HostRuntime) -> Result<(), Fail> {
-    for (input, text, end, times) in [
-        ("", "", Ended::Closed, 0),
-        ("GET /a HTTP/1.1\r\n\r\n", "/a\n", Ended::Closed, 1),
-        ("\r\n", "", Ended::Truncated, 0),
-        ("GET /a HTTP/1.1\r\n\r", "", Ended::Truncated, 0),
-        (
-            "GET /a HTTP/1.1\r\n\r\nPUT /b HTTP/1.1\r\nContent-Length: 4\r\n\r\nxyz",
-            "/a\n",
-            Ended::Truncated,
-            1,
-        ),
-        (
-            "GET /a HTTP/1.0\r\n\r\nGET /b HTTP/1.1\r\n\r\n",
-            "/a\n",
-            Ended::Finished,
-            1,
-        ),
-        (
-            "GET /a HTTP/1.1\r\n\r\nGET /b HTTP/1.1\r\nConnection: Close\r\n\r\nGET /c HTTP/1.1\r\n\r\n",
-            "/a\n/b\n",
-            Ended::Finished,
-            2,
-        ),
-        (
-            "GET /a HTTP/1.1\r\n\r\nGET\r\n\r\nGET /c HTTP/1.1\r\n\r\n",
-            "/a\nrefused\n",
-            Ended::Finished,
-            1,
-        ),
-        (
-            "GET /a HTTP/1.1\r\nTransfer-Encoding: chunked\r\n\r\n",
-            "refused\n",
-            Ended::Finished,
-            0,
-        ),
-    ] {
-        for piece in [1, 7, 100_000] {
-            let (ended, written, asked, failures) = served(
-                &rt,
-                rt.alloc(),
-                input.as_bytes(),
-                piece,
-                1_000,
-                1_000,
-            );
-            same_at(&rt, ended, end, &input);
-            same_at(&rt, written.as_slice(), text.as_bytes(), &input);
-            same_at(&rt, asked, times, &input);
-            same_at(&rt, failures, 0, &input);
-        }
-    }
-    Ok(())
-}
+/// The answers to both.
+const BOTH: &[u8] = b"/a\n/bxyz\n";
 
-#[test]
-fn long_bodies_are_whole(rt: HostRuntime) -> Result<(), Fail> {
-    let mut input = Vec::from_slice(
-        rt.alloc(),
-        b"PUT / HTTP/1.1\r\nContent-Length: 65536\r\n\r\n",
-    )?;
-    for _ in 0..65_536 {
-        input.push(b'x')?;
-    }
-    input.extend_from_slice(b"GET /b HTTP/1.1\r\n\r\n")?;
-    let (ended, written, asked, _) = served(&rt, rt.alloc(), &input, 1_000, 1_000, 1_000);
-    same(&rt, ended, Ended::Closed);
-    same(&rt, asked, 2);
-    assert_eq!(rt; written.len(), 65_541);
-    same(&rt, written.last().copied(), Some(b'\n'));
-    Ok(())
+/// One byte a call: the first message has 19 bytes, both together have 61, and one read more finds the end.
+fn reads_fail(rt: &(impl Wait + Abort), alloc: Global, reads: u64) {
+    let (length, times, end, failures) = match reads {
+        0..19 => (0, 0, Ended::ReadFailed, 1),
+        19..61 => (3, 1, Ended::ReadFailed, 1),
+        61 => (9, 2, Ended::ReadFailed, 1),
+        _ => (9, 2, Ended::Closed, 0),
+    };
+    let input = Input {
+        bytes: TWO,
+        piece: 1,
+        reads,
+        writes: 1_000,
+    };
+    is_served(rt, alloc, input, (&BOTH[..length], end, times, failures));
 }
 
 #[test]
 fn failed_reads_leave_whole_messages(rt: HostRuntime) {
-    // One byte a call: the first message has 19 bytes, both together have 61, and one read more finds
-    // the end.
     for reads in 0..63 {
-        let (ended, written, asked, failures) = served(&rt, rt.alloc(), TWO, 1, reads, 1_000);
-        let (text, times, end, failed) = match reads {
-            0..19 => (b"".as_slice(), 0, Ended::ReadFailed, 1),
-            19..61 => (b"/a\n".as_slice(), 1, Ended::ReadFailed, 1),
-            61 => (b"/a\n/bxyz\n".as_slice(), 2, Ended::ReadFailed, 1),
-            _ => (b"/a\n/bxyz\n".as_slice(), 2, Ended::Closed, 0),
-        };
-        same_at(&rt, ended, end, &reads);
-        same_at(&rt, written.as_slice(), text, &reads);
-        same_at(&rt, asked, times, &reads);
-        same_at(&rt, failures, failed, &reads);
+        reads_fail(&rt, rt.alloc(), reads);
     }
+}
+
+/// One byte a call: the first answer has 3 bytes, both together have 9.
+fn writes_fail(rt: &(impl Wait + Abort), alloc: Global, writes: u64) {
+    let (times, end, failures) = match writes {
+        0..3 => (1, Ended::WriteFailed, 1),
+        3..9 => (2, Ended::WriteFailed, 1),
+        _ => (2, Ended::Closed, 0),
+    };
+    let input = Input {
+        bytes: TWO,
+        piece: 1,
+        reads: 1_000,
+        writes,
+    };
+    let text = BOTH.get(..writes as usize).expect(rt, "a beginning");
+    is_served(rt, alloc, input, (text, end, times, failures));
 }
 
 #[test]
 fn failed_writes_leave_a_beginning(rt: HostRuntime) {
-    // One byte a call: the first answer has 3 bytes, both together have 9.
-    let whole = b"/a\n/bxyz\n".as_slice();
-    for writes in 0..10u64 {
-        let (ended, written, asked, failures) = served(&rt, rt.alloc(), TWO, 1, 1_000, writes);
-        let (times, end, failed) = match writes {
-            0..3 => (1, Ended::WriteFailed, 1),
-            3..9 => (2, Ended::WriteFailed, 1),
-            _ => (2, Ended::Closed, 0),
-        };
-        same_at(&rt, ended, end, &writes);
-        same_at(
-            &rt,
-            Some(written.as_slice()),
-            whole.get(..writes as usize),
-            &writes,
-        );
-        same_at(&rt, asked, times, &writes);
-        same_at(&rt, failures, failed, &writes);
+    for writes in 0..10 {
+        writes_fail(&rt, rt.alloc(), writes);
     }
 }
 
 #[test]
 fn writes_of_nothing_fail(rt: HostRuntime) {
-    let (ended, written, asked, failures) = served(
-        &rt,
-        rt.alloc(),
-        b"GET /a HTTP/1.1\r\n\r\n",
-        0,
-        1_000,
-        5,
-    );
-    same(&rt, ended, Ended::WriteFailed);
-    assert!(rt; written.is_empty());
-    same(&rt, asked, 1);
-    same(&rt, failures, 1);
+    let input = Input {
+        bytes: b"GET /a HTTP/1.1\r\n\r\n",
+        piece: 0,
+        reads: 1_000,
+        writes: 5,
+    };
+    is_served(&rt, rt.alloc(), input, (b"", Ended::WriteFailed, 1, 1));
 }
