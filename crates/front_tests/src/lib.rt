@@ -3,6 +3,8 @@
 #![tactic(auto)]
 
 #[cfg(test)]
+mod answer_texts;
+#[cfg(test)]
 mod asking;
 #[cfg(test)]
 mod checks;
@@ -16,5 +18,3 @@ mod replayed_events;
 mod replayed_services;
 #[cfg(test)]
 mod replays;
-#[cfg(test)]
-mod texts;
