@@ -102,8 +102,3 @@ sent_along domain context place (instruction.Jump w distance) a next target e = 
 sent_along domain context place (instruction.Branch c w left right distance) a next target e = two_edges _ _ _ _ next target e
 sent_along domain context place (instruction.Call helper) a next target e = one_edge _ _ next target e
 sent_along domain context place instruction.Exit a next target e = no_edge _ _ next target e
-
--- one delivery after the other
-pub delivered_both : {X : Type 0} (domain : Ghosts X) (states : List (Option (AbsState X))) (a b : List (Message X)) → delivered_all domain (delivered_all domain states a) b ≡ delivered_all domain states (a ++ b)
-delivered_both domain states [] b = refl
-delivered_both domain states (m ∷ a) b = delivered_both domain (delivered domain states m) a b

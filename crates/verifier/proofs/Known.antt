@@ -185,10 +185,6 @@ unfolding fault_from
 fault_done domain context slots place h = (let none : length slots - place ≡ 0 = omega arith in ap (fault_from domain context slots place) none)
 
 -- what the pass finds at an instruction
-pub passes_here : {X : Type 0} (domain : Ghosts X) (context : ℕ) (o : Option Instruction) (k : Option (AbsState X)) (i : Instruction) (a after : AbsState X) → o ≡ Some i → k ≡ Some a → transfer_in domain context a false i ≡ Ok after
-    → fault_with domain context o k ≡ None
-passes_here domain context o k i a after p q e = ap (λ (x : Option Instruction). fault_with domain context x k) p ∙ (ap (fault_with domain context (Some i)) q ∙ ap fault_in e)
-
 pub fails_here : {X : Type 0} (domain : Ghosts X) (context : ℕ) (o : Option Instruction) (k : Option (AbsState X)) (i : Instruction) (a : AbsState X) (number : RefusalNumber) → o ≡ Some i → k ≡ Some a → transfer_in domain context a false i ≡ Err number
     → fault_with domain context o k ≡ Some number
 fails_here domain context o k i a number p q e = ap (λ (x : Option Instruction). fault_with domain context x k) p ∙ (ap (fault_with domain context (Some i)) q ∙ ap fault_in e)
@@ -198,10 +194,6 @@ pub never_fails : {X : Type 0} (domain : Ghosts X) (context : ℕ) (a after : Ab
 never_fails domain context a after i number e f = let b = passes_alike domain context a after true i e in err_not_ok number b.0 (sym f ∙ b.1)
 
 -- ---- results
-
-pub on_ok_any : {A E : Type 0} (r : Result A E) (P : Type 0) → P → OnOk r P
-on_ok_any (Ok a) P p = p
-on_ok_any (Err e) P p = tt
 
 pub on_ok_map : {A E : Type 0} (r : Result A E) (P Q : Type 0) → (P → Q) → OnOk r P → OnOk r Q
 on_ok_map (Ok a) P Q f p = f p
@@ -216,11 +208,3 @@ pub get_or-default : {A : Type 0} (xs : List A) (i : ℕ) (d e : A) → i < leng
 get_or-default [] i d e h = absurd (omega arith)
 get_or-default (x ∷ xs) zero d e h = refl
 get_or-default (x ∷ xs) (suc i) d e h = get_or-default xs i d e (omega arith)
-
--- clones of none are none
-pub only_none : {X : Type 0} {R : Option X → Type 0} {P : Type 0} → (((y : Option X) → R y → y ≡ None) → P) → ((a : X) → R (Some a) → ⊥) → P
-only_none {X} {R} f never = f each
-  where
-    each : (y : Option X) → R y → y ≡ None
-    each None r = refl
-    each (Some a) r = absurd (never a r)

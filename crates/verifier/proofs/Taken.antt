@@ -1,9 +1,8 @@
 -- A state is taken from the list, and put back joined or changed.
 use Rattle.std.proofs.Common.{◌≡◌, ◌≢◌, ℕ, zero, suc, ◌-◌, ◌<◌, ◌≤◌, ◌⊎◌, inl, inr, ◌++◌, true, false, List, [], ◌∷◌, length, get_or, Option, Some, None, Err, refl, sym, ap, ◌∙◌, subst, arith, length-set, get_or-set_other}
 use Rattle.std.proofs.Math.ListN.{get_or-map}
-use Rattle.std.proofs.lemmas.List.{map-set, append-nil}
-use Rattle.std.specs.Prelude.{replicate, slice_set, option_map, option_to_list, IfSome, Box, box_value}
-use Rattle.refusals.specs.declared.RefusalNumber.{RefusalNumber}
+use Rattle.std.proofs.lemmas.List.{map-set, length-map}
+use Rattle.std.specs.Prelude.{replicate, slice_set, option_map, option_to_list, Box, box_value}
 use Rattle.abs_states.specs.Transfers.{transfer_in}
 use Rattle.bpf_profile.specs.declared.instruction.Instruction.{Instruction}
 use Rattle.bpf_profile.specs.declared.slot.Slot.{Slot}
@@ -19,20 +18,20 @@ use Rattle.verifier.specs.declared.refusal.Refusal.{Refusal}
 use Rattle.verifier.specs.Verifying.{out_of_memory, fault_of}
 use Rattle.verifier.proofs.Delivered.{length-delivered, delivered_all_at, sent_along}
 use Rattle.verifier.proofs.Edges.{GoesForward}
-use Rattle.verifier.proofs.Known.{none_sent, sent_goes, within_all, fails_here, fault_ends}
+use Rattle.verifier.proofs.Known.{Sent, none_sent, sent_goes, within_all, fails_here, fault_ends, get_or-default}
 
 set_twice : {A : Type 0} (xs : List A) (i : ℕ) (a b : A) → slice_set (slice_set xs i a) i b ≡ slice_set xs i b
 set_twice [] i a b = refl
 set_twice (x ∷ xs) zero a b = refl
 set_twice (x ∷ xs) (suc i) a b = ap (λ (more : List _). x ∷ more) (set_twice xs i a b)
 
-pub joined_in : {X : Type 0} (domain : Ghosts X) (states : List (Option (AbsState X))) (to : ℕ) (taken : Option (AbsState X)) (before joined state : AbsState X)
+joined_in : {X : Type 0} (domain : Ghosts X) (states : List (Option (AbsState X))) (to : ℕ) (taken : Option (AbsState X)) (before joined state : AbsState X)
     → state_of states to ≡ Some before → joined ≡ joined_state domain before state → slice_set (slice_set states to taken) to (Some joined) ≡ delivered domain states (record { to = to; state = state })
 joined_in {X} domain states to taken before joined state there e =
     set_twice states to taken (Some joined)
     ∙ ap (λ (s : AbsState X). slice_set states to (Some s)) (e ∙ sym (ap (λ (o : Option (AbsState X)). joined_into domain o state) there))
 
-pub put_in : {X : Type 0} (domain : Ghosts X) (states : List (Option (AbsState X))) (to : ℕ) (taken : Option (AbsState X)) (state : AbsState X)
+put_in : {X : Type 0} (domain : Ghosts X) (states : List (Option (AbsState X))) (to : ℕ) (taken : Option (AbsState X)) (state : AbsState X)
     → state_of states to ≡ None → slice_set (slice_set states to taken) to (Some state) ≡ delivered domain states (record { to = to; state = state })
 put_in {X} domain states to taken state there =
     set_twice states to taken (Some state)
@@ -46,6 +45,9 @@ seen_nones X Z (suc count) = ap (λ (more : List (Option X)). None ∷ more) (se
 
 pub seen_set : {X Z : Type 0} (states : List (Option (Box X Z))) (i : ℕ) (o : Option (Box X Z)) → seen (slice_set states i o) ≡ slice_set (seen states) i (option_map box_value o)
 seen_set states i o = map-set (option_map box_value) states i o
+
+pub length-seen : {X Z : Type 0} (states : List (Option (Box X Z))) → length (seen states) ≡ length states
+length-seen states = length-map states (option_map box_value)
 
 pub seen_at : {X Z : Type 0} (states : List (Option (Box (AbsState X) Z))) (i : ℕ) → state_of (seen states) i ≡ option_map box_value (get_or states i None)
 seen_at states i = get_or-map (option_map box_value) states i None
@@ -68,59 +70,47 @@ box_put_in domain states to taken state there =
 pub dropped_seen : {X Z : Type 0} (states : List (Option (Box (AbsState X) Z))) (place : ℕ) (taken : Option (Box (AbsState X) Z)) → taken ≡ None → seen (slice_set states place taken) ≡ dropped (seen states) place
 dropped_seen {X} {Z} states place taken e = seen_set states place taken ∙ ap (λ (o : Option (Box (AbsState X) Z)). slice_set (seen states) place (option_map box_value o)) e
 
--- ---- what a slot sends once its state was taken
+-- the state before a slot, where a box was found
+pub seen_some : {X Z : Type 0} (states : List (Option (Box (AbsState X) Z))) (place : ℕ) (d : Option (Box (AbsState X) Z)) (state : Box (AbsState X) Z) → place < length states → get_or states place d ≡ Some state → state_of (seen states) place ≡ Some (box_value state)
+seen_some states place d state h e = seen_at states place ∙ ap (option_map box_value) (get_or-default states place None d h ∙ e)
+
+pub seen_none : {X Z : Type 0} (states : List (Option (Box (AbsState X) Z))) (place : ℕ) (d : Option (Box (AbsState X) Z)) → place < length states → get_or states place d ≡ None → state_of (seen states) place ≡ None
+seen_none states place d h e = seen_at states place ∙ ap (option_map box_value) (get_or-default states place None d h ∙ e)
+
+-- ---- what a slot sends
+
+-- what goes along the edges of a flow is what the slot sends
+pub edges_send : {X : Type 0} (domain : Ghosts X) (context place : ℕ) (o : Option Instruction) (k : Option (AbsState X)) (i : Instruction) (a : AbsState X) (next target : Option ℕ) (before after : List (Option (AbsState X)))
+    → o ≡ Some i → k ≡ Some a → (option_to_list next ++ option_to_list target) ≡ edges_of place i
+    → after ≡ delivered_all domain before (message_to next (transfer_in domain context a false i) ++ message_to target (transfer_in domain context a true i))
+    → after ≡ delivered_all domain before (sent_with domain context place o k)
+edges_send {X} domain context place o k i a next target before after at known edges e =
+    e
+    ∙ (ap (delivered_all domain before) (sent_along domain context place i a next target edges)
+    ∙ (ap (λ (s : Option (AbsState X)). delivered_all domain before (sent_with domain context place (Some i) s)) (sym known)
+    ∙ ap (λ (j : Option Instruction). delivered_all domain before (sent_with domain context place j k)) (sym at)))
 
 -- a tail sends nothing
-pub tail_sends : {X Z : Type 0} (domain : Ghosts X) (context : ℕ) (states : List (Option (Box (AbsState X) Z))) (place : ℕ) (taken : Option (Box (AbsState X) Z)) (o : Option Instruction) (k : Option (AbsState X)) → taken ≡ None → o ≡ None
-    → seen (slice_set states place taken) ≡ delivered_all domain (dropped (seen states) place) (sent_with domain context place o k)
-tail_sends domain context states place taken o k t e = dropped_seen states place taken t ∙ sym (ap (λ (i : Option Instruction). delivered_all domain (dropped (seen states) place) (sent_with domain context place i k)) e)
+pub tail_sends : {X : Type 0} (domain : Ghosts X) (context place : ℕ) (o : Option Instruction) (k : Option (AbsState X)) (states : List (Option (AbsState X))) → o ≡ None → states ≡ delivered_all domain states (sent_with domain context place o k)
+tail_sends domain context place o k states e = sym (ap (λ (i : Option Instruction). delivered_all domain states (sent_with domain context place i k)) e)
 
 -- an instruction of which nothing is known sends nothing
-pub unknown_sends : {X Z : Type 0} (domain : Ghosts X) (context : ℕ) (states : List (Option (Box (AbsState X) Z))) (place : ℕ) (taken : Option (Box (AbsState X) Z)) (o : Option Instruction) (k : Option (AbsState X)) → taken ≡ None → k ≡ None
-    → seen (slice_set states place taken) ≡ delivered_all domain (dropped (seen states) place) (sent_with domain context place o k)
-unknown_sends {X} domain context states place taken None k t e = dropped_seen states place taken t
-unknown_sends {X} domain context states place taken (Some i) k t e = dropped_seen states place taken t ∙ sym (ap (λ (a : Option (AbsState X)). delivered_all domain (dropped (seen states) place) (sent_with domain context place (Some i) a)) e)
+pub unknown_sends : {X : Type 0} (domain : Ghosts X) (context place : ℕ) (o : Option Instruction) (k : Option (AbsState X)) (states : List (Option (AbsState X))) → k ≡ None → states ≡ delivered_all domain states (sent_with domain context place o k)
+unknown_sends {X} domain context place None k states e = refl
+unknown_sends {X} domain context place (Some i) k states e = sym (ap (λ (a : Option (AbsState X)). delivered_all domain states (sent_with domain context place (Some i) a)) e)
 
-pub both_send : {X Z : Type 0} (domain : Ghosts X) (context : ℕ) (states : List (Option (Box (AbsState X) Z))) (place : ℕ) (taken : Option (Box (AbsState X) Z)) (o : Option Instruction) (i : Instruction) (state : Box (AbsState X) Z) (next target : Option ℕ) (after : List (Option (AbsState X)))
-    → taken ≡ None → o ≡ Some i → get_or states place None ≡ Some state → (option_to_list next ++ option_to_list target) ≡ edges_of place i
-    → after ≡ delivered_all domain (seen (slice_set states place taken)) (message_to next (transfer_in domain context (box_value state) false i) ++ message_to target (transfer_in domain context (box_value state) true i))
-    → after ≡ delivered_all domain (dropped (seen states) place) (sent_with domain context place o (state_of (seen states) place))
-both_send {X} {Z} domain context states place taken o i state next target after t at there edges e =
-    e
-    ∙ (ap (λ (s : List (Option (AbsState X))). delivered_all domain s (message_to next (transfer_in domain context (box_value state) false i) ++ message_to target (transfer_in domain context (box_value state) true i))) (dropped_seen states place taken t)
-    ∙ (ap (delivered_all domain (dropped (seen states) place)) (sent_along domain context place i (box_value state) next target edges)
-    ∙ (ap (λ (k : Option (AbsState X)). delivered_all domain (dropped (seen states) place) (sent_with domain context place (Some i) k)) (sym (seen_at states place ∙ ap (option_map box_value) there))
-    ∙ ap (λ (j : Option Instruction). delivered_all domain (dropped (seen states) place) (sent_with domain context place j (state_of (seen states) place))) (sym at))))
+pub unknown_passes : {X : Type 0} (domain : Ghosts X) (context : ℕ) (o : Option Instruction) (k : Option (AbsState X)) → k ≡ None → fault_with domain context o k ≡ None
+unknown_passes {X} domain context None k e = refl
+unknown_passes {X} domain context (Some i) k e = ap (λ (a : Option (AbsState X)). fault_with domain context (Some i) a) e
 
-pub one_sends : {X Z : Type 0} (domain : Ghosts X) (context : ℕ) (states : List (Option (Box (AbsState X) Z))) (place : ℕ) (taken : Option (Box (AbsState X) Z)) (o : Option Instruction) (i : Instruction) (state : Box (AbsState X) Z) (next target : Option ℕ) (after : List (Option (AbsState X)))
-    → taken ≡ None → o ≡ Some i → get_or states place None ≡ Some state → target ≡ None → (option_to_list next ++ option_to_list target) ≡ edges_of place i
-    → after ≡ delivered_all domain (seen (slice_set states place taken)) (message_to next (transfer_in domain context (box_value state) false i))
-    → after ≡ delivered_all domain (dropped (seen states) place) (sent_with domain context place o (state_of (seen states) place))
-one_sends {X} domain context states place taken o i state next target after t at there none edges e =
-    both_send domain context states place taken o i state next target after t at there edges
-    (e
-    ∙ (ap (delivered_all domain (seen (slice_set states place taken))) (sym (append-nil (message_to next (transfer_in domain context (box_value state) false i))))
-    ∙ ap (λ (to : Option ℕ). delivered_all domain (seen (slice_set states place taken)) (message_to next (transfer_in domain context (box_value state) false i) ++ message_to to (transfer_in domain context (box_value state) true i))) (sym none)))
+pub edges_pass : {X : Type 0} (domain : Ghosts X) (context : ℕ) (o : Option Instruction) (k : Option (AbsState X)) (i : Instruction) (a : AbsState X) → o ≡ Some i → k ≡ Some a → fault_in (transfer_in domain context a false i) ≡ None → fault_with domain context o k ≡ None
+edges_pass domain context o k i a at known e = ap (λ (j : Option Instruction). fault_with domain context j k) at ∙ (ap (fault_with domain context (Some i)) known ∙ e)
 
--- the fault of an instruction whose state was taken
-pub box_fails : {X Z : Type 0} (domain : Ghosts X) (context : ℕ) (states : List (Option (Box (AbsState X) Z))) (place : ℕ) (o : Option Instruction) (i : Instruction) (state : Box (AbsState X) Z) (number : RefusalNumber)
-    → o ≡ Some i → get_or states place None ≡ Some state → transfer_in domain context (box_value state) false i ≡ Err number → fault_with domain context o (state_of (seen states) place) ≡ Some number
-box_fails domain context states place o i state number at there e = fails_here domain context o (state_of (seen states) place) i (box_value state) number at (seen_at states place ∙ ap (option_map box_value) there) e
-
-pub box_passes : {X Z : Type 0} (domain : Ghosts X) (context : ℕ) (states : List (Option (Box (AbsState X) Z))) (place : ℕ) (o : Option Instruction) (i : Instruction) (state : Box (AbsState X) Z)
-    → o ≡ Some i → get_or states place None ≡ Some state → fault_in (transfer_in domain context (box_value state) false i) ≡ None → fault_with domain context o (state_of (seen states) place) ≡ None
-box_passes {X} domain context states place o i state at there e =
-    ap (λ (j : Option Instruction). fault_with domain context j (state_of (seen states) place)) at
-    ∙ (ap (fault_with domain context (Some i)) (seen_at states place ∙ ap (option_map box_value) there) ∙ e)
-
-pub fails_or_memory : {X Z : Type 0} (domain : Ghosts X) (context : ℕ) (states : List (Option (Box (AbsState X) Z))) (place : ℕ) (o : Option Instruction) (i : Instruction) (state : Box (AbsState X) Z) (e : Refusal)
-    → o ≡ Some i → get_or states place None ≡ Some state → (e ≡ out_of_memory) ⊎ ((transfer_in domain context (box_value state) false i ≡ Err e.number) × (e.slot ≡ place))
-    → (e ≡ out_of_memory) ⊎ ((fault_with domain context o (state_of (seen states) place) ≡ Some e.number) × (e.slot ≡ place))
-fails_or_memory domain context states place o i state e at there (inl memory) = inl memory
-fails_or_memory domain context states place o i state e at there (inr fault) = inr (box_fails domain context states place o i state e.number at there fault.0, fault.1)
-
-pub some_inside : (o : Option ℕ) (n count : ℕ) → o ≡ Some n → IfSome o (λ to. to < count) → n < count
-some_inside o n count e h = subst (λ (k : Option ℕ). IfSome k (λ to. to < count)) e h
+pub fails_or_memory : {X : Type 0} (domain : Ghosts X) (context place : ℕ) (o : Option Instruction) (k : Option (AbsState X)) (i : Instruction) (a : AbsState X) (e : Refusal)
+    → o ≡ Some i → k ≡ Some a → (e ≡ out_of_memory) ⊎ ((transfer_in domain context a false i ≡ Err e.number) × (e.slot ≡ place))
+    → (e ≡ out_of_memory) ⊎ ((fault_with domain context o k ≡ Some e.number) × (e.slot ≡ place))
+fails_or_memory domain context place o k i a e at known (inl memory) = inl memory
+fails_or_memory domain context place o k i a e at known (inr fault) = inr (fails_here domain context o k i a e.number at known fault.0, fault.1)
 
 -- ---- the states that are still awaited
 
@@ -129,8 +119,12 @@ pub record Awaits {X : Type 0} (domain : Ghosts X) (context : ℕ) (slots : List
   pub same : length states ≡ length slots
   pub each : (to : ℕ) → count ≤ to → to < length slots → state_of states to ≡ arriving domain context slots count to
 
+-- where nothing was dropped yet, all that were sent are there
+pub sent_awaits : {X : Type 0} (domain : Ghosts X) (context : ℕ) (slots : List Slot) (states : List (Option (AbsState X))) (count : ℕ) → Sent domain context slots states count → Awaits domain context slots states count
+sent_awaits domain context slots states count p = record { same = p.same; each = λ to from within. p.each to within }
+
 pub none_awaited : {X : Type 0} (domain : Ghosts X) (context : ℕ) (slots : List Slot) (states : List (Option (AbsState X))) → 0 < length slots → states ≡ entry_states domain (length slots) → Awaits domain context slots states 0
-none_awaited domain context slots states some e = let p = none_sent domain context slots states some e in record { same = p.same; each = λ to from within. p.each to within }
+none_awaited domain context slots states some e = sent_awaits domain context slots states 0 (none_sent domain context slots states some e)
 
 pub awaits_more : {X : Type 0} (domain : Ghosts X) (context : ℕ) (slots : List Slot) (states after : List (Option (AbsState X))) (place next : ℕ) → GoesForward slots → place < length slots → next ≡ suc place → Awaits domain context slots states place
     → after ≡ delivered_all domain (dropped states place) (sent_with domain context place (instruction_at slots place) (state_of states place)) → Awaits domain context slots after next

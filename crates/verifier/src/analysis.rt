@@ -8,36 +8,36 @@ ghost use Rattle.bpf_profile.specs.Safety.{IsSafe};
 ghost use Rattle.bpf_profile.specs.Spelling.{IsProgram};
 ghost use Rattle.verifier.specs.Analysis.{analysis_fault, AreKnown};
 ghost use Rattle.verifier.specs.Memory.{StateFits};
-ghost use Rattle.verifier.specs.Passes.{entry_states};
 ghost use Rattle.verifier.specs.Regions.{ReadsNamedRegions};
 ghost use Rattle.verifier.specs.Verifying.{out_of_memory, fault_of};
 
 use crate::awaited::pass_awaited;
-use crate::nones::nones;
 use crate::passes::pass_all;
 use crate::refusal::Refusal;
+use crate::sending::first_states;
 use abs_domain::Domain;
 use abs_states::AbsState;
 use bpf_decode::{Decoded, Program};
 use bpf_flat::FlatProgram;
 use flow_check::Flow;
-use std::alloc::{AllocError, Global};
+use std::alloc::Global;
 use std::marker::Model;
 
 /// The abstract state before each slot of a program, over a domain. Contracts see the list of states; a
 /// tail has none.
 #[derive(Drop)]
 pub struct States<D> {
-    states: Vec<Option<AbsState<D>>>,
+    states: Vec<Option<Box<AbsState<D>>>>,
 }
 
 impl<D> Model for States<D> {
     ghost use Rattle.std.specs.Prelude.{List, Option};
     ghost use Rattle.abs_states.specs.declared.state.AbsState.{AbsState};
+    ghost use Rattle.verifier.specs.Passes.{seen};
 
     ghost Value = { List (Option (AbsState D)) };
 
-    ghost view = { λ s. s.states.items };
+    ghost view = { λ s. seen s.states.items };
 }
 
 impl<D: Domain> States<D> {
@@ -46,23 +46,10 @@ impl<D: Domain> States<D> {
         ensures { option_map (λ state. state.now) result ≡ slice_index_or self.now slot None }
     {
         match self.states.get(slot) {
-            Some(state) => state.as_ref(),
+            Some(state) => state.as_deref(),
             None => None,
         }
     }
-}
-
-/// The abstract states before the pass: the entry state at slot 0, none elsewhere.
-fn entry_states<D: Domain>(
-    alloc: Global,
-    slots: &Decoded,
-) -> Result<Vec<Option<AbsState<D>>>, AllocError>
-    requires { 0 < length slots.now }
-    ensures { IfOk result (λ states. states.items ≡ entry_states ⟦<D as Domain>⟧ (length slots.now)) }
-{
-    let mut states = nones(alloc, slots.len())?;
-    states[0] = Some(AbsState::entry());
-    Ok(states)
 }
 
 /// The abstract state before each slot of a program, whose flow this is. The error is the least slot that
@@ -85,8 +72,8 @@ pub fn analyse<D: Domain>(
     ensures slot { IfErr result (λ e. e.slot < most_slots) }
 {
     let slots = Decoded::of(alloc, program)?;
-    let mut states = entry_states(alloc, &slots)?;
-    pass_all(&mut states, &slots, flow)?;
+    let mut states = first_states(alloc, &slots)?;
+    pass_all(alloc, &mut states, &slots, flow)?;
     Ok(States { states })
 }
 

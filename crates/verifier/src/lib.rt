@@ -10,6 +10,7 @@ pub mod laws;
 mod nones;
 mod passes;
 mod refusal;
+mod sending;
 mod verified;
 mod width;
 

@@ -1,11 +1,14 @@
-use Rattle.std.proofs.Common.{◌≡◌, List, None, sym, ap, ◌∙◌, subst}
+use Rattle.std.proofs.Common.{◌≡◌, List, Option, Box, None, ◌++◌, length, take, drop, sym, ap, ◌∙◌, subst}
+use Rattle.abs_states.specs.declared.state.AbsState.{AbsState}
 use Rattle.bpf_profile.specs.Limits.{context_size}
 use Rattle.bpf_profile.specs.Flow.{flow_fault}
 use Rattle.bpf_profile.specs.Spelling.{IsProgram}
 use Rattle.bpf_profile.specs.declared.slot.Slot.{Slot}
-use Rattle.verifier.specs.Analysis.{analysis_fault}
+use Rattle.verifier.specs.Analysis.{analysis_fault, AreKnown}
+use Rattle.verifier.specs.Passes.{seen}
 use Rattle.verifier.specs.Verifying.{IsFlowOf}
 use Rattle.verifier.proofs.Edges.{is_flow_of}
+use Rattle.verifier.proofs.Held.{taken_whole}
 use Rattle.verifier.proofs.Sound.{sound, are_words}
 use Rattle.verifier.proofs.analysis.analyse.Goals as goal
 
@@ -16,7 +19,7 @@ pass_all-requires g c =
       (
         c.requires.fits,
         (
-          c.deref_mut.ensures.value ∙ c.in_ok-states.ensures,
+          ap (λ (states : List (Option (Box (AbsState g.row.D.Denot) _))). seen states) c.deref_mut.ensures.value ∙ c.in_ok-states.ensures,
           (
             c.in_ok-slots.ensures.program,
             (ap flow_fault all ∙ c.requires.accepted, subst (λ (slots : List Slot). IsFlowOf slots c.args.flow.now.edges) (sym all) (is_flow_of c.args.program.now c.args.flow.now.edges c.requires.flow)),
@@ -24,6 +27,16 @@ pass_all-requires g c =
         ),
       ),
     )
+
+pub returns-clause-known : goal.returns-clause-known
+returns-clause-known g c =
+    subst (λ (slots : List Slot). AreKnown g.D.Domain context_size slots (seen (take c.in_ok-states.states.len (c.pass_all.new.states ++ drop (length c.pass_all.new.states) c.in_ok-states.states.items)))) c.in_ok-slots.ensures.same
+    (subst (λ (items : List (Option (Box (AbsState g.row.D.Denot) _))). AreKnown g.D.Domain context_size c.in_ok-slots.slots (seen items))
+    (sym (taken_whole c.in_ok-states.states.len c.pass_all.new.states c.in_ok-states.states.items c.deref_mut.result.now c.pass_all.auto.states c.deref_mut.ensures.value c.deref_mut.ensures.len))
+    c.in_ok-pass_all.ensures.known)
+
+pub returns-clause-accepted : goal.returns-clause-accepted
+returns-clause-accepted g c = subst (λ (slots : List Slot). analysis_fault g.D.Domain context_size slots ≡ None) c.in_ok-slots.ensures.same c.in_ok-pass_all.ensures.passed
 
 -- the laws of the domain are all that soundness stands on
 pub returns-clause-safe : goal.returns-clause-safe
