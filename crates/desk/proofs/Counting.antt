@@ -1,11 +1,11 @@
 -- The numbers of entries go on by the entries that are made.
-use Rattle.std.proofs.Common.{◌≡◌, ℕ, suc, ◌+◌, ◌-◌, Bool, true, false, if◌then◌else◌, List, [], ◌∷◌, length, Result, Ok, Err, arith, refl, ap, sym, ◌∙◌, length-append}
+use Rattle.std.proofs.Common.{◌≡◌, ℕ, ◌+◌, ◌-◌, Bool, true, false, if◌then◌else◌, List, [], ◌∷◌, length, Result, Ok, Err, arith, refl, sym, length-append}
 use Rattle.refusals.specs.declared.RefusalNumber.{RefusalNumber}
 use Rattle.refusals.specs.declared.RefusalNumber.TheVariants as refusal
 use Rattle.service_profile.specs.declared.replies.Reply.{Reply}
-use Rattle.service_profile.specs.Answers.{answer, line_of, with_line, IsApplied, as_documented, out_of_memory, IsCut, cuts, no_room, cut, after_cut, is_worn_out, is_some_open, reopened}
-use Rattle.service_profile.specs.Events.{EventData, EntryData, History, Opening}
-use Rattle.service_profile.specs.Histories.{Past, past_of, next_line, situation_of}
+use Rattle.service_profile.specs.Answers.{answer, line_of, with_line, IsApplied, as_documented, out_of_memory, IsCut, cuts, no_room, after_cut, is_worn_out, is_some_open, reopened}
+use Rattle.service_profile.specs.Events.{EventData, EntryData, History}
+use Rattle.service_profile.specs.Histories.{past_of, next_line, situation_of}
 use Rattle.service_profile.specs.Machine.{is_entered}
 use Rattle.book.proofs.Openings.{next_line_is}
 use Rattle.desk.specs.Seats.{entries_made}

@@ -1,5 +1,5 @@
 -- Lists of names that are read off other things.
-use Rattle.std.proofs.Common.{◌≡◌, ℕ, suc, ◌+◌, nat_lt, not, cond, Bool, List, [], ◌∷◌, ◌++◌, map, length, Some, None, refl, ap, sym, append_assoc}
+use Rattle.std.proofs.Common.{◌≡◌, suc, ◌+◌, nat_lt, not, cond, Bool, List, [], ◌∷◌, ◌++◌, map, length, Some, None, refl, ap, sym, append_assoc}
 use Rattle.std.specs.List.{position, prefix_len}
 
 passed_names : {A B : Type 0} (test : B → Bool) (name : A → B) (xs : List A) → prefix_len test (map name xs) ≡ prefix_len (λ x. test (name x)) xs

@@ -1,5 +1,5 @@
 -- Services under their names, and what is answered by the first of a name.
-use Rattle.std.specs.Prelude.{◌≡◌, ℕ, List, Bool, Option, Some, position, slice_get, slice_set, string_bytes, bytes_eq, is_some}
+use Rattle.std.specs.Prelude.{◌≡◌, ℕ, List, Bool, Some, position, slice_get, slice_set, string_bytes, bytes_eq, is_some}
 use Rattle.service_profile.specs.Events.{History}
 use Rattle.service.specs.Asked.{RequestData, ResponseData}
 use Rattle.service.specs.Asking.{IsServed}

@@ -14,7 +14,7 @@ use Rattle.service_profile.specs.Answers.{IsApplied, IsLooked, IsPage, IsCut, re
 use Rattle.service_profile.specs.Events.{acquires, finishes, releases, installs, moves, resets, EntryData, History}
 use Rattle.service_profile.specs.Histories.{past_of}
 use Rattle.service.specs.declared.request.Report.{Report}
-use Rattle.service.specs.Asked.{RequestData, acquire, report, release, install, move, reset, read, page, cut, ResponseData, replies, refuses_program, shows, hands, entries_of}
+use Rattle.service.specs.Asked.{RequestData, acquire, report, release, install, move, reset, read, page, cut, ResponseData, replies, refuses_program, shows, entries_of}
 
 -- the program that was found judges the outcome, and its verdict is finished; a look that is refused makes no entry
 abbrev pub IsFinished : History → ℕ → ℕ → Report → Result VerifiedProgram RefusalNumber → Reply → History → Type 0

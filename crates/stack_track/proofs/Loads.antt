@@ -30,7 +30,7 @@ use Rattle.bpf_profile.specs.declared.machine.TrapReason.{TrapReason}
 use Rattle.bpf_profile.specs.declared.machine.TrapReason.TheVariants as trap
 use Rattle.bpf_profile.specs.declared.machine.Value.{Value}
 use Rattle.bpf_profile.specs.declared.machine.Value.TheVariants as value
-use Rattle.bpf_profile.specs.Machine.{State, Address as Place, place_of, place_for, loaded, value_of_cells, cells_of, pieces_from}
+use Rattle.bpf_profile.specs.Machine.{State, Address as Place, loaded, value_of_cells, cells_of, pieces_from}
 use Rattle.bpf_profile.specs.Machine as machine
 use Rattle.bpf_profile.specs.Outcomes.{Outcome}
 use Rattle.bpf_profile.specs.Words.{bytes_in, bits_in, low, word_of, sign_extended, extended, IsWord}

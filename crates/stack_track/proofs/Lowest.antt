@@ -1,8 +1,8 @@
 -- The cells before the lowest one that may be set, and the loops that begin there.
-use Rattle.std.proofs.Common.{◌≡◌, ◌≢◌, ℕ, zero, suc, ◌<◌, ◌≤◌, List, [], ◌∷◌, length, get_or, min, refl, ap, sym, ◌∙◌, subst, arith, length-set, get_or-set_other}
+use Rattle.std.proofs.Common.{◌≡◌, ◌≢◌, ℕ, zero, suc, ◌<◌, ◌≤◌, List, length, get_or, min, refl, ap, sym, ◌∙◌, subst, arith, length-set, get_or-set_other}
 use Rattle.std.proofs.lemmas.List.{same_lists}
 use Rattle.std.proofs.lemmas.Nat.{and_le_l}
-use Rattle.std.specs.Prelude.{replicate, slice_set, bit_and}
+use Rattle.std.specs.Prelude.{replicate, slice_set}
 use Rattle.abs_domain.specs.declared.domain.Domain.{Ghosts}
 use Rattle.abs_regs.proofs.Joins.{JoinedTo, joined_at, get_or-default, length-joined}
 use Rattle.abs_regs.specs.declared.value.AbsVal.TheVariants as known

@@ -1,4 +1,4 @@
-use Rattle.std.proofs.Common.{◌≡◌, ◌≤◌, length, arith}
+use Rattle.std.proofs.Common.{◌≤◌, length, arith}
 use Rattle.abs_regs.proofs.Joins.{joined_more}
 use Rattle.stack_track.proofs.Lowest.{copied_from, copied_all}
 use Rattle.stack_track.proofs.stack.copy_cells.Goals as goal

@@ -1,4 +1,4 @@
-use Rattle.std.proofs.Common.{◌≡◌, ◌≤◌, length, arith}
+use Rattle.std.proofs.Common.{◌≤◌, length, arith}
 use Rattle.stack_track.specs.Cells.{joined_cell}
 use Rattle.abs_regs.proofs.Joins.{joined_more, joined_all}
 use Rattle.stack_track.proofs.Lowest.{joined_from}
