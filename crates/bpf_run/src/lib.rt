@@ -4,6 +4,7 @@
 mod access;
 mod calls;
 mod continuation;
+mod effect;
 mod execution;
 mod machine;
 mod memory;
