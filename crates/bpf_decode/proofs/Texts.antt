@@ -3,7 +3,8 @@ use Rattle.std.proofs.Common.{◌≡◌, refl, sym, ap, ◌∙◌, ℕ, zero, su
 use Rattle.std.specs.Prelude.{IsOk, ◌==◌}
 use Rattle.std.specs.List.{flat_map, AllByRecursion}
 use Rattle.std.proofs.lemmas.Bool.{eqb-true, and_parts, and_left, ne_eqb, cond-false}
-use Rattle.std.proofs.lemmas.List.{drop_at, get_or-drop, length-append, length-drop, nil_from_length}
+use Rattle.std.proofs.lemmas.List.{drop_at, get_or-drop, length-append, length-drop, map-append, nil_from_length}
+use Rattle.std.proofs.Math.Seq.{take-suc}
 use Rattle.std.specs.Simd.{first_chunks}
 use Rattle.byteorder.specs.Endian.{little_number, little_bytes}
 use Rattle.byteorder.specs.Numbers.{little_number-reads_back, little_from-lt}
@@ -148,3 +149,11 @@ pub chunk_slots : (count : ℕ) (bytes : List ℕ) → map slot_at (first_chunks
 unfolding slots_at
 chunk_slots zero bytes = refl
 chunk_slots (suc count) bytes = rw (slot_first bytes, chunk_slots count (drop 8 bytes)) refl
+
+-- the slots of one chunk more
+pub one_chunk_more : (chunks : List (List ℕ)) (place : ℕ) → place < length chunks → map slot_at (take place chunks) ++ (slot_at (get_or chunks place []) ∷ []) ≡ map slot_at (take (place + 1) chunks)
+one_chunk_more chunks place inside =
+    let next : suc place ≡ place + 1 = omega arith in
+    sym (map-append slot_at (take place chunks) (get_or chunks place [] ∷ []))
+    ∙ ap (map slot_at) (sym (take-suc chunks place [] inside))
+    ∙ ap (λ (n : ℕ). map slot_at (take n chunks)) next
