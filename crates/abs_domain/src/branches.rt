@@ -7,7 +7,7 @@ use crate::operations::Relation;
 use bpf_profile::{Comparison, Width};
 
 /// The relation between the two words of a comparison, once it is known whether the comparison holds.
-#[derive(Clone, Copy, Debug, PartialEq, Eq)]
+#[derive(Clone, Copy)]
 pub struct Lesson {
     /// The relation. After a signed comparison it holds only where neither word has its sign bit set.
     pub relation: Relation,

@@ -1,7 +1,7 @@
 //! The operations, the relations and the answers of a domain, as plain types.
 
 /// A binary operation other than a shift (RFC 9669, section 4.1).
-#[derive(Clone, Copy, Debug, PartialEq, Eq)]
+#[derive(Clone, Copy, Debug)]
 pub enum Binary {
     Add,
     Subtract,
@@ -16,7 +16,7 @@ pub enum Binary {
 }
 
 /// A shift of a word by a count (RFC 9669, section 4.1).
-#[derive(Clone, Copy, Debug, PartialEq, Eq)]
+#[derive(Clone, Copy, Debug)]
 pub enum Shift {
     Left,
     Right,
@@ -24,7 +24,7 @@ pub enum Shift {
 }
 
 /// A conversion of the low bytes of a word, as many as a size says (RFC 9669, sections 4.1 and 4.2).
-#[derive(Clone, Copy, Debug, PartialEq, Eq)]
+#[derive(Clone, Copy, Debug)]
 pub enum Conversion {
     /// Zero extension: the bytes above them become 0.
     Low,
@@ -35,7 +35,7 @@ pub enum Conversion {
 }
 
 /// A relation between two words, which a comparison establishes (RFC 9669, section 4.3).
-#[derive(Clone, Copy, Debug, PartialEq, Eq)]
+#[derive(Clone, Copy, Debug)]
 pub enum Relation {
     Equal,
     NotEqual,

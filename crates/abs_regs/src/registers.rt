@@ -9,7 +9,7 @@ use std::alloc::AllocError;
 use std::marker::Model;
 
 /// The abstract values of R0 to R10. Contracts see the list of them.
-#[derive(Copy, Debug)]
+#[derive(Copy)]
 pub struct RegFile<D> {
     values: [AbsVal<D>; 11],
 }

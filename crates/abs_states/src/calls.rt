@@ -11,7 +11,7 @@ use refusals::RefusalNumber;
 use stack_track::StackState;
 
 /// A byte range of the stack: the index of its first byte, from 0 at the lowest offset on, and its length.
-#[derive(Clone, Copy, Debug)]
+#[derive(Clone, Copy)]
 pub struct Stretch {
     pub place: u64,
     pub count: u64,

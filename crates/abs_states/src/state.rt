@@ -7,7 +7,7 @@ use abs_regs::RegFile;
 use stack_track::StackState;
 
 /// An abstract state: what is known of the registers and of the stack on all paths to an instruction.
-#[derive(Debug, Drop)]
+#[derive(Drop)]
 pub struct AbsState<D> {
     pub registers: RegFile<D>,
     pub stack: StackState<D>,

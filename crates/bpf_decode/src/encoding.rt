@@ -9,7 +9,7 @@ use bpf_profile::{
 };
 
 /// The slots of one instruction.
-#[derive(Clone, Copy, Debug, PartialEq, Eq)]
+#[derive(Clone, Copy)]
 pub struct Encoded {
     pub first: Slot,
     /// The tail of a wide immediate. Other instructions have one slot.

@@ -3,7 +3,7 @@ ghost use Rattle.std.specs.Prelude.{◌≡◌};
 ghost use Rattle.bpf_profile.specs.Helpers.{helper_of};
 
 /// A helper function. Its arguments are in R1 and R2, its answer is in R0.
-#[derive(Clone, Copy, Debug, PartialEq, Eq)]
+#[derive(Clone, Copy)]
 pub enum Helper {
     /// Helper 1: the fact with the index R1, from 0 to 15.
     Fact,

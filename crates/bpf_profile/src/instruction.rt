@@ -5,7 +5,7 @@ ghost use Rattle.std.specs.Prelude.{◌≡◌, ◌<◌};
 use crate::register::Register;
 
 /// An operation of two operands of the classes ALU and ALU64 (RFC 9669, section 4.1).
-#[derive(Clone, Copy, Debug, PartialEq, Eq)]
+#[derive(Clone, Copy, Debug)]
 pub enum Operation {
     Add,
     Subtract,
@@ -24,7 +24,7 @@ pub enum Operation {
 }
 
 /// A condition of a conditional jump (RFC 9669, section 4.3).
-#[derive(Clone, Copy, Debug, PartialEq, Eq)]
+#[derive(Clone, Copy, Debug)]
 pub enum Comparison {
     Equal,
     NotEqual,
@@ -42,14 +42,14 @@ pub enum Comparison {
 
 /// How many bits of its operands an instruction takes: 32 in the classes ALU and JMP32, 64 in ALU64
 /// and JMP (RFC 9669, section 3.3).
-#[derive(Clone, Copy, Debug, PartialEq, Eq)]
+#[derive(Clone, Copy, Debug)]
 pub enum Width {
     Bits32,
     Bits64,
 }
 
 /// How many bytes are meant: 1, 2, 4 or 8 (RFC 9669, section 5).
-#[derive(Clone, Copy, Debug, PartialEq, Eq)]
+#[derive(Clone, Copy, Debug)]
 pub enum Size {
     Byte,
     HalfWord,
@@ -75,7 +75,7 @@ impl Size {
 }
 
 /// How a loaded number fills a register (RFC 9669, sections 5.1 and 5.2).
-#[derive(Clone, Copy, Debug, PartialEq, Eq)]
+#[derive(Clone, Copy, Debug)]
 pub enum Extension {
     Zero,
     Sign,
@@ -83,7 +83,7 @@ pub enum Extension {
 
 /// What a byte order conversion makes of the low bytes (RFC 9669, section 4.2). The machine is little
 /// endian: a conversion to little endian keeps them, the other two reverse them.
-#[derive(Clone, Copy, Debug, PartialEq, Eq)]
+#[derive(Clone, Copy, Debug)]
 pub enum ByteOrder {
     Little,
     Big,
@@ -91,14 +91,14 @@ pub enum ByteOrder {
 }
 
 /// The second operand: a register, or a word that the instruction has.
-#[derive(Clone, Copy, Debug, PartialEq, Eq)]
+#[derive(Clone, Copy, Debug)]
 pub enum Operand {
     Register(Register),
     Immediate(u64),
 }
 
 /// An instruction of the profile (RFC 9669, sections 4 and 5).
-#[derive(Clone, Copy, Debug, PartialEq, Eq)]
+#[derive(Clone, Copy, Debug)]
 pub enum Instruction {
     /// `destination` becomes the operation on it and the operand.
     Arithmetic {

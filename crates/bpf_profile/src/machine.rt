@@ -2,7 +2,7 @@
 //! pointers and set bytes from unset ones; a verified program runs without any of this.
 
 /// The memory that a pointer points into.
-#[derive(Clone, Copy, Debug, PartialEq, Eq)]
+#[derive(Clone, Copy)]
 pub enum Region {
     /// The 512 bytes at the offsets -512 to -1.
     Stack,
@@ -11,7 +11,7 @@ pub enum Region {
 }
 
 /// What a register holds.
-#[derive(Clone, Copy, Debug, PartialEq, Eq)]
+#[derive(Clone, Copy)]
 pub enum Value {
     Unset,
     /// A word.
@@ -21,7 +21,7 @@ pub enum Value {
 }
 
 /// What a byte of the stack holds.
-#[derive(Clone, Copy, Debug, PartialEq, Eq)]
+#[derive(Clone, Copy)]
 pub enum Cell {
     Unset,
     Byte(u8),

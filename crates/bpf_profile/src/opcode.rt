@@ -6,14 +6,14 @@ use crate::instruction::{ByteOrder, Comparison, Extension, Operation, Size, Widt
 use refusals::RefusalNumber;
 
 /// Where the second operand is: in the immediate field (K) or in the source register (X).
-#[derive(Clone, Copy, Debug, PartialEq, Eq)]
+#[derive(Clone, Copy)]
 pub enum Source {
     Immediate,
     Register,
 }
 
 /// What an opcode names. The offset field chooses among the variants of division, modulo and move.
-#[derive(Clone, Copy, Debug, PartialEq, Eq)]
+#[derive(Clone, Copy)]
 pub enum Opcode {
     Arithmetic {
         operation: Operation,

@@ -9,7 +9,7 @@ use texts::verdict_name;
 use verifier::Refusal;
 
 /// Why a command is refused.
-#[derive(Clone, Copy, Debug, PartialEq, Eq)]
+#[derive(Clone, Copy)]
 pub struct Fault {
     /// The refusal.
     pub number: RefusalNumber,
@@ -19,7 +19,7 @@ pub struct Fault {
 }
 
 /// What a command answers, and prints as a line.
-#[derive(Clone, Copy, Debug, PartialEq, Eq)]
+#[derive(Clone, Copy)]
 pub enum Answer {
     /// A program judged an outcome.
     Judged {

@@ -18,7 +18,7 @@ use std::alloc::{AllocError, Global};
 use std::marker::Model;
 
 /// The flow of an accepted program: the edges of each slot, and the budget.
-#[derive(Debug, Drop)]
+#[derive(Drop)]
 pub struct Flow {
     edges: Vec<Successors>,
     budget: u32,

@@ -7,7 +7,7 @@ use crate::writer::Writer;
 use bpf_profile::{CONTEXT_SIZE, FRONT_SIZE};
 
 /// How a call ended.
-#[derive(Clone, Copy, Debug, PartialEq, Eq)]
+#[derive(Clone, Copy)]
 pub enum Kind {
     Response,
     Timeout,
@@ -46,7 +46,7 @@ impl Kind {
 }
 
 /// The method of a request (RFC 9110, section 9.3, and RFC 5789).
-#[derive(Clone, Copy, Debug, PartialEq, Eq)]
+#[derive(Clone, Copy)]
 pub enum Method {
     Other,
     Get,

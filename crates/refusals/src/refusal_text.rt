@@ -5,7 +5,7 @@ use std::fmt;
 /// A refusal as every error and the program show it: its number and name, and where it stands, as
 /// `refused 22 AnswerRange slot 1` or `refused 41 UnknownWord line 2`. The refusals numbered 1 to 22 stand
 /// at a slot of a program, 41 to 44 on a line of a text, the others nowhere.
-#[derive(Clone, Copy, Debug, PartialEq, Eq)]
+#[derive(Clone, Copy)]
 pub struct RefusalText {
     /// The refusal.
     pub number: RefusalNumber,

@@ -6,7 +6,7 @@ use abs_domain::Domain;
 use abs_regs::AbsVal;
 
 /// The abstract state of a cell: eight bytes of the stack whose lowest offset is a multiple of 8.
-#[derive(Clone, Copy, Debug, PartialEq, Eq)]
+#[derive(Clone, Copy, Debug)]
 pub enum Cell<D> {
     /// A mask with a bit for each byte, the lowest bit for the lowest offset. A byte whose bit is 1 is
     /// set and part of a number; of the others nothing is known.
