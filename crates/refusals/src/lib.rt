@@ -2,7 +2,8 @@
 #![tactic(auto)]
 
 ghost use Rattle.std.specs.Prelude.{◌≡◌, true, false};
-ghost use Rattle.refusals.specs.Table.{number_of, name_of, status_of, is_answered};
+ghost use Rattle.refusals.specs.Table.{number_of, name_of, status_of, is_answered, row_of, answered, unanswered};
+ghost use Rattle.refusals.specs.Rows.{IsRow};
 
 pub mod laws;
 mod refusal_text;
@@ -134,10 +135,7 @@ struct Row {
 
 impl Row {
     fn answered(number: u8, name: &'static str, status: u16) -> Row
-        ensures number { result.number ≡ number }
-        ensures name { result.name.now ≡ name.now }
-        ensures status { result.status ≡ status }
-        ensures answered { result.is_answered ≡ true }
+        ensures { IsRow (answered number name.now status) result }
     {
         Row {
             number,
@@ -150,10 +148,7 @@ impl Row {
     /// The row of a refusal that HTTP never answers. In an answer it would be a fault of the server, whose
     /// status is 500 (RFC 9110, section 15.6.1).
     fn unanswered(number: u8, name: &'static str) -> Row
-        ensures number { result.number ≡ number }
-        ensures name { result.name.now ≡ name.now }
-        ensures status { result.status ≡ 500 }
-        ensures answered { result.is_answered ≡ false }
+        ensures { IsRow (unanswered number name.now) result }
     {
         Row {
             number,
@@ -166,10 +161,7 @@ impl Row {
 
 impl RefusalNumber {
     fn row(self) -> Row
-        ensures number { result.number ≡ number_of self }
-        ensures name { result.name.now ≡ name_of self }
-        ensures status { result.status ≡ status_of self }
-        ensures answered { result.is_answered ≡ is_answered self }
+        ensures { IsRow (row_of self) result }
     {
         match self {
             RefusalNumber::Length => Row::answered(1, "Length", 422),
