@@ -1,3 +1,2 @@
-pub mod Judged
 pub mod Requests
 pub mod Taken

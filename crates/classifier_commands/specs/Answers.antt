@@ -60,11 +60,13 @@ abbrev pub IsAllOf : Option (List ℕ) → List ℕ → Type 0
 IsAllOf None text = Unit {0}
 IsAllOf (Some known) text = text ≡ known
 
+-- what a program answers to the outcome that is read
+abbrev pub IsReadJudgement : VerifiedProgram → Option (List ℕ) → Answer → Type 0
+IsReadJudgement program known answered = (read : List ℕ) × IsAllOf known read × IsJudgement program read answered
+
 -- a program that is admitted answers so to the outcome that is read
 abbrev pub IsAnswered : List ℕ → Option (List ℕ) → Answer → Type 0
-IsAnswered text known answered =
-    (program : VerifiedProgram) × (read : List ℕ)
-    × IsAdmitted text program.slots program.budget × IsAllOf known read × IsJudgement program read answered
+IsAnswered text known answered = (program : VerifiedProgram) × IsAdmitted text program.slots program.budget × IsReadJudgement program known answered
 
 -- what `judge` answers: a refused program comes first
 abbrev pub IsJudgeAnswer : List ℕ → Option (List ℕ) → Answer → Type 0

@@ -2,7 +2,7 @@
 ghost use Rattle.std.specs.Prelude.{◌≡◌, Some, None, IfOk, IfErr};
 ghost use Rattle.helpers.specs.Json.{outcome_of};
 ghost use Rattle.serde_json.specs.View.{view};
-ghost use Rattle.classifier_commands.specs.Answers.{IsAdmitted, IsTextRefused, IsOutcomeRead, IsOutcomeRefused, IsVerifyAnswer, IsJudgement, IsJudgeAnswer};
+ghost use Rattle.classifier_commands.specs.Answers.{IsAdmitted, IsTextRefused, IsOutcomeRead, IsOutcomeRefused, IsVerifyAnswer, IsJudgement, IsReadJudgement, IsJudgeAnswer};
 ghost use Rattle.classifier_commands.specs.Causes.{IsReadCause};
 
 use crate::answer::{Answer, Fault};
@@ -81,6 +81,19 @@ fn judge_outcome(alloc: Global, program: &Verified, text: &[u8]) -> Result<Answe
     }
 }
 
+/// The program's verdict on the outcome whose JSON is read, or why that is refused.
+fn judge_read<R: Read>(
+    alloc: Global,
+    program: &Verified,
+    reader: &mut Counted<R>,
+) -> Result<Answer, CommandError>
+    ensures judged { IfOk result (λ answer. IsReadJudgement program.now (R.remaining reader.old.inner) answer) }
+    ensures cause { IsReadCause result reader.old.failures reader.new.failures }
+{
+    let text = read_all(alloc, reader)?;
+    Ok(judge_outcome(alloc, program, &text)?)
+}
+
 /// The verdict of a program in hexadecimal on the outcome whose JSON is read, or why one of them is
 /// refused. The program comes first: nothing is read where it is refused. An error comes where
 /// reading fails, or memory runs out behind the program.
@@ -92,10 +105,8 @@ pub(crate) fn judge<R: Read>(
     ensures judged { IfOk result (λ answer. IsJudgeAnswer text.now (R.remaining reader.old.inner) answer) }
     ensures cause { IsReadCause result reader.old.failures reader.new.failures }
 {
-    let program = match admitted(alloc, text) {
-        Ok(program) => program,
-        Err(fault) => return Ok(Answer::Refused(fault)),
-    };
-    let outcome = read_all(alloc, reader)?;
-    Ok(judge_outcome(alloc, &program, &outcome)?)
+    match admitted(alloc, text) {
+        Ok(program) => judge_read(alloc, &program, reader),
+        Err(fault) => Ok(Answer::Refused(fault)),
+    }
 }
