@@ -74,19 +74,38 @@ abbrev pub load_name : Extension → List ℕ
 load_name extension.Zero = codes "ldx"
 load_name extension.Sign = codes "ldxs"
 
+-- what the name of a word begins with
+abbrev pub word_stem : Word → List ℕ
+word_stem (word.Arithmetic operation width) = operation_name operation
+word_stem (word.Negate width) = codes "neg"
+word_stem (word.MoveSigned width size) = codes "movs" ++ size_name size
+word_stem (word.Convert order size) = order_name order
+word_stem word.LoadImmediate = codes "lddw"
+word_stem (word.Load size extension) = load_name extension
+word_stem (word.Store size) = codes "st"
+word_stem (word.StoreRegister size) = codes "stx"
+word_stem (word.Jump width) = codes "ja"
+word_stem (word.Branch comparison width) = comparison_name comparison
+word_stem word.Call = codes "call"
+word_stem word.Exit = codes "exit"
+
+-- what stands behind the stem
+abbrev pub word_end : Word → List ℕ
+word_end (word.Arithmetic operation width) = width_name width
+word_end (word.Negate width) = width_name width
+word_end (word.MoveSigned width size) = width_name width
+word_end (word.Convert order size) = bits_name size
+word_end word.LoadImmediate = []
+word_end (word.Load size extension) = size_name size
+word_end (word.Store size) = size_name size
+word_end (word.StoreRegister size) = size_name size
+word_end (word.Jump width) = width_name width
+word_end (word.Branch comparison width) = width_name width
+word_end word.Call = []
+word_end word.Exit = []
+
 abbrev pub word_name : Word → List ℕ
-word_name (word.Arithmetic operation width) = operation_name operation ++ width_name width
-word_name (word.Negate width) = codes "neg" ++ width_name width
-word_name (word.MoveSigned width size) = codes "movs" ++ (size_name size ++ width_name width)
-word_name (word.Convert order size) = order_name order ++ bits_name size
-word_name word.LoadImmediate = codes "lddw"
-word_name (word.Load size extension) = load_name extension ++ size_name size
-word_name (word.Store size) = codes "st" ++ size_name size
-word_name (word.StoreRegister size) = codes "stx" ++ size_name size
-word_name (word.Jump width) = codes "ja" ++ width_name width
-word_name (word.Branch comparison width) = comparison_name comparison ++ width_name width
-word_name word.Call = codes "call"
-word_name word.Exit = codes "exit"
+word_name word = word_stem word ++ word_end word
 
 -- ---- from a name to its word
 

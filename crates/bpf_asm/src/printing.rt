@@ -5,7 +5,7 @@ ghost use Rattle.std.specs.String.{string_bytes};
 ghost use Rattle.bpf_asm.specs.Canonical.{with_sign, word_of, line_of, operand_text, operands_text};
 ghost use Rattle.bpf_asm.specs.Printing.{shown, all_shown};
 
-use crate::words::{Word, name_parts};
+use crate::words::{Word, word_end, word_stem};
 use bpf_profile::{Instruction, Operand, Register};
 use std::alloc::AllocError;
 use std::fmt;
@@ -197,7 +197,8 @@ fn operands_of(instruction: &Instruction) -> OperandsText
 pub(crate) fn push_line(text: &mut String, instruction: &Instruction) -> Result<(), AllocError>
     ensures { IfOk result (λ _. string_bytes text.new ≡ string_bytes text.old ++ (line_of instruction.now ++ 10 ∷ [])) }
 {
-    let (stem, end) = name_parts(word_of(instruction));
+    let word = word_of(instruction);
+    let (stem, end) = (word_stem(word), word_end(word));
     let operands = operands_of(instruction);
     writeln!(text, "{stem}{end}{operands}")
 }

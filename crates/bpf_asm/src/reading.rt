@@ -1,6 +1,6 @@
 //! Tokens read as instructions.
-ghost use Rattle.std.specs.Prelude.{◌≡◌, ◌^◌, ◌-◌, ◌≤◌};
-ghost use Rattle.bpf_asm.specs.Reading.{word_within, immediate_of, wide_of, helper_of, offset_of, distance_of, written, operand_of, arithmetic_of, negate_of, move_signed_of, convert_of, load_immediate_of, load_of, store_of, store_register_of, jump_of, branch_of, call_of, exit_of, instruction_from, instruction_of_tokens, statement_of};
+ghost use Rattle.std.specs.Prelude.{◌≡◌, ◌^◌, ◌-◌, ◌≤◌, nat_lt};
+ghost use Rattle.bpf_asm.specs.Reading.{word_within, immediate_of, wide_of, helper_of, offset_of, distance_of, operand_of, arithmetic_of, negate_of, move_signed_of, convert_of, load_immediate_of, load_of, store_of, store_register_of, jump_of, branch_of, call_of, exit_of, instruction_from, instruction_of_tokens, statement_of};
 
 use crate::arguments::{Argument, Arguments, Numeral, Sign, arguments_of};
 use crate::tokens::Token;
@@ -73,15 +73,11 @@ fn distance_of(width: Width, numeral: &Numeral) -> Result<u64, RefusalNumber>
     }
 }
 
-/// A register that is written: R10 is read only (RFC 9669, section 2).
-fn written(register: Register) -> Result<Register, RefusalNumber>
-    ensures { result ≡ written register }
+/// Whether a register may be written: R10 is read only (RFC 9669, section 2).
+fn may_be_written(register: Register) -> bool
+    ensures { result ≡ nat_lt register 10 }
 {
-    if register.index() < 10 {
-        Ok(register)
-    } else {
-        Err(RefusalNumber::BadOperand)
-    }
+    register.index() < 10
 }
 
 fn operand_of(argument: &Argument) -> Result<Operand, RefusalNumber>
@@ -101,27 +97,31 @@ fn arithmetic_of(
 ) -> Result<Instruction, RefusalNumber>
     ensures { result ≡ arithmetic_of operation width arguments.now }
 {
-    let Arguments::Two(Argument::Register(destination), right) = arguments else {
-        return Err(RefusalNumber::BadOperand);
-    };
-    let destination = written(*destination)?;
-    let operand = operand_of(right)?;
-    Ok(Instruction::Arithmetic {
-        operation,
-        width,
-        destination,
-        operand,
-    })
+    match arguments {
+        Arguments::Two(Argument::Register(destination), right) if may_be_written(*destination) => {
+            Ok(Instruction::Arithmetic {
+                operation,
+                width,
+                destination: *destination,
+                operand: operand_of(right)?,
+            })
+        }
+        _ => Err(RefusalNumber::BadOperand),
+    }
 }
 
 fn negate_of(width: Width, arguments: &Arguments) -> Result<Instruction, RefusalNumber>
     ensures { result ≡ negate_of width arguments.now }
 {
-    let Arguments::One(Argument::Register(destination)) = arguments else {
-        return Err(RefusalNumber::BadOperand);
-    };
-    let destination = written(*destination)?;
-    Ok(Instruction::Negate { width, destination })
+    match arguments {
+        Arguments::One(Argument::Register(destination)) if may_be_written(*destination) => {
+            Ok(Instruction::Negate {
+                width,
+                destination: *destination,
+            })
+        }
+        _ => Err(RefusalNumber::BadOperand),
+    }
 }
 
 fn move_signed_of(
@@ -131,17 +131,18 @@ fn move_signed_of(
 ) -> Result<Instruction, RefusalNumber>
     ensures { result ≡ move_signed_of width size arguments.now }
 {
-    let Arguments::Two(Argument::Register(destination), Argument::Register(source)) = arguments
-    else {
-        return Err(RefusalNumber::BadOperand);
-    };
-    let destination = written(*destination)?;
-    Ok(Instruction::MoveSigned {
-        width,
-        size,
-        destination,
-        source: *source,
-    })
+    match arguments {
+        Arguments::Two(Argument::Register(destination), Argument::Register(source))
+            if may_be_written(*destination) => {
+            Ok(Instruction::MoveSigned {
+                width,
+                size,
+                destination: *destination,
+                source: *source,
+            })
+        }
+        _ => Err(RefusalNumber::BadOperand),
+    }
 }
 
 fn convert_of(
@@ -151,27 +152,31 @@ fn convert_of(
 ) -> Result<Instruction, RefusalNumber>
     ensures { result ≡ convert_of order size arguments.now }
 {
-    let Arguments::One(Argument::Register(destination)) = arguments else {
-        return Err(RefusalNumber::BadOperand);
-    };
-    let destination = written(*destination)?;
-    Ok(Instruction::Convert {
-        order,
-        size,
-        destination,
-    })
+    match arguments {
+        Arguments::One(Argument::Register(destination)) if may_be_written(*destination) => {
+            Ok(Instruction::Convert {
+                order,
+                size,
+                destination: *destination,
+            })
+        }
+        _ => Err(RefusalNumber::BadOperand),
+    }
 }
 
 fn load_immediate_of(arguments: &Arguments) -> Result<Instruction, RefusalNumber>
     ensures { result ≡ load_immediate_of arguments.now }
 {
-    let Arguments::Two(Argument::Register(destination), Argument::Number(numeral)) = arguments
-    else {
-        return Err(RefusalNumber::BadOperand);
-    };
-    let destination = written(*destination)?;
-    let value = wide_of(numeral)?;
-    Ok(Instruction::LoadImmediate { destination, value })
+    match arguments {
+        Arguments::Two(Argument::Register(destination), Argument::Number(numeral))
+            if may_be_written(*destination) => {
+            Ok(Instruction::LoadImmediate {
+                destination: *destination,
+                value: wide_of(numeral)?,
+            })
+        }
+        _ => Err(RefusalNumber::BadOperand),
+    }
 }
 
 fn load_of(
@@ -181,19 +186,19 @@ fn load_of(
 ) -> Result<Instruction, RefusalNumber>
     ensures { result ≡ load_of size extension arguments.now }
 {
-    let Arguments::Two(Argument::Register(destination), Argument::Place(base, offset)) = arguments
-    else {
-        return Err(RefusalNumber::BadOperand);
-    };
-    let destination = written(*destination)?;
-    let offset = offset_of(offset)?;
-    Ok(Instruction::Load {
-        size,
-        extension,
-        destination,
-        base: *base,
-        offset,
-    })
+    match arguments {
+        Arguments::Two(Argument::Register(destination), Argument::Place(base, offset))
+            if may_be_written(*destination) => {
+            Ok(Instruction::Load {
+                size,
+                extension,
+                destination: *destination,
+                base: *base,
+                offset: offset_of(offset)?,
+            })
+        }
+        _ => Err(RefusalNumber::BadOperand),
+    }
 }
 
 fn store_of(size: Size, arguments: &Arguments) -> Result<Instruction, RefusalNumber>

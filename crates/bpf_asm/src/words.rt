@@ -1,7 +1,7 @@
 //! The words that instructions are written with, from a word to its name and back.
 ghost use Rattle.std.specs.Prelude.{◌≡◌, ◌++◌, Some, if◌then◌else◌, codes};
 ghost use Rattle.std.specs.Str.{bytes_eq};
-ghost use Rattle.bpf_asm.specs.Names.{operation_name, comparison_name, width_name, size_name, bits_name, order_name, load_name, word_name, operation_named, comparison_named, extended_named, convert_named, load_named, store_named, single_named, width_of, stem_of, extended_word, stem_named, word_named};
+ghost use Rattle.bpf_asm.specs.Names.{operation_name, comparison_name, width_name, size_name, bits_name, order_name, load_name, word_stem, word_end, word_name, operation_named, comparison_named, extended_named, convert_named, load_named, store_named, single_named, width_of, stem_of, extended_word, stem_named, word_named};
 ghost use Rattle.bpf_asm.specs.Assembly.{small_letters};
 
 use bpf_profile::{ByteOrder, Comparison, Extension, Operation, Size, Width};
@@ -126,23 +126,39 @@ fn extended_name(size: Size) -> &'static str
     }
 }
 
-/// The name of a word, in two parts that stand one behind the other.
-pub(crate) fn name_parts(word: Word) -> (&'static str, &'static str)
-    ensures { result.0.now ++ result.1.now ≡ word_name word }
+/// What the name of a word begins with.
+pub(crate) fn word_stem(word: Word) -> &'static str
+    ensures { result.now ≡ word_stem word }
 {
     match word {
-        Word::Arithmetic(operation, width) => (operation_name(operation), width_name(width)),
-        Word::Negate(width) => ("neg", width_name(width)),
-        Word::MoveSigned(width, size) => (extended_name(size), width_name(width)),
-        Word::Convert(order, size) => (order_name(order), bits_name(size)),
-        Word::LoadImmediate => ("lddw", ""),
-        Word::Load(size, extension) => (load_name(extension), size_name(size)),
-        Word::Store(size) => ("st", size_name(size)),
-        Word::StoreRegister(size) => ("stx", size_name(size)),
-        Word::Jump(width) => ("ja", width_name(width)),
-        Word::Branch(comparison, width) => (comparison_name(comparison), width_name(width)),
-        Word::Call => ("call", ""),
-        Word::Exit => ("exit", ""),
+        Word::Arithmetic(operation, _) => operation_name(operation),
+        Word::Negate(_) => "neg",
+        Word::MoveSigned(_, size) => extended_name(size),
+        Word::Convert(order, _) => order_name(order),
+        Word::LoadImmediate => "lddw",
+        Word::Load(_, extension) => load_name(extension),
+        Word::Store(_) => "st",
+        Word::StoreRegister(_) => "stx",
+        Word::Jump(_) => "ja",
+        Word::Branch(comparison, _) => comparison_name(comparison),
+        Word::Call => "call",
+        Word::Exit => "exit",
+    }
+}
+
+/// What stands behind the stem of a word's name.
+pub(crate) fn word_end(word: Word) -> &'static str
+    ensures { result.now ≡ word_end word }
+{
+    match word {
+        Word::Arithmetic(_, width)
+        | Word::Negate(width)
+        | Word::MoveSigned(width, _)
+        | Word::Jump(width)
+        | Word::Branch(_, width) => width_name(width),
+        Word::Load(size, _) | Word::Store(size) | Word::StoreRegister(size) => size_name(size),
+        Word::Convert(_, size) => bits_name(size),
+        Word::LoadImmediate | Word::Call | Word::Exit => "",
     }
 }
 
@@ -157,12 +173,12 @@ pub(crate) fn is_text(name: &[u8], text: &str) -> bool
 fn is_named(name: &[u8], word: Word) -> bool
     ensures { result ≡ bytes_eq (small_letters name.now) (small_letters (word_name word)) }
 {
-    let (stem, end) = name_parts(word);
+    let stem = word_stem(word);
     let Some((front, back)) = name.split_at_checked(stem.len()) else {
         return false;
     };
     if is_text(front, stem) {
-        is_text(back, end)
+        is_text(back, word_end(word))
     } else {
         false
     }
