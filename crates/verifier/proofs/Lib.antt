@@ -11,3 +11,4 @@ pub mod KnownJoin
 pub mod Sound
 pub mod Taken
 pub mod Marked
+pub mod Refused

@@ -1,7 +1,8 @@
 -- A state is taken from the list, and put back joined or changed.
-use Rattle.std.proofs.Common.{◌≡◌, ◌≢◌, ℕ, zero, suc, ◌-◌, ◌<◌, ◌≤◌, ◌⊎◌, inl, inr, ◌++◌, true, false, List, [], ◌∷◌, length, get_or, Option, Some, None, Err, refl, sym, ap, ◌∙◌, subst, arith, length-set, get_or-set_other}
+use Rattle.std.proofs.Common.{◌≡◌, ◌≢◌, Bor, ℕ, zero, suc, ◌-◌, ◌<◌, ◌≤◌, ◌⊎◌, inl, inr, ◌++◌, true, false, List, [], ◌∷◌, length, get_or, Option, Some, None, Ok, Err, refl, sym, ap, ◌∙◌, subst, arith, length-set, get_or-set_other}
 use Rattle.std.proofs.Math.ListN.{get_or-map}
-use Rattle.std.proofs.lemmas.List.{map-set, length-map}
+use Rattle.std.proofs.lemmas.List.{map-set, length-map, get_or_past}
+use Rattle.std.specs.Option.{MatchOption, IsSomeAnd}
 use Rattle.std.specs.Prelude.{replicate, slice_set, option_map, option_to_list, Box, box_value}
 use Rattle.abs_states.specs.Transfers.{transfer_in}
 use Rattle.bpf_profile.specs.declared.instruction.Instruction.{Instruction}
@@ -77,6 +78,26 @@ seen_some states place d state h e = seen_at states place ∙ ap (option_map box
 pub seen_none : {X Z : Type 0} (states : List (Option (Box (AbsState X) Z))) (place : ℕ) (d : Option (Box (AbsState X) Z)) → place < length states → get_or states place d ≡ None → state_of (seen states) place ≡ None
 seen_none states place d h e = seen_at states place ∙ ap (option_map box_value) (get_or-default states place None d h ∙ e)
 
+-- no state past the end of the boxes
+pub seen_past : {X Z : Type 0} (items now : List (Option (Box (AbsState X) Z))) (states : List (Option (AbsState X))) (slot : ℕ) → now ≡ items → seen items ≡ states → length now ≤ slot → None ≡ state_of states slot
+seen_past {X} {Z} items now states slot same is past =
+    sym (ap (λ (s : List (Option (AbsState X))). state_of s slot) (sym is)
+    ∙ (seen_at items slot ∙ ap (option_map box_value) (get_or_past items slot None (subst (λ (l : List (Option (Box (AbsState X) Z))). length l ≤ slot) same past))))
+
+-- a reference into a box refers to the state that the box has
+pub seen_lent : {X Z : Type 0} (items now : List (Option (Box (AbsState X) Z))) (states : List (Option (AbsState X))) (slot : ℕ) (held : Option (Box (AbsState X) Z)) (lent : Option (Bor (AbsState X)))
+    → now ≡ items → seen items ≡ states → slot < length now → held ≡ get_or now slot held
+    → MatchOption held (lent ≡ None) (λ b. IsSomeAnd lent (λ r. r.now ≡ box_value b)) → option_map (λ r. r.now) lent ≡ state_of states slot
+seen_lent {X} {Z} items now states slot held lent same is inside found gives =
+    value held lent gives
+    ∙ (ap (option_map box_value) (found ∙ (get_or-default now slot held None inside ∙ ap (λ (l : List (Option (Box (AbsState X) Z))). get_or l slot None) same))
+    ∙ (sym (seen_at items slot) ∙ ap (λ (s : List (Option (AbsState X))). state_of s slot) is))
+  where
+    value : (h : Option (Box (AbsState X) Z)) (l : Option (Bor (AbsState X))) → MatchOption h (l ≡ None) (λ b. IsSomeAnd l (λ r. r.now ≡ box_value b)) → option_map (λ r. r.now) l ≡ option_map box_value h
+    value None l e = ap (option_map (λ (r : Bor (AbsState X)). r.now)) e
+    value (Some b) None e = absurd e
+    value (Some b) (Some r) e = ap (λ (s : AbsState X). Some s) e
+
 -- ---- what a slot sends
 
 -- what goes along the edges of a flow is what the slot sends
@@ -89,6 +110,13 @@ edges_send {X} domain context place o k i a next target before after at known ed
     ∙ (ap (delivered_all domain before) (sent_along domain context place i a next target edges)
     ∙ (ap (λ (s : Option (AbsState X)). delivered_all domain before (sent_with domain context place (Some i) s)) (sym known)
     ∙ ap (λ (j : Option Instruction). delivered_all domain before (sent_with domain context place j k)) (sym at)))
+
+-- one message, along an edge that may not be there
+pub one_delivered : {X : Type 0} (domain : Ghosts X) (states after : List (Option (AbsState X))) (edge : Option ℕ) (to : ℕ) (state : AbsState X) → edge ≡ Some to → after ≡ delivered domain states (record { to = to; state = state }) → after ≡ delivered_all domain states (message_to edge (Ok state))
+one_delivered domain states after edge to state is e = e ∙ sym (ap (λ (o : Option ℕ). delivered_all domain states (message_to o (Ok state))) is)
+
+pub none_delivered : {X : Type 0} (domain : Ghosts X) (states : List (Option (AbsState X))) (edge : Option ℕ) (state : AbsState X) → edge ≡ None → states ≡ delivered_all domain states (message_to edge (Ok state))
+none_delivered domain states edge state is = sym (ap (λ (o : Option ℕ). delivered_all domain states (message_to o (Ok state))) is)
 
 -- a tail sends nothing
 pub tail_sends : {X : Type 0} (domain : Ghosts X) (context place : ℕ) (o : Option Instruction) (k : Option (AbsState X)) (states : List (Option (AbsState X))) → o ≡ None → states ≡ delivered_all domain states (sent_with domain context place o k)

@@ -1,4 +1,4 @@
-use Rattle.std.proofs.Common.{◌≡◌, List, Option, Box, None, ◌++◌, length, take, drop, sym, ap, ◌∙◌, subst}
+use Rattle.std.proofs.Common.{◌≡◌, ◌⊎◌, inl, List, Option, Box, Some, None, ◌++◌, length, take, drop, sym, ap, ◌∙◌, subst}
 use Rattle.abs_states.specs.declared.state.AbsState.{AbsState}
 use Rattle.bpf_profile.specs.Limits.{context_size}
 use Rattle.bpf_profile.specs.Flow.{flow_fault}
@@ -6,9 +6,11 @@ use Rattle.bpf_profile.specs.Spelling.{IsProgram}
 use Rattle.bpf_profile.specs.declared.slot.Slot.{Slot}
 use Rattle.verifier.specs.Analysis.{analysis_fault, AreKnown}
 use Rattle.verifier.specs.Passes.{seen}
-use Rattle.verifier.specs.Verifying.{IsFlowOf}
+use Rattle.verifier.specs.declared.refusal.Refusal.{Refusal}
+use Rattle.verifier.specs.Verifying.{IsFlowOf, fault_of, out_of_memory}
 use Rattle.verifier.proofs.Edges.{is_flow_of}
 use Rattle.verifier.proofs.Held.{taken_whole}
+use Rattle.verifier.proofs.Refused.{no_value, passed_on, slot_of, slot_without_memory}
 use Rattle.verifier.proofs.Sound.{sound, are_words}
 use Rattle.verifier.proofs.analysis.analyse.Goals as goal
 
@@ -45,3 +47,56 @@ returns-clause-safe g c = λ budget budgeted.
     context_size c.args.program.now budget (subst IsProgram c.in_ok-slots.ensures.same c.in_ok-slots.ensures.program) c.requires.accepted budgeted
     (subst (λ (slots : List Slot). analysis_fault g.D.Domain context_size slots ≡ None) c.in_ok-slots.ensures.same c.in_ok-pass_all.ensures.passed)
     (are_words c.args.program.now (subst IsProgram c.in_ok-slots.ensures.same c.in_ok-slots.ensures.program))
+
+pub returns-in_err-slots-clause-known : goal.returns-in_err-slots-clause-known
+returns-in_err-slots-clause-known g c = no_value c.from_residual.result _ _ c.from_residual.ensures.1
+
+pub returns-in_err-slots-clause-accepted : goal.returns-in_err-slots-clause-accepted
+returns-in_err-slots-clause-accepted g c = no_value c.from_residual.result _ _ c.from_residual.ensures.1
+
+pub returns-in_err-slots-clause-safe : goal.returns-in_err-slots-clause-safe
+returns-in_err-slots-clause-safe g c = no_value c.from_residual.result _ _ c.from_residual.ensures.1
+
+pub returns-in_err-slots-clause-refused : goal.returns-in_err-slots-clause-refused
+returns-in_err-slots-clause-refused g c = passed_on c.from_residual.result _ _ (λ e is. inl is) c.from_residual.ensures.1
+
+pub returns-in_err-slots-clause-slot : goal.returns-in_err-slots-clause-slot
+returns-in_err-slots-clause-slot g c = passed_on c.from_residual.result _ _ (λ e is. slot_without_memory e is) c.from_residual.ensures.1
+
+pub first_states-requires : goal.first_states-requires
+first_states-requires g c = (c.requires.fits, (c.requires.fits, c.in_ok-slots.ensures.program.some))
+
+pub returns-in_err-states-clause-known : goal.returns-in_err-states-clause-known
+returns-in_err-states-clause-known g c = no_value c.from_residual-in_err-states.result _ _ c.from_residual-in_err-states.ensures.1
+
+pub returns-in_err-states-clause-accepted : goal.returns-in_err-states-clause-accepted
+returns-in_err-states-clause-accepted g c = no_value c.from_residual-in_err-states.result _ _ c.from_residual-in_err-states.ensures.1
+
+pub returns-in_err-states-clause-safe : goal.returns-in_err-states-clause-safe
+returns-in_err-states-clause-safe g c = no_value c.from_residual-in_err-states.result _ _ c.from_residual-in_err-states.ensures.1
+
+pub returns-in_err-states-clause-refused : goal.returns-in_err-states-clause-refused
+returns-in_err-states-clause-refused g c = passed_on c.from_residual-in_err-states.result _ _ (λ e is. inl is) c.from_residual-in_err-states.ensures.1
+
+pub returns-in_err-states-clause-slot : goal.returns-in_err-states-clause-slot
+returns-in_err-states-clause-slot g c = passed_on c.from_residual-in_err-states.result _ _ (λ e is. slot_without_memory e is) c.from_residual-in_err-states.ensures.1
+
+pub returns-in_err-pass_all-clause-known : goal.returns-in_err-pass_all-clause-known
+returns-in_err-pass_all-clause-known g c = no_value c.from_residual-in_err-pass_all.result _ _ c.from_residual-in_err-pass_all.ensures.1
+
+pub returns-in_err-pass_all-clause-accepted : goal.returns-in_err-pass_all-clause-accepted
+returns-in_err-pass_all-clause-accepted g c = no_value c.from_residual-in_err-pass_all.result _ _ c.from_residual-in_err-pass_all.ensures.1
+
+pub returns-in_err-pass_all-clause-safe : goal.returns-in_err-pass_all-clause-safe
+returns-in_err-pass_all-clause-safe g c = no_value c.from_residual-in_err-pass_all.result _ _ c.from_residual-in_err-pass_all.ensures.1
+
+pub returns-in_err-pass_all-clause-refused : goal.returns-in_err-pass_all-clause-refused
+returns-in_err-pass_all-clause-refused g c =
+    let error = c.in_err-pass_all.field-0.0 in
+    passed_on c.from_residual-in_err-pass_all.result _ _
+    (λ e is. subst (λ (f : Refusal). (f ≡ out_of_memory) ⊎ (analysis_fault g.D.Domain context_size c.args.program.now ≡ Some (fault_of f))) (sym is)
+    (subst (λ (slots : List Slot). (error ≡ out_of_memory) ⊎ (analysis_fault g.D.Domain context_size slots ≡ Some (fault_of error))) c.in_ok-slots.ensures.same c.in_err-pass_all.ensures.fault))
+    c.from_residual-in_err-pass_all.ensures.1
+
+pub returns-in_err-pass_all-clause-slot : goal.returns-in_err-pass_all-clause-slot
+returns-in_err-pass_all-clause-slot g c = passed_on c.from_residual-in_err-pass_all.result _ _ (λ e is. slot_of e c.in_err-pass_all.field-0.0.slot (ap (λ (f : Refusal). f.slot) is) c.in_err-pass_all.ensures.slot) c.from_residual-in_err-pass_all.ensures.1

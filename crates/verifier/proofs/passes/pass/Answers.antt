@@ -1,4 +1,4 @@
-use Rattle.std.proofs.Common.{◌≡◌, ◌<◌, ℕ, Some, sym, ap, ◌∙◌, subst, arith}
+use Rattle.std.proofs.Common.{◌≡◌, inl, ◌<◌, ℕ, Some, sym, ap, ◌∙◌, subst, arith}
 use Rattle.std.specs.Prelude.{IfSome, box_value}
 use Rattle.abs_states.specs.declared.state.AbsState.{AbsState}
 use Rattle.bpf_profile.specs.Limits.{context_size}
@@ -6,6 +6,7 @@ use Rattle.bpf_profile.specs.Meaning.{instruction_at}
 use Rattle.verifier.specs.Passes.{state_of, seen}
 use Rattle.verifier.proofs.Edges.{edges_are}
 use Rattle.verifier.proofs.Known.{on_ok_map, if_err_map}
+use Rattle.verifier.proofs.Refused.{no_value, passed_on}
 use Rattle.verifier.proofs.Taken.{seen_some, seen_none, tail_sends, unknown_sends, unknown_passes, edges_send, edges_pass, fails_or_memory}
 use Rattle.verifier.proofs.passes.pass.Goals as goal
 
@@ -45,3 +46,18 @@ returns-in_default-states-clause-passed g c = unknown_passes g.D.Domain context_
 
 pub returns-in_default-states-clause-sent : goal.returns-in_default-states-clause-sent
 returns-in_default-states-clause-sent g c = unknown_sends g.D.Domain context_size c.args.place (instruction_at c.args.slots.now c.args.place) (state_of (seen c.args.states.now) c.args.place) (seen c.args.states.now) (seen_none c.args.states.now c.args.place _ (omega arith) c.in_default-states.is)
+
+pub returns-in_err-state-clause-passed : goal.returns-in_err-state-clause-passed
+returns-in_err-state-clause-passed g c = no_value c.from_residual.result _ _ c.from_residual.ensures.1
+
+pub returns-in_err-state-clause-sent : goal.returns-in_err-state-clause-sent
+returns-in_err-state-clause-sent g c = no_value c.from_residual.result _ _ c.from_residual.ensures.1
+
+pub returns-in_err-state-clause-fault : goal.returns-in_err-state-clause-fault
+returns-in_err-state-clause-fault g c = passed_on c.from_residual.result _ _ (λ e is. inl is) c.from_residual.ensures.1
+
+pub boxed_copy-requires : goal.boxed_copy-requires
+boxed_copy-requires g c = (c.requires.fits, c.requires.fits)
+
+pub edges_at-edges-requires : goal.edges_at-edges-requires
+edges_at-edges-requires g c = record { place = c.requires.place; program = c.requires.program; accepted = c.requires.accepted; flow = c.requires.flow }

@@ -1,10 +1,10 @@
-use Rattle.std.proofs.Common.{◌≡◌, ◌≤◌, length, None, sym, ap, ◌∙◌, subst, arith}
+use Rattle.std.proofs.Common.{◌≡◌, ◌<◌, ◌≤◌, length, None, sym, ap, ◌∙◌, subst, arith}
 use Rattle.bpf_profile.specs.Limits.{context_size}
 use Rattle.verifier.specs.Analysis.{fault_at, fault_from}
 use Rattle.verifier.specs.Passes.{seen}
 use Rattle.verifier.proofs.Edges.{forward}
 use Rattle.verifier.proofs.Known.{Sent, none_sent, sent_more, all_known, fault_here, fault_on, fault_done}
-use Rattle.verifier.proofs.Taken.{sent_awaits, awaited_ends, memory_slot}
+use Rattle.verifier.proofs.Taken.{length-seen, sent_awaits, awaited_ends, memory_slot}
 use Rattle.verifier.proofs.passes.pass_all.Goals as goal
 
 pub loop-place-init : goal.loop-place-init
@@ -41,3 +41,8 @@ pub returns-clause-known : goal.returns-clause-known
 returns-clause-known g c =
     let all : length c.args.slots.now ≤ c.loop-place.place = omega arith in
     all_known g.D.Domain context_size c.args.slots.now (seen c.loop-place.states) c.loop-place.place (forward c.args.slots.now c.requires.program c.requires.accepted) all c.loop-place.invariant.sent
+
+pub pass-requires : goal.pass-requires
+pass-requires g c =
+    let place : c.loop-place.place < length c.args.slots.now = omega arith in
+    (c.requires.fits, (c.requires.fits, (place, (sym (length-seen c.loop-place.states) ∙ c.loop-place.invariant.sent.same, (c.requires.program, (c.requires.accepted, c.requires.flow))))))
