@@ -1,5 +1,5 @@
 -- What a book answers to calls, by its history.
-use Rattle.std.specs.Prelude.{◌≡◌, ℕ, suc, ◌-◌, ◌<◌, nat_lt, ◌||◌, Bool, true, false, if◌then◌else◌, List, [], ◌∷◌, ◌++◌, length, take, drop, Option, Some, None, Result, Ok, Err}
+use Rattle.std.specs.Prelude.{◌≡◌, ℕ, suc, max, min, ◌-◌, ◌<◌, nat_lt, ◌||◌, Bool, true, false, if◌then◌else◌, List, [], ◌∷◌, ◌++◌, length, take, drop, Option, Some, None, Result, Ok, Err}
 use Rattle.std.specs.List.{filter_map}
 use Rattle.refusals.specs.declared.RefusalNumber.{RefusalNumber}
 use Rattle.refusals.specs.declared.RefusalNumber.TheVariants as refusal
@@ -11,7 +11,7 @@ use Rattle.service_profile.specs.declared.replies.Reply.{Reply}
 use Rattle.service_profile.specs.declared.replies.Reply.TheVariants as reply
 use Rattle.service_profile.specs.declared.notes.Totals.{Totals}
 use Rattle.service_profile.specs.Limits.{most_page_entries, greatest_number}
-use Rattle.service_profile.specs.Events.{EventData, EntryData, line, Opening, History}
+use Rattle.service_profile.specs.Events.{EventData, EntryData, line, Opening, History, history_of, rolled_to}
 use Rattle.service_profile.specs.Histories.{Past, past_of, machine, raised, greatest, next_line, install_at, situation_of, refused_of}
 use Rattle.service_profile.specs.Machine.{Situation, is_entered, is_issued, open_ticket, program_from, current_version}
 use Rattle.service_profile.specs.Rates.{minimum, shown_rate}
@@ -28,7 +28,7 @@ abbrev pub line_of : History → ℕ → ℕ → EventData → EntryData
 line_of history seat moment event = line (next_line (past_of history)) seat event (raised (past_of history) moment) (answer history moment event).reply
 
 abbrev pub with_line : History → EntryData → History
-with_line history line = record { opening = history.opening; lines = history.lines ++ line ∷ [] }
+with_line history line = record { opening = history.opening; lines = history.lines ++ line ∷ []; rolled = history.rolled }
 
 -- the history after an event: one line more, or nothing new where the reply isn't entered
 abbrev pub applied : History → ℕ → ℕ → EventData → History
@@ -95,8 +95,13 @@ reading past moment =
 
 -- ---- lines, from a number on
 
+-- the lines that the book holds: all but those that were handed out
+abbrev pub held_lines : History → List EntryData
+held_lines history = drop history.rolled history.lines
+
+-- of these the ones from a number on
 abbrev pub lines_from : History → ℕ → List EntryData
-lines_from history from = drop (from - history.opening.line) history.lines
+lines_from history from = drop (max history.rolled (from - history.opening.line)) history.lines
 
 -- ---- a page: at most 100 lines, from a number on
 
@@ -152,17 +157,44 @@ cut past =
     else (if is_some_open (situation_of past).open_tickets then Err refusal.TicketsOpen
     else Ok (reopened past))
 
--- what is handed out: all lines, or why not
+-- what a cut hands out: all lines that are held, or why not
 abbrev pub handed_out : History → Result Opening RefusalNumber → Result (List EntryData) RefusalNumber
-handed_out history (Ok opening) = Ok history.lines
+handed_out history (Ok opening) = Ok (held_lines history)
 handed_out history (Err number) = Err number
 
 -- the history after a cut: the opening and no line, or the history as it was
 abbrev pub after_cut : History → Result Opening RefusalNumber → History
-after_cut history (Ok opening) = record { opening = opening; lines = [] }
+after_cut history (Ok opening) = history_of opening []
 after_cut history (Err number) = history
 
 -- the documented cut; or no memory for the new opening, and nothing changed
 pub data IsCut (history : History) (result : Result (List EntryData) RefusalNumber) (after : History) : Type 0 where
   cuts : result ≡ handed_out history (cut (past_of history)) → after ≡ after_cut history (cut (past_of history)) → IsCut history result after
   no_room : (opening : Opening) → cut (past_of history) ≡ Ok opening → result ≡ Err refusal.ServiceOutOfMemory → after ≡ history → IsCut history result after
+
+-- ---- a roll: the entries up to a number are handed out, and all else goes on as it is
+
+-- how many lines are handed out after it: those with numbers up to this one, and never fewer than before
+abbrev pub count_up_to : History → ℕ → ℕ
+count_up_to history last = max history.rolled (min (length history.lines) (suc last - history.opening.line))
+
+abbrev pub rolled_up_to : History → ℕ → History
+rolled_up_to history last = rolled_to (count_up_to history last) history
+
+-- what is handed out: the lines up to that number that are still held
+abbrev pub lines_up_to : History → ℕ → List EntryData
+lines_up_to history last = take (count_up_to history last - history.rolled) (held_lines history)
+
+-- what is handed out, or why nothing is: a number that would go on is past its limit
+abbrev pub roll : History → ℕ → Result (List EntryData) RefusalNumber
+roll history last = if is_worn_out (past_of history) then Err refusal.JournalFull else Ok (lines_up_to history last)
+
+-- the history after a roll: more of its lines are handed out, or it is as it was
+abbrev pub after_roll : History → ℕ → Result (List EntryData) RefusalNumber → History
+after_roll history last (Ok lines) = rolled_up_to history last
+after_roll history last (Err number) = history
+
+-- the documented roll; or no memory for a list of the entries that stay, and nothing changed
+pub data IsRolled (history : History) (last : ℕ) (result : Result (List EntryData) RefusalNumber) (after : History) : Type 0 where
+  rolls : result ≡ roll history last → after ≡ after_roll history last (roll history last) → IsRolled history last result after
+  no_room : (lines : List EntryData) → roll history last ≡ Ok lines → length lines < length (held_lines history) → result ≡ Err refusal.ServiceOutOfMemory → after ≡ history → IsRolled history last result after

@@ -37,10 +37,17 @@ pub record Opening : Type 0 where
   -- the greatest moment before
   pub moment : ℕ
 
--- what contracts see of a book
+-- what contracts see of a book: all lines since its opening. Of these the first ones may have been handed out, so that the book holds the last ones
 pub record History : Type 0 where
   pub opening : Opening
   pub lines : List EntryData
+  -- how many of these lines were handed out
+  pub rolled : ℕ
 
+-- a history of which nothing was handed out
 abbrev pub history_of : Opening → List EntryData → History
-history_of opening lines = record { opening = opening; lines = lines }
+history_of opening lines = record { opening = opening; lines = lines; rolled = 0 }
+
+-- the same history with so many lines handed out
+abbrev pub rolled_to : ℕ → History → History
+rolled_to count history = record { opening = history.opening; lines = history.lines; rolled = count }

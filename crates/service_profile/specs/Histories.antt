@@ -1,5 +1,5 @@
 -- What a history says: where its breaker stood at each line, its notes, its tickets and its versions, each taken afresh from all lines.
-use Rattle.std.specs.Prelude.{◌≡◌, ℕ, ◌+◌, ◌≤◌, ◌==◌, max, ◌&&◌, not, Bool, true, List, [], ◌∷◌, ◌++◌, map, length, Option, Some, None}
+use Rattle.std.specs.Prelude.{◌≡◌, ℕ, ◌+◌, ◌-◌, ◌≤◌, ◌==◌, max, ◌&&◌, not, Bool, true, List, [], ◌∷◌, ◌++◌, map, length, Option, Some, None}
 use Rattle.std.specs.List.{filter, filter_map, fold, list_any}
 use Rattle.bpf_profile.specs.Programs.{VerifiedProgram}
 use Rattle.service_profile.specs.declared.standings.Standing.{Standing}
@@ -23,6 +23,8 @@ pub record Stage : Type 0 where
 -- an opening, and all lines since, the oldest first
 pub record Past : Type 0 where
   pub opening : Opening
+  -- how many lines were handed out
+  pub rolled : ℕ
   pub stages : List Stage
   pub standing : Standing
 
@@ -106,7 +108,7 @@ situation_of past = record {
   programs = programs_of past;
   open_tickets = open_of past.stages;
   next_ticket = past.opening.ticket + length (issued past.stages);
-  held = length past.stages;
+  held = length past.stages - past.rolled;
 }
 
 abbrev pub machine : Past → ℕ → EventData → Decision
@@ -114,9 +116,11 @@ machine past moment event = decision (situation_of past) moment event
 
 -- ---- lines, one after another
 
-abbrev pub opened : Opening → Past
-opened opening = record {
+-- an opening and no line, in a history of which so many lines were handed out
+abbrev pub opened : ℕ → Opening → Past
+opened rolled opening = record {
   opening = opening;
+  rolled = rolled;
   stages = [];
   standing = record { state = state.Closed; period = opening.period; since = opening.moment };
 }
@@ -125,12 +129,13 @@ opened opening = record {
 abbrev pub passed : Past → EntryData → Past
 passed past line = record {
   opening = past.opening;
+  rolled = past.rolled;
   stages = past.stages ++ (record { line = line; before = past.standing; after = (machine past line.moment line.event).next }) ∷ [];
   standing = (machine past line.moment line.event).next;
 }
 
 abbrev pub past_of : History → Past
-past_of history = fold passed (opened history.opening) history.lines
+past_of history = fold passed (opened history.rolled history.opening) history.lines
 
 -- the greatest moment of the opening and of all lines
 abbrev pub greatest : Past → ℕ
@@ -156,6 +161,6 @@ abbrev pub AreLegal : Past → List EntryData → Type 0
 AreLegal past [] = Unit {0}
 AreLegal past (line ∷ lines) = Follows past line × AreLegal (passed past line) lines
 
--- each line has the next number, a raised moment, and the machine's reply after the lines before it
+-- each line has the next number, a raised moment, and the machine's reply after the lines before it. The machine is asked with as many lines handed out as there are in the end: that decides whether a journal is full, and a reply that says so makes no line
 unfoldable pub IsLegal : History → Type 0
-IsLegal history = AreLegal (opened history.opening) history.lines
+IsLegal history = AreLegal (opened history.rolled history.opening) history.lines
