@@ -89,3 +89,13 @@ in_range parts e =
     (checked_true (is_within 1 (2 ^ 32) parts.slow_call_duration_threshold) field.SlowCallDurationThreshold _ r.duration
     (checked_true (is_within 1 10000 parts.permitted_number_of_calls_in_half_open_state) field.PermittedNumberOfCallsInHalfOpenState _ r.permitted
     (checked_true (is_within 0 (2 ^ 40) parts.max_wait_duration_in_half_open_state) field.MaxWaitDurationInHalfOpenState (bad_limit parts) stay r.limits))))
+
+-- no more calls run at once
+pub few_places : (most : ℕ) (parts : ConfigParts) → bad_field_up_to most parts ≡ None → parts.max_concurrent_calls ≤ 10000
+few_places most parts e =
+    let limits = (ranges most parts e).limits in
+    let a = good_field (is_within 1 (most_size parts.sliding_window_type) parts.sliding_window_size) field.SlidingWindowSize _ limits in
+    let b = good_field (is_within 1 1000000 parts.minimum_number_of_calls) field.MinimumNumberOfCalls _ a.1 in
+    let c = good_field (is_within 1 (2 ^ 40) parts.wait_duration_in_open_state) field.WaitDurationInOpenState _ b.1 in
+    let d = good_field (is_within 1 10000 parts.max_concurrent_calls) field.MaxConcurrentCalls _ c.1 in
+    within_most 1 10000 parts.max_concurrent_calls d.0

@@ -17,7 +17,7 @@ use Rattle.service_profile.specs.Histories.{Stage, Past, issue_by, issue_at, iss
 use Rattle.service_profile.specs.Machine.{Situation, used, is_open, is_entered, permissions_held}
 use Rattle.book.specs.Safe.{IsSafeProgram, AreSafePrograms, IsSafeEvent, IsSafeLine}
 use Rattle.service_profile.specs.MeantVerdicts.{IsMeantLine}
-use Rattle.book.specs.Sound.{IsSound, next_ticket}
+use Rattle.book.specs.Sound.{IsSound, LeavesRoom, next_ticket}
 use Rattle.book.proofs.Deciding.{Shape, refuses, permits, concludes, lets_go, takes_in, turns, decision_shape, decision_near, OpenAreIssued}
 use Rattle.service_profile.specs.Standings.{is_half_open}
 use Rattle.book.proofs.Configured.{ranges, within_least}
@@ -178,21 +178,21 @@ open_are_issued past sound = λ number e.
 pub shape_there : (past : Past) (line : EntryData) → IsSound past → Shape (situation_of past) line.event (machine past line.moment line.event)
 shape_there past line sound = decision_shape (situation_of past) line.moment line.event (open_are_issued past sound)
 
-pub move_there : (past : Past) (line : EntryData) → IsSound past → Follows past line → IsMove (length past.stages) (open_of past.stages) (next_ticket past) (length (programs_of past)) line.event line.reply (next_standing past line).period
+pub move_there : (past : Past) (line : EntryData) → IsSound past → Follows past line → IsMove (length past.stages - past.rolled) (open_of past.stages) (next_ticket past) (length (programs_of past)) line.event line.reply (next_standing past line).period
 move_there past line sound follows =
     let entered = subst (λ (r : Reply). is_entered r ≡ true) follows.replied follows.entered in
     let move = move_of (situation_of past) line.event (machine past line.moment line.event) (shape_there past line sound) entered sound.used sound.versions in
-    subst (λ (r : Reply). IsMove (length past.stages) (open_of past.stages) (next_ticket past) (length (programs_of past)) line.event r (next_standing past line).period) (sym follows.replied) move
+    subst (λ (r : Reply). IsMove (length past.stages - past.rolled) (open_of past.stages) (next_ticket past) (length (programs_of past)) line.event r (next_standing past line).period) (sym follows.replied) move
 
-pub situated_step : (past : Past) (line : EntryData) → IsSound past → Follows past line → situation_of (passed past line) ≡ situation_after (situation_of past) line (next_standing past line)
-situated_step past line sound follows =
+pub situated_step : (past : Past) (line : EntryData) → IsSound past → past.rolled ≤ length past.stages → Follows past line → situation_of (passed past line) ≡ situation_after (situation_of past) line (next_standing past line)
+situated_step past line sound held_there follows =
     let near = decision_near (situation_of past) line.moment line.event in
     let move = move_there past line sound follows in
     let notes : notes_of (passed past line) ≡ notes_after past.standing (next_standing past line) (notes_of past) _ = notes_step past.opening.config past.stages (stage_of past line) sound.periods near.least in
     let programs : programs_of (passed past line) ≡ programs_of past ++ option_to_list (install_by line.event line.reply) = ap (λ (ps : List VerifiedProgram). past.opening.program ∷ ps) (map_with install_at past.stages (stage_of past line)) in
     let tickets : open_of (passed past line).stages ≡ tickets_after (open_of past.stages) (end_by line.event line.reply) (issue_by line.reply (next_standing past line).period) = open_step past.stages (stage_of past line) (next_ticket past) sound.ended move.fresh in
     let next : next_ticket (passed past line) ≡ next_ticket past + one_where_some (issue_by line.reply (next_standing past line).period) = omega (arith, issued_step past.stages (stage_of past line)) in
-    let held : length (passed past line).stages ≡ length past.stages + 1 = length-append past.stages (stage_of past line ∷ []) in
+    let held : length (passed past line).stages - past.rolled ≡ (length past.stages - past.rolled) + 1 = omega (arith, held_there, length-append past.stages (stage_of past line ∷ [])) in
     cc
 
 abbrev Before : ℕ → Stage → Type 0
@@ -343,4 +343,16 @@ sound_step past line sound follows safe_ =
       lines = all_append (λ (stage : Stage). IsSafeLine stage.line) past.stages (stage_of past line ∷ []) sound.lines (safe_, tt);
       verdicts = verdicts_step past line sound follows safe_.event;
       moment = rw (greatest_step past.opening.moment past.stages (stage_of past line) follows.raises) safe_.word;
+    }
+
+-- a line takes at most one number, and two periods
+pub room_step : (past : Past) (line : EntryData) → IsSound past → past.rolled ≤ length past.stages → Follows past line → LeavesRoom past → LeavesRoom (passed past line)
+room_step past line sound held_there follows room =
+    let near = decision_near (situation_of past) line.moment line.event in
+    let held : length (passed past line).stages ≡ length past.stages + 1 = length-append past.stages (stage_of past line ∷ []) in
+    let count = issued_step past.stages (stage_of past line) in
+    record {
+      line = omega (arith, held_there, held, room.line);
+      ticket = omega (arith, held_there, held, count, room.ticket, one_at_most (issue_by line.reply (next_standing past line).period));
+      period = omega (arith, held_there, held, near.most, room.period);
     }

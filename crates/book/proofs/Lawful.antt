@@ -35,12 +35,12 @@ sound_from safely past (l ∷ lines) sound legal good = sound_from safely (passe
 
 pub service_sound : Safely → (history : History) → IsService history → IsSound (past_of history)
 unfolding IsLegal
-service_sound safely history service = sound_from safely (opened history.opening) history.lines (sound_opened history.opening service.opening (safe_program safely history.opening.program service.program)) service.legal service.lines
+service_sound safely history service = sound_from safely (opened history.rolled history.opening) history.lines (sound_opened history.opening history.rolled service.opening (safe_program safely history.opening.program service.program)) service.legal service.lines
 
 pub places_kept : Safely → (history : History) → IsService history → length (open_of (past_of history).stages) ≤ history.opening.config.max_concurrent_calls
 places_kept safely history service =
     let sound = service_sound safely history service in
-    omega (arith, sound.places, ap (λ (o : Opening). o.config.max_concurrent_calls) (same_opening history.opening history.lines))
+    omega (arith, sound.places, ap (λ (o : Opening). o.config.max_concurrent_calls) (same_opening history.opening history.lines history.rolled))
 
 -- ---- numbers
 
@@ -56,7 +56,7 @@ numbered_from past (m ∷ lines) (suc place) l legal e =
 
 pub numbers_kept : (history : History) (place : ℕ) (l : EntryData) → IsLegal history → slice_get history.lines place ≡ Some l → l.number ≡ history.opening.line + place
 unfolding IsLegal
-numbers_kept history place l legal e = omega (arith, numbered_from (opened history.opening) history.lines place l legal e)
+numbers_kept history place l legal e = omega (arith, numbered_from (opened history.rolled history.opening) history.lines place l legal e)
 
 -- ---- spent tickets
 

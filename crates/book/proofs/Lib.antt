@@ -8,6 +8,7 @@ pub mod Passing
 pub mod Planned
 pub mod Permissions
 pub mod Held
+pub mod Journals
 pub mod Settled
 pub mod Keeping
 pub mod Effected
@@ -17,3 +18,8 @@ pub mod Worlds
 pub mod Cuts
 pub mod Lawful
 pub mod Seats
+pub mod Rolled
+pub mod Rolls
+pub mod Roomy
+pub mod Runs
+pub mod Pieces

@@ -13,16 +13,18 @@ use Rattle.bpf_profile.specs.Programs.{VerifiedProgram}
 use Rattle.service_profile.specs.declared.decisions.Decision.{Decision}
 use Rattle.service_profile.specs.declared.tickets.OpenTicket.{OpenTicket}
 use Rattle.service_profile.specs.declared.states.State.TheVariants as state
-use Rattle.service_profile.specs.Answers.{looked_up, looked_under, looked, last_of, current_program, is_past_the_limit, is_worn_out, is_some_open, reopened, cut}
+use Rattle.service_profile.specs.Answers.{looked_up, looked_under, looked, last_of, current_program, is_past_the_limit, is_worn_out, is_some_open, reopened, cut, roll, count_up_to}
 use Rattle.service_profile.specs.Events.{EventData, acquires, finishes, releases, installs, moves, resets, EntryData, Opening}
 use Rattle.service_profile.specs.Histories.{Past, past_of, situation_of, machine, raised, greatest, next_line, install_at, Follows}
-use Rattle.book.specs.Interleavings.{carried_by, carried_under, carried_finish, carried, Hands, World, Step, acquire, look, judge, finish, release, install, move, reset, read, cut_off, Turn, Memory, ample, wanting, starved, turned_with, turned, written, entered_by, answered, happens, holding, with_program, with_work, looking, work_of, judging, finishing, cutting, taken, Act, preceded, course, begun, IsStep, AreSteps, AreHands, IsWorld}
+use Rattle.book.specs.Interleavings.{carried_by, carried_under, carried_finish, carried, Hands, World, Step, acquire, look, judge, finish, release, install, move, reset, read, cut_off, roll_up_to, Turn, Memory, ample, wanting, starved, turned_with, turned, written, entered_by, answered, happens, holding, with_program, with_work, looking, work_of, judging, finishing, cutting, rolling, taken, Act, preceded, course, begun, IsStep, AreSteps, AreHands, IsWorld}
 use Rattle.service_profile.specs.Machine.{Situation, decision, refused, is_full, in_state, overstays, at_moment, is_issued, open_ticket, program_from, same_program, bytes_of, judged_as, concluded, finished_by, finished_under, finished, is_entered, current_version}
 use Rattle.book.specs.Safe.{IsSafeProgram, AreSafePrograms, IsJudged, IsSafeEvent}
 use Rattle.service_profile.specs.Openings.{IsOpening}
 use Rattle.book.specs.Sound.{IsSound}
 use Rattle.service_profile.specs.Verdicts.{judgement}
-use Rattle.book.proofs.Applying.{legal_step, past_with}
+use Rattle.book.specs.Rolling.{with_rolled}
+use Rattle.book.proofs.Applying.{legal_step, past_with, same_rolled}
+use Rattle.book.proofs.Rolled.{rolled_legal}
 use Rattle.book.proofs.Judging.{slots_by_bytes, judgement_by_slots, judgement_judges, program_safe}
 use Rattle.book.proofs.Keeping.{sound_step}
 use Rattle.book.proofs.Lists.{all_append, got}
@@ -80,8 +82,8 @@ entered_world w actor moment event true e whole word seat safe_ =
     let follows : Follows past line = record { numbered = refl; raises = le-max_right moment (greatest past); replied = refl; entered = e } in
     let bound : raised past moment ≤ 18446744073709551615 = max-le (omega (arith, word)) (omega (arith, whole.sound.moment)) in
     record {
-      legal = legal_step w.history.opening w.history.lines line whole.legal follows;
-      sound = subst (λ (p : Past). IsSound p) (sym (past_with w.history.opening w.history.lines line)) (sound_step past line whole.sound follows (record { word = omega (arith, bound); seat = seat; event = safe_ }));
+      legal = legal_step w.history.opening w.history.lines w.history.rolled line whole.legal follows;
+      sound = subst (λ (p : Past). IsSound p) (sym (past_with w.history.opening w.history.lines w.history.rolled line)) (sound_step past line whole.sound follows (record { word = omega (arith, bound); seat = seat; event = safe_ }));
       hands = entered_hands w line true whole.hands;
     }
   where
@@ -147,7 +149,7 @@ last_safe x (y ∷ ys) p all = last_safe y ys all.0 all.1
 pub current_safe : (past : Past) → IsSound past → IsSafeProgram (current_program past)
 current_safe past sound = last_safe past.opening.program (filter_map install_at past.stages) sound.programs.0 sound.programs.1
 
-none_of : (a b : Bool) → (a || b) ≡ false → (a ≡ false) × (b ≡ false)
+pub none_of : (a b : Bool) → (a || b) ≡ false → (a ≡ false) × (b ≡ false)
 none_of true b e = let bad : ◌≡◌ {A = Bool} true false = e in cc
 none_of false b e = (refl, e)
 
@@ -196,8 +198,37 @@ pub cut_program : (past : Past) (opening : Opening) → IsSound past → cut pas
 cut_program past opening sound e = program_by_cut past (is_worn_out past) (is_some_open (situation_of past).open_tickets) opening sound e
 
 cutting_world : (w : World) (r : Result Opening RefusalNumber) → ((o : Opening) → r ≡ Ok o → IsOpening o) → ((o : Opening) → r ≡ Ok o → IsSafeProgram o.program) → IsWorld w → IsWorld (cutting w r).world
-cutting_world w (Ok opening) good safe_ whole = record { legal = legal_opened opening; sound = sound_opened opening (good opening refl) (safe_ opening refl); hands = whole.hands }
+cutting_world w (Ok opening) good safe_ whole = record { legal = legal_opened opening; sound = sound_opened opening 0 (good opening refl) (safe_ opening refl); hands = whole.hands }
 cutting_world w (Err number) good safe_ whole = whole
+
+-- ---- rolls
+
+pub sound_rolled : (past : Past) (count : ℕ) → IsSound past → past.rolled ≤ count → IsSound (with_rolled count past)
+sound_rolled past count sound le = record {
+  opening = sound.opening;
+  periods = sound.periods;
+  period = sound.period;
+  ended = sound.ended;
+  open_issued = sound.open_issued;
+  few_issued = sound.few_issued;
+  ticket_periods = sound.ticket_periods;
+  places = sound.places;
+  permissions = sound.permissions;
+  used = omega (arith, le, sound.used);
+  versions = sound.versions;
+  programs = sound.programs;
+  lines = sound.lines;
+  verdicts = sound.verdicts;
+  moment = sound.moment;
+}
+
+rolling_world : (w : World) (last : ℕ) (r : Result (List EntryData) RefusalNumber) → IsWorld w → IsWorld (rolling w last r).world
+rolling_world w last (Err number) whole = whole
+rolling_world w last (Ok lines) whole =
+    let count : ℕ = count_up_to w.history last in
+    let legal = rolled_legal w.history count whole.legal (omega arith) in
+    let kept : (past_of w.history).rolled ≤ count = omega (arith, same_rolled w.history.opening w.history.lines w.history.rolled) in
+    record { legal = legal.0; sound = subst (λ (p : Past). IsSound p) (sym legal.1) (sound_rolled (past_of w.history) count whole.sound kept); hands = whole.hands }
 
 -- ---- steps
 
@@ -216,6 +247,7 @@ step_world safely w actor (move moment s) whole seat good = event_world w actor 
 step_world safely w actor (reset moment) whole seat good = event_world w actor moment resets whole good seat reset_safe
 step_world safely w actor (read moment) whole seat good = whole
 step_world safely w actor cut_off whole seat good = cutting_world w (cut (past_of w.history)) (λ o e. cut_opening (past_of w.history) o whole.sound e) (λ o e. cut_program (past_of w.history) o whole.sound e) whole
+step_world safely w actor (roll_up_to last) whole seat good = rolling_world w last (roll w.history last) whole
 
 -- for want of memory nothing changes but what judging gives
 turned_world : Safely → (m : Memory) (w : World) (actor : ℕ) (step : Step) → IsWorld w → actor < 2 ^ 32 → IsStep step → IsWorld (turned_with m decision w actor step).world
@@ -230,6 +262,7 @@ turned_world safely wanting w actor (move moment s) whole seat good = whole
 turned_world safely wanting w actor (reset moment) whole seat good = whole
 turned_world safely wanting w actor (read moment) whole seat good = whole
 turned_world safely wanting w actor cut_off whole seat good = whole
+turned_world safely wanting w actor (roll_up_to last) whole seat good = whole
 
 step_same : (w : World) (actor : ℕ) (step : Step) → IsWorld w → taken carried w actor step ≡ taken decision w actor step
 step_same w actor (acquire moment) whole = refl
@@ -242,6 +275,7 @@ step_same w actor (move moment s) whole = refl
 step_same w actor (reset moment) whole = refl
 step_same w actor (read moment) whole = refl
 step_same w actor cut_off whole = refl
+step_same w actor (roll_up_to last) whole = refl
 
 turned_same : (m : Memory) (w : World) (actor : ℕ) (step : Step) → IsWorld w → turned_with m carried w actor step ≡ turned_with m decision w actor step
 turned_same ample w actor step whole = step_same w actor step whole
@@ -255,6 +289,7 @@ turned_same wanting w actor (move moment s) whole = refl
 turned_same wanting w actor (reset moment) whole = refl
 turned_same wanting w actor (read moment) whole = refl
 turned_same wanting w actor cut_off whole = refl
+turned_same wanting w actor (roll_up_to last) whole = refl
 
 -- ---- lists of steps
 
@@ -271,4 +306,4 @@ course_world safely w [] whole good = whole
 course_world safely w (act ∷ acts) whole good = course_world safely (turned decision w act).world acts (turned_world safely act.memory w act.actor act.step whole good.0.0 good.0.1) good.1
 
 pub begun_world : (opening : Opening) → IsOpening opening → IsSafeProgram opening.program → IsWorld (begun opening)
-begun_world opening good program = record { legal = legal_opened opening; sound = sound_opened opening good program; hands = λ actor. record { programs = tt; works = tt } }
+begun_world opening good program = record { legal = legal_opened opening; sound = sound_opened opening 0 good program; hands = λ actor. record { programs = tt; works = tt } }

@@ -1,13 +1,15 @@
 -- What a book keeps: a legal history, and beside it what the history says.
-use Rattle.std.specs.Prelude.{◌≡◌, ℕ, List, length}
+use Rattle.std.specs.Prelude.{◌≡◌, ℕ, ◌-◌, ◌≤◌, List, ◌++◌, length, Vec}
+use Rattle.std.specs.declared.alloc.Global.{Global}
+use Rattle.std.specs.List.{flat_map}
 use Rattle.std.specs.Arc.{arc_value}
 use Rattle.book.specs.declared.books.Start.{Start}
 use Rattle.book.specs.declared.service.Service.{Service}
 use Rattle.service_profile.specs.declared.configuration.ConfigParts.{ConfigParts}
-use Rattle.service_profile.specs.Events.{EntryData, Opening, history_of}
+use Rattle.service_profile.specs.Events.{EntryData, Opening, History}
 use Rattle.service_profile.specs.Histories.{past_of, situation_of, refused_of, greatest, IsLegal}
 use Rattle.book.specs.Situations.{StandsFor}
-use Rattle.book.specs.Sound.{IsSound}
+use Rattle.book.specs.Sound.{IsSound, LeavesRoom}
 
 abbrev pub opening_of : ConfigParts → Start → Opening
 opening_of config start = record {
@@ -20,9 +22,22 @@ opening_of config start = record {
   moment = start.moment;
 }
 
-pub record IsBook (opening : Opening) (service : Service) (moment : ℕ) (lines : List EntryData) : Type 0 where
-  pub legal : IsLegal (history_of opening lines)
-  pub sound : IsSound (past_of (history_of opening lines))
-  pub situated : StandsFor service (length lines) (situation_of (past_of (history_of opening lines)))
-  pub refused_calls : service.refused ≡ refused_of (past_of (history_of opening lines))
-  pub greatest_moment : moment ≡ greatest (past_of (history_of opening lines))
+-- the lines of the pieces that were handed out, and those that are held
+abbrev pub lines_handed : List (Vec EntryData Global) → List EntryData
+lines_handed pieces = flat_map (λ piece. piece.items) pieces
+
+abbrev pub all_lines : List (Vec EntryData Global) → List EntryData → List EntryData
+all_lines pieces held = lines_handed pieces ++ held
+
+-- a history of which so many lines were handed out
+abbrev pub journal : Opening → List EntryData → ℕ → History
+journal opening lines rolled = record { opening = opening; lines = lines; rolled = rolled }
+
+pub record IsBook (opening : Opening) (service : Service) (moment : ℕ) (lines : List EntryData) (rolled : ℕ) : Type 0 where
+  pub there : rolled ≤ length lines
+  pub room : LeavesRoom (past_of (journal opening lines rolled))
+  pub legal : IsLegal (journal opening lines rolled)
+  pub sound : IsSound (past_of (journal opening lines rolled))
+  pub situated : StandsFor service (length lines - rolled) (situation_of (past_of (journal opening lines rolled)))
+  pub refused_calls : service.refused ≡ refused_of (past_of (journal opening lines rolled))
+  pub greatest_moment : moment ≡ greatest (past_of (journal opening lines rolled))

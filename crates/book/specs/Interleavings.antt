@@ -13,8 +13,8 @@ use Rattle.service_profile.specs.declared.tickets.OpenTicket.{OpenTicket}
 use Rattle.service_profile.specs.declared.replies.Reply.{Reply}
 use Rattle.service_profile.specs.declared.replies.Reply.TheVariants as reply
 use Rattle.service_profile.specs.declared.states.State.{State}
-use Rattle.service_profile.specs.Answers.{looked, reading, with_line, cut}
-use Rattle.service_profile.specs.Events.{EventData, acquires, finishes, releases, installs, moves, resets, EntryData, Opening, History}
+use Rattle.service_profile.specs.Answers.{looked, reading, with_line, held_lines, cut, roll, after_roll}
+use Rattle.service_profile.specs.Events.{EventData, acquires, finishes, releases, installs, moves, resets, EntryData, Opening, History, history_of}
 use Rattle.service_profile.specs.Histories.{past_of, situation_of, raised, next_line, IsLegal}
 use Rattle.service_profile.specs.Machine.{Situation, decision, refused, is_full, at_moment, is_issued, open_ticket, program_from, same_program, judged_as, concluded, is_entered}
 use Rattle.book.specs.Safe.{IsVerifiedProgram, AreSafePrograms, IsJudged}
@@ -63,6 +63,7 @@ pub data Step : Type 0 where
   reset : ℕ → Step
   read : ℕ → Step
   cut_off : Step
+  roll_up_to : ℕ → Step
 
 -- what a step gives its actor
 pub data Given : Type 0 where
@@ -124,8 +125,12 @@ finishing answering w actor moment ticket None = record { world = w; given = not
 finishing answering w actor moment ticket (Some work) = happens answering w actor moment (finishes work ticket)
 
 abbrev pub cutting : World → Result Opening RefusalNumber → Turn
-cutting w (Ok opening) = record { world = record { history = record { opening = opening; lines = [] }; hands = w.hands }; given = handed (Ok w.history.lines) }
+cutting w (Ok opening) = record { world = record { history = history_of opening []; hands = w.hands }; given = handed (Ok (held_lines w.history)) }
 cutting w (Err number) = record { world = w; given = handed (Err number) }
+
+-- a roll hands out entries, and leaves all else
+abbrev pub rolling : World → ℕ → Result (List EntryData) RefusalNumber → Turn
+rolling w last handed_out = record { world = record { history = after_roll w.history last handed_out; hands = w.hands }; given = handed handed_out }
 
 abbrev pub taken : Answering → World → ℕ → Step → Turn
 taken answering w actor (acquire moment) = happens answering w actor moment acquires
@@ -138,6 +143,7 @@ taken answering w actor (move moment state) = happens answering w actor moment (
 taken answering w actor (reset moment) = happens answering w actor moment resets
 taken answering w actor (read moment) = record { world = w; given = shown (reading (past_of w.history) moment) }
 taken answering w actor cut_off = cutting w (cut (past_of w.history))
+taken answering w actor (roll_up_to last) = rolling w last (roll w.history last)
 
 -- ---- lists of steps
 
@@ -187,7 +193,7 @@ course answering w (act ∷ acts) = preceded (turned answering w act).given (cou
 
 -- before the first step nobody holds anything
 abbrev pub begun : Opening → World
-begun opening = record { history = record { opening = opening; lines = [] }; hands = λ actor. record { programs = []; works = [] } }
+begun opening = record { history = history_of opening []; hands = λ actor. record { programs = []; works = [] } }
 
 -- moments are words, actors are seats of 32 bits, outcomes are records, and what is installed was verified
 abbrev pub IsStep : Step → Type 0
@@ -201,6 +207,7 @@ IsStep (move moment state) = moment < 2 ^ 64
 IsStep (reset moment) = moment < 2 ^ 64
 IsStep (read moment) = moment < 2 ^ 64
 IsStep cut_off = Unit {0}
+IsStep (roll_up_to last) = Unit {0}
 
 abbrev pub AreSteps : List Act → Type 0
 AreSteps acts = AllByRecursion (λ act. (act.actor < 2 ^ 32) × IsStep act.step) acts

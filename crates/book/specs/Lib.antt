@@ -7,3 +7,4 @@ pub mod Interleavings
 pub mod Laws
 pub mod Books
 pub mod Seen
+pub mod Rolling

@@ -1,5 +1,5 @@
 -- What a service's parts stand for, and what is known of it.
-use Rattle.std.specs.Prelude.{◌≡◌, ℕ, ◌+◌, ◌<◌, ◌≤◌, ◌^◌, Option, Some, None, length}
+use Rattle.std.specs.Prelude.{◌≡◌, ℕ, ◌+◌, ◌-◌, ◌<◌, ◌≤◌, ◌^◌, Option, Some, None, length}
 use Rattle.std.specs.List.{AllByRecursion}
 use Rattle.book.specs.declared.plans.Effects.{Effects}
 use Rattle.book.specs.declared.service.Service.{Service}
@@ -37,7 +37,7 @@ pub record StandsFor (service : Service) (held : ℕ) (s : Situation) : Type 0 w
 pub record IsOrderly (s : Situation) : Type 0 where
   pub period : s.standing.period + 2 < 2 ^ 64
   pub periods : AllByRecursion (λ ticket. ticket.period ≤ s.standing.period) s.open_tickets
-  pub notes : length s.notes < 2 ^ 32
+  pub notes : length s.notes < 2 ^ 64 - 8
   pub tickets : length s.open_tickets < 2 ^ 32
   pub next : s.next_ticket + 1 < 2 ^ 64
   pub versions : s.first_version + length s.programs + 1 < 2 ^ 64

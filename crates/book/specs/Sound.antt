@@ -1,8 +1,8 @@
 -- What is true of every legal history, and what keeps numbers below 2 ^ 64.
-use Rattle.std.specs.Prelude.{◌≡◌, ℕ, ◌+◌, ◌*◌, ◌^◌, ◌<◌, ◌≤◌, length, true}
+use Rattle.std.specs.Prelude.{◌≡◌, ℕ, ◌+◌, ◌-◌, ◌*◌, ◌^◌, ◌<◌, ◌≤◌, length, true}
 use Rattle.std.specs.List.{AllByRecursion}
-use Rattle.service_profile.specs.Limits.{most_versions, most_entries}
-use Rattle.service_profile.specs.Histories.{Past, ended, issued, notes_of, open_of, programs_of, greatest}
+use Rattle.service_profile.specs.Limits.{most_versions, most_entries, greatest_number}
+use Rattle.service_profile.specs.Histories.{Past, ended, issued, notes_of, open_of, programs_of, greatest, next_line}
 use Rattle.service_profile.specs.Machine.{permissions_held}
 use Rattle.service_profile.specs.MeantVerdicts.{IsMeantLine}
 use Rattle.service_profile.specs.Openings.{IsOpening}
@@ -29,7 +29,7 @@ pub record IsSound (past : Past) : Type 0 where
   pub permissions : is_half_open past.standing.state ≡ true
       → permissions_held past.standing.period (open_of past.stages) + length (notes_of past) ≤ past.opening.config.permitted_number_of_calls_in_half_open_state
   -- the journal has a line left for the end of each open ticket
-  pub used : length past.stages + length (open_of past.stages) ≤ most_entries
+  pub used : (length past.stages - past.rolled) + length (open_of past.stages) ≤ most_entries
   pub versions : length (programs_of past) ≤ most_versions
   -- every program that was installed is safe
   pub programs : AreSafePrograms (programs_of past)
@@ -37,3 +37,9 @@ pub record IsSound (past : Past) : Type 0 where
   pub lines : AllByRecursion (λ stage. IsSafeLine stage.line) past.stages
   pub verdicts : AllByRecursion (λ stage. IsMeantLine past.opening.version (programs_of past) (issued past.stages) stage.line) past.stages
   pub moment : greatest past < 2 ^ 64
+
+-- when entries were last handed out, and when the book opened, no number was past its limit: since then each held line took at most one number, and two periods
+pub record LeavesRoom (past : Past) : Type 0 where
+  pub line : next_line past ≤ greatest_number + (length past.stages - past.rolled)
+  pub ticket : next_ticket past ≤ greatest_number + (length past.stages - past.rolled)
+  pub period : past.standing.period ≤ greatest_number + 2 * (length past.stages - past.rolled)

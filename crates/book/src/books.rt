@@ -15,6 +15,7 @@ use crate::changes::{follow, know_config, know_event, know_program, owner_of};
 use crate::events::{Entry, Event};
 use crate::machine::{decide, is_entered};
 use crate::service::Service;
+use pieces::Pieces;
 use refusals::RefusalNumber;
 use service_profile::{Config, Reading, Reply};
 use std::alloc::{AllocError, Global};
@@ -40,19 +41,25 @@ pub struct Book {
     pub(crate) start: Start,
     pub(crate) service: Service,
     pub(crate) moment: u64,
+    /// How many entries were handed out since it opened.
+    pub(crate) rolled: u64,
+    /// These entries, for proofs alone.
+    pub(crate) handed: Pieces<Vec<Entry>>,
+    /// The entries that are held.
     pub(crate) entries: Vec<Entry>,
 }
 
 impl Model for Book {
-    ghost use Rattle.service_profile.specs.Events.{History, history_of};
+    ghost use Rattle.std.specs.Prelude.{◌≡◌, length};
+    ghost use Rattle.service_profile.specs.Events.{History};
 
     ghost Value = { History };
 
-    ghost use Rattle.book.specs.Books.{opening_of, IsBook};
+    ghost use Rattle.book.specs.Books.{opening_of, all_lines, lines_handed, journal, IsBook};
 
-    ghost view = { λ b. history_of (opening_of b.service.config b.start) b.entries.items };
+    ghost view = { λ b. journal (opening_of b.service.config b.start) (all_lines b.handed.items b.entries.items) b.rolled };
 
-    ghost invariant = { λ b. IsBook (opening_of b.service.config b.start) b.service b.moment b.entries.items };
+    ghost invariant = { λ b. IsBook (opening_of b.service.config b.start) b.service b.moment (all_lines b.handed.items b.entries.items) b.rolled × (b.rolled ≡ length (lines_handed b.handed.items)) };
 }
 
 impl Book {
@@ -87,6 +94,8 @@ impl Book {
         Ok(Book {
             service: Service::new(alloc, config, &start)?,
             moment: start.moment,
+            rolled: 0,
+            handed: Pieces::new(),
             entries: Vec::new(alloc),
             start,
         })
@@ -113,7 +122,7 @@ impl Book {
         if follow(&mut self.entries, &mut self.service, &event, plan).is_err() {
             return Reply::Refused(RefusalNumber::ServiceOutOfMemory);
         }
-        let number = self.start.line + self.entries.len() as u64;
+        let number = self.start.line + self.rolled + self.entries.len() as u64;
         let entry = Entry::new(number, seat, event, moment, reply);
         self.moment = moment;
         self.entries.push_reserved(entry);
@@ -165,7 +174,7 @@ impl Book {
         ensures legal { IsLegal self.now }
         ensures sound { IsSound (past_of self.now) }
     {
-        let passed = from.saturating_sub(self.start.line);
+        let passed = from.saturating_sub(self.start.line + self.rolled);
         let first = passed.min(self.entries.len() as u64) as usize;
         &self.entries[first..]
     }
@@ -176,6 +185,6 @@ impl Book {
         ensures legal { IsLegal self.now }
         ensures sound { IsSound (past_of self.now) }
     {
-        self.start.line + self.entries.len() as u64 - 1
+        self.start.line + self.rolled + self.entries.len() as u64 - 1
     }
 }

@@ -31,11 +31,11 @@ fn are_worn_out(line: u64, ticket: u64, period: u64, version: u64) -> bool
 
 impl Book {
     /// Whether a number that would go on is past its limit.
-    fn is_worn_out(&self) -> bool
+    pub(crate) fn is_worn_out(&self) -> bool
         ensures { result ≡ is_worn_out (past_of self.now) }
     {
         are_worn_out(
-            self.start.line + self.entries.len() as u64,
+            self.start.line + self.rolled + self.entries.len() as u64,
             self.service.next_ticket(),
             self.service.standing().period + 1,
             self.service.current_version() + 1,
@@ -54,7 +54,7 @@ impl Book {
             version: self.service.current_version(),
             period: self.service.standing().period + 1,
             ticket: self.service.next_ticket(),
-            line: self.start.line + self.entries.len() as u64,
+            line: self.start.line + self.rolled + self.entries.len() as u64,
             moment: self.moment,
         };
         Book::begin(*self.entries.allocator(), self.service.config, start)

@@ -10,6 +10,7 @@ pub mod laws;
 mod machine;
 mod paging;
 mod plans;
+mod rolling;
 mod service;
 mod settling;
 

@@ -47,7 +47,7 @@ impl Service {
     pub(crate) fn new(alloc: Global, config: Config, start: &Start) -> Result<Service, AllocError>
         requires { IsOpening (opening_of config start.now) }
         ensures config { IfOk result (λ service. service.config ≡ config) }
-        ensures stands { IfOk result (λ service. StandsFor service 0 (situation_of (opened (opening_of config start.now)))) }
+        ensures stands { IfOk result (λ service. StandsFor service 0 (situation_of (opened 0 (opening_of config start.now)))) }
         ensures refused { IfOk result (λ service. service.refused ≡ 0) }
     {
         let program = Arc::try_clone(&start.program)?;

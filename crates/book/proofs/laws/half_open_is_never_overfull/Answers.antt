@@ -6,4 +6,4 @@ use Rattle.book.proofs.laws.half_open_is_never_overfull.Goals as goal
 
 pub returns : goal.returns
 returns c = λ history service half.
-    omega (arith, (service_sound c.accepted_programs_are_safe.ensures history service).permissions half, ap (λ (o : Opening). o.config.permitted_number_of_calls_in_half_open_state) (same_opening history.opening history.lines))
+    omega (arith, (service_sound c.accepted_programs_are_safe.ensures history service).permissions half, ap (λ (o : Opening). o.config.permitted_number_of_calls_in_half_open_state) (same_opening history.opening history.lines history.rolled))
