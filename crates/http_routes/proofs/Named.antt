@@ -23,7 +23,7 @@ word_row r = (word_of r, (row r).1)
 abbrev word_rows : RowsOf (RouteOf Route)
 word_rows =
     word_row route.Acquire ∷ word_row route.Cut ∷ (codes "journal/" ++ (param_token ∷ []), journal_row.1) ∷ word_row route.Program
-    ∷ word_row route.Release ∷ word_row route.Report ∷ word_row route.Reset ∷ word_row route.State ∷ word_row route.Transition ∷ []
+    ∷ word_row route.Release ∷ word_row route.Report ∷ word_row route.Reset ∷ word_row route.Roll ∷ word_row route.State ∷ word_row route.Transition ∷ []
 
 abbrev below : RowsOf (RouteOf Route)
 below = steps (codes "/v1/services/") routes
@@ -78,6 +78,8 @@ finds-named route.Reset service None path bytes read = ((row route.Reset).1, und
 finds-named route.Reset service (Some number) path bytes read = absurd read.2
 finds-named route.Cut service None path bytes read = ((row route.Cut).1, under service (codes "cut") path bytes read.1 read.0, refl)
 finds-named route.Cut service (Some number) path bytes read = absurd read.2
+finds-named route.Roll service None path bytes read = ((row route.Roll).1, under service (codes "roll") path bytes read.1 read.0, refl)
+finds-named route.Roll service (Some number) path bytes read = absurd read.2
 finds-named route.Program service None path bytes read = ((row route.Program).1, under service (codes "program") path bytes read.1 read.0, refl)
 finds-named route.Program service (Some number) path bytes read = absurd read.2
 finds-named route.State service None path bytes read = ((row route.State).1, under service (codes "state") path bytes read.1 read.0, refl)

@@ -93,10 +93,13 @@ route-asks path r bytes e =
                 | inr h6 ↦ elim h6 [
                   | inl h ↦ by-row (row route.Reset) path found.0 r h (plain-asks route.Reset path refl tt) found.2
                   | inr h7 ↦ elim h7 [
-                    | inl h ↦ by-row (row route.State) path found.0 r h (plain-asks route.State path refl tt) found.2
+                    | inl h ↦ by-row (row route.Roll) path found.0 r h (plain-asks route.Roll path refl tt) found.2
                     | inr h8 ↦ elim h8 [
-                      | inl h ↦ by-row (row route.Transition) path found.0 r h (plain-asks route.Transition path refl tt) found.2
-                      | inr none ↦ absurd none
+                      | inl h ↦ by-row (row route.State) path found.0 r h (plain-asks route.State path refl tt) found.2
+                      | inr h9 ↦ elim h9 [
+                        | inl h ↦ by-row (row route.Transition) path found.0 r h (plain-asks route.Transition path refl tt) found.2
+                        | inr none ↦ absurd none
+                      ]
                     ]
                   ]
                 ]
@@ -156,6 +159,8 @@ places-of route.Reset service None path read = places-plain (asks route.Reset se
 places-of route.Reset service (Some number) path read = absurd read.2
 places-of route.Cut service None path read = places-plain (asks route.Cut service None) path (codes "cut") read.1 read.0 refl refl
 places-of route.Cut service (Some number) path read = absurd read.2
+places-of route.Roll service None path read = places-plain (asks route.Roll service None) path (codes "roll") read.1 read.0 refl refl
+places-of route.Roll service (Some number) path read = absurd read.2
 places-of route.Program service None path read = places-plain (asks route.Program service None) path (codes "program") read.1 read.0 refl refl
 places-of route.Program service (Some number) path read = absurd read.2
 places-of route.State service None path read = places-plain (asks route.State service None) path (codes "state") read.1 read.0 refl refl

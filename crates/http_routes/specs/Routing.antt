@@ -23,11 +23,11 @@ journal_row =
     let pattern = codes "/v1/services/" ++ param_token ∷ codes "/journal/" ++ param_token ∷ [] in
     (pattern, record { pattern = pattern; text = codes "/v1/services/{service}/journal/{from}"; names = (14, 21) ∷ (32, 36) ∷ []; value = route.Journal })
 
--- the nine routes, in the order of their patterns
+-- the ten routes, in the order of their patterns
 unfoldable pub routes : RowsOf (RouteOf Route)
 routes =
     row route.Acquire ∷ row route.Cut ∷ journal_row ∷ row route.Program ∷ row route.Release ∷ row route.Report
-    ∷ row route.Reset ∷ row route.State ∷ row route.Transition ∷ []
+    ∷ row route.Reset ∷ row route.Roll ∷ row route.State ∷ row route.Transition ∷ []
 
 -- the route that a path finds; one that is no UTF-8 finds none
 abbrev pub route_of : List ℕ → Option Route

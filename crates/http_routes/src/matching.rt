@@ -34,12 +34,13 @@ fn all_routes(alloc: Global) -> Result<Router<Route>, InsertError>
     router.insert("/v1/services/{service}/release", Route::Release)?;
     router.insert("/v1/services/{service}/report", Route::Report)?;
     router.insert("/v1/services/{service}/reset", Route::Reset)?;
+    router.insert("/v1/services/{service}/roll", Route::Roll)?;
     router.insert("/v1/services/{service}/state", Route::State)?;
     router.insert("/v1/services/{service}/transition", Route::Transition)?;
     Ok(router)
 }
 
-/// The nine routes, made once and asked for each request.
+/// The ten routes, made once and asked for each request.
 #[derive(Drop)]
 pub struct Routes {
     router: Router<Route>,
@@ -50,7 +51,7 @@ impl Routes {
     ghost use Rattle.std.specs.Prelude.{◌≡◌};
     ghost use Rattle.http_routes.specs.Routing.{routes};
 
-    /// The nine routes. The error is want of memory.
+    /// The ten routes. The error is want of memory.
     pub fn new(alloc: Global) -> Result<Routes, AllocError> {
         match all_routes(alloc) {
             Ok(router) => Ok(Routes { router }),

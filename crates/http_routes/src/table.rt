@@ -18,6 +18,8 @@ pub enum Route {
     Reset,
     /// All entries; the book opens anew.
     Cut,
+    /// The entries up to a number; the book goes on.
+    Roll,
     /// To verify a program, and to make it the current version.
     Program,
     /// How the service stands.
@@ -39,6 +41,7 @@ impl Route {
             Route::Transition => "POST",
             Route::Reset => "POST",
             Route::Cut => "POST",
+            Route::Roll => "POST",
             Route::Program => "PUT",
             Route::State => "GET",
             Route::Journal => "GET",
@@ -63,6 +66,7 @@ impl Route {
             Route::Transition => "transition",
             Route::Reset => "reset",
             Route::Cut => "cut",
+            Route::Roll => "roll",
             Route::Program => "program",
             Route::State => "state",
             Route::Journal => "journal",

@@ -15,4 +15,5 @@ returns c =
     let h = c.in_ok-insert-7.ensures.1 in
     let i = c.in_ok-insert-8.ensures.1 in
     let j = c.in_ok-insert-9.ensures.1 in
-    j ∙ rw (i, h, g, f, e, d, b, a, c.new-router.ensures)
+    let k = c.in_ok-insert-10.ensures.1 in
+    k ∙ rw (j, i, h, g, f, e, d, b, a, c.new-router.ensures)
