@@ -25,6 +25,8 @@ use Rattle.windows.specs.contracts.count.CountWindow as count
 use Rattle.windows.specs.contracts.time.TimeWindow as time
 use Rattle.breaker.specs.contracts.machine.Breaker as breaker
 use Rattle.registry.specs.contracts.holdings.Registry as registry
+use Rattle.pieces.specs.contracts.pieces.Pieces as pieces
+use Rattle.pieces.proofs.Crosses as pieces_sent
 use Rattle.desk.proofs.FlatSending.{flat_send, flat_sync}
 
 program_send : IsSend program.the_row
@@ -92,8 +94,11 @@ breaker_send = search (sendable, sliding_send, config_send, standing_send, total
 registry_send : IsSend (registry.the_field).row
 registry_send = search (sendable, crosses, maps.crosses, verified_send, verified_sync) depth 40 fits 20000
 
+pieces_send : (A : RattleType) → IsSend A → IsSend (pieces.the_row A)
+pieces_send = pieces_sent.pieces_send
+
 pub book_field_send : IsSend (book.the_field).row
-book_field_send = search (sendable, crosses, config_send, entry_send, breaker_send, registry_send, verified_send, verified_sync) depth 40 fits 20000
+book_field_send = search (sendable, crosses, config_send, entry_send, breaker_send, registry_send, verified_send, verified_sync, pieces_send) depth 40 fits 20000
 
 pub book_send : IsSend book.the_row
-book_send = search (sendable, crosses, config_send, entry_send, breaker_send, registry_send, verified_send, verified_sync) depth 40 fits 20000
+book_send = search (sendable, crosses, config_send, entry_send, breaker_send, registry_send, verified_send, verified_sync, pieces_send) depth 40 fits 20000

@@ -7,7 +7,7 @@ use Rattle.refusals.specs.declared.RefusalNumber.{RefusalNumber}
 use Rattle.service_profile.specs.declared.readings.Reading.{Reading}
 use Rattle.service_profile.specs.declared.replies.Reply.{Reply}
 use Rattle.service_profile.specs.declared.replies.Reply.TheVariants as reply
-use Rattle.service_profile.specs.Answers.{IsApplied, IsLooked, IsPage, IsCut, reading}
+use Rattle.service_profile.specs.Answers.{IsApplied, IsLooked, IsPage, IsCut, IsRolled, reading}
 use Rattle.service_profile.specs.Events.{EventData, finishes, EntryData, History}
 use Rattle.service_profile.specs.Histories.{past_of}
 use Rattle.desk.specs.Seats.{SeatData, after_call}
@@ -40,6 +40,10 @@ IsPageFrom from found = AfterSome (λ before after. IsPage before from found × 
 -- the entries that a cut hands out, or why there is none
 abbrev pub IsCutOff : Result (List EntryData) RefusalNumber → Type 0
 IsCutOff found = AfterSome (λ before after. IsCut before found after)
+
+-- the entries up to a number that a roll hands out, or why it hands out none
+abbrev pub IsRolledOff : ℕ → Result (List EntryData) RefusalNumber → Type 0
+IsRolledOff last found = AfterSome (λ before after. IsRolled before last found after)
 
 -- the program that was found judges the outcome, and its verdict is finished; a look that is refused makes no entry
 abbrev pub IsFinished : SeatData → ℕ → ℕ → Outcome → Result VerifiedProgram RefusalNumber → Reply → SeatData → Type 0

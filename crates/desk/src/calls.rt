@@ -6,7 +6,7 @@ ghost use Rattle.service_profile.specs.Answers.{map_ok};
 ghost use Rattle.service_profile.specs.Events.{acquires, releases, installs, moves, resets};
 ghost use Rattle.desk.specs.Desks.{IsServiceOf};
 ghost use Rattle.desk.specs.Seats.{after_call};
-ghost use Rattle.desk.specs.AfterSome.{IsReplied, IsFound, IsShown, IsPageFrom, IsCutOff};
+ghost use Rattle.desk.specs.AfterSome.{IsReplied, IsFound, IsShown, IsPageFrom, IsCutOff, IsRolledOff};
 
 use crate::desks::{Desk, ServiceId};
 use crate::seats::Seat;
@@ -179,5 +179,23 @@ impl<L: Ledger, M: Ledger> Desk<L, M> {
     {
         let mut kept = self.services[service.place()].kept.lock(rt);
         kept.cut()
+    }
+
+    /// Hands out the entries of the journal up to a number. All else of the service goes on as it is, and so
+    /// does what is counted. What is handed out is the caller's to drop, outside the lock.
+    pub fn roll<R: Wait>(
+        &self,
+        rt: &R,
+        seat: &mut Seat<L>,
+        service: ServiceId,
+        _moment: u64,
+        last: u64,
+    ) -> Result<Vec<Entry>, RefusalNumber>
+        requires held { IsServiceOf self.now service }
+        ensures rolled { IsRolledOff last (map_ok (λ entries. entries.items) result) }
+        ensures uncounted { seat.new ≡ seat.old }
+    {
+        let mut kept = self.services[service.place()].kept.lock(rt);
+        kept.roll(last)
     }
 }

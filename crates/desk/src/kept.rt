@@ -6,7 +6,7 @@ ghost use Rattle.service_profile.specs.Answers.{IsApplied, map_ok};
 ghost use Rattle.service_profile.specs.Histories.{past_of, next_line};
 ghost use Rattle.desk.specs.Kept.{IsGood, IsKept, last_number};
 ghost use Rattle.desk.specs.Seats.{seat_of, after_call};
-ghost use Rattle.desk.specs.AfterSome.{IsReplied, IsFound, IsShown, IsPageFrom, IsCutOff};
+ghost use Rattle.desk.specs.AfterSome.{IsReplied, IsFound, IsShown, IsPageFrom, IsCutOff, IsRolledOff};
 
 use crate::seats::Seat;
 use book::{Book, Entry, Event, Reading, Reply};
@@ -149,5 +149,12 @@ impl<M: Ledger> Kept<M> {
         ensures { IsCutOff (map_ok (λ entries. entries.items) result) }
     {
         self.book.cut()
+    }
+
+    /// Hands out the entries up to a number. Their numbers go on.
+    pub(crate) fn roll(&mut self, last: u64) -> Result<Vec<Entry>, RefusalNumber>
+        ensures { IsRolledOff last (map_ok (λ entries. entries.items) result) }
+    {
+        self.book.roll(last)
     }
 }
