@@ -24,6 +24,7 @@ pub data RequestData : Type 0 where
   read : RequestData
   page : ℕ → RequestData
   cut : RequestData
+  roll : ℕ → RequestData
 
 abbrev pub request_data : Request → RequestData
 request_data request.Acquire = acquire
@@ -35,6 +36,7 @@ request_data request.Reset = reset
 request_data request.Read = read
 request_data (request.Page from) = page from
 request_data request.Cut = cut
+request_data (request.Roll last) = roll last
 
 -- what is answered; entries are the lines of a journal
 pub data ResponseData : Type 0 where

@@ -10,11 +10,11 @@ use Rattle.bpf_profile.specs.Programs.{VerifiedProgram}
 use Rattle.verifier.specs.Verifying.{IsVerification, IsRefused, fault_of, out_of_memory}
 use Rattle.service_profile.specs.declared.replies.Reply.{Reply}
 use Rattle.service_profile.specs.declared.replies.Reply.TheVariants as reply
-use Rattle.service_profile.specs.Answers.{IsApplied, IsLooked, IsPage, IsCut, reading}
+use Rattle.service_profile.specs.Answers.{IsApplied, IsLooked, IsPage, IsCut, IsRolled, reading}
 use Rattle.service_profile.specs.Events.{acquires, finishes, releases, installs, moves, resets, EntryData, History}
 use Rattle.service_profile.specs.Histories.{past_of}
 use Rattle.service.specs.declared.request.Report.{Report}
-use Rattle.service.specs.Asked.{RequestData, acquire, report, release, install, move, reset, read, page, cut, ResponseData, replies, refuses_program, shows, entries_of}
+use Rattle.service.specs.Asked.{RequestData, acquire, report, release, install, move, reset, read, page, cut, roll, ResponseData, replies, refuses_program, shows, entries_of}
 
 -- the program that was found judges the outcome, and its verdict is finished; a look that is refused makes no entry
 abbrev pub IsFinished : History → ℕ → ℕ → Report → Result VerifiedProgram RefusalNumber → Reply → History → Type 0
@@ -52,6 +52,10 @@ IsPaged history from given after = (found : Result (List EntryData) RefusalNumbe
 abbrev pub IsCutOff : History → ResponseData → History → Type 0
 IsCutOff history given after = (found : Result (List EntryData) RefusalNumber) × IsCut history found after × (given ≡ entries_of found)
 
+-- a roll is answered with the lines that it hands out, or with its refusal
+abbrev pub IsRolledOff : History → ℕ → ResponseData → History → Type 0
+IsRolledOff history last given after = (found : Result (List EntryData) RefusalNumber) × IsRolled history last found after × (given ≡ entries_of found)
+
 -- what is answered to what a seat asks for at a moment, and the history after it
 abbrev pub IsServed : History → ℕ → ℕ → RequestData → ResponseData → History → Type 0
 IsServed history seat moment acquire (replies r) after = IsApplied history seat moment acquires r after
@@ -63,4 +67,5 @@ IsServed history seat moment reset (replies r) after = IsApplied history seat mo
 IsServed history seat moment read (shows shown) after = (shown ≡ reading (past_of history) moment) × (after ≡ history)
 IsServed history seat moment (page from) given after = IsPaged history from given after
 IsServed history seat moment cut given after = IsCutOff history given after
+IsServed history seat moment (roll last) given after = IsRolledOff history last given after
 IsServed history seat moment other other_answer after = ⊥

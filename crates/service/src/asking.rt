@@ -2,7 +2,7 @@
 ghost use Rattle.std.specs.Prelude.{◌≡◌};
 ghost use Rattle.service_profile.specs.Answers.{map_ok};
 ghost use Rattle.service.specs.Asked.{request_data, response_data, entries_of};
-ghost use Rattle.service.specs.Asking.{IsReported, IsInstalled, IsPaged, IsCutOff, IsServed};
+ghost use Rattle.service.specs.Asking.{IsReported, IsInstalled, IsPaged, IsCutOff, IsRolledOff, IsServed};
 
 use crate::request::{Report, Request};
 use crate::response::Response;
@@ -64,6 +64,13 @@ fn cut(book: &mut Book) -> Response
     entries(book.cut())
 }
 
+/// Hands out the entries up to a number; the book goes on.
+fn roll(book: &mut Book, last: u64) -> Response
+    ensures { IsRolledOff book.old last (response_data result) book.new }
+{
+    entries(book.roll(last))
+}
+
 /// Asks a service at a moment, in milliseconds, for a seat. A report is a look at its ticket, a run of the
 /// ticket's classifier and a finish; a program is verified before it is installed. Whatever is refused for
 /// want of memory changes nothing.
@@ -85,5 +92,6 @@ pub fn ask(alloc: Global, book: &mut Book, seat: u32, moment: u64, request: Requ
         Request::Read => Response::Reading(book.read(moment)),
         Request::Page(from) => page(book, from),
         Request::Cut => cut(book),
+        Request::Roll(last) => roll(book, last),
     }
 }

@@ -32,4 +32,6 @@ pub enum Request {
     Page(u64),
     /// All entries; the book opens anew.
     Cut,
+    /// The entries up to this number; the book goes on.
+    Roll(u64),
 }

@@ -11,6 +11,6 @@ pub enum Response {
     ProgramRefused(Refusal),
     /// How the service stands.
     Reading(Reading),
-    /// The entries of a page, or those that a cut hands out.
+    /// The entries of a page, or those that a cut or a roll hands out.
     Entries(Vec<Entry>),
 }
