@@ -16,7 +16,7 @@ pub enum Answer {
     Reply(Reply),
     /// How the service stands.
     Reading(Reading),
-    /// How many entries a cut handed out.
+    /// How many entries a cut or a roll handed out.
     HandedOut(u64),
     /// Why a program is not installed.
     ProgramRefused(Refusal),

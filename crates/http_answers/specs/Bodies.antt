@@ -9,7 +9,7 @@ use Rattle.texts.specs.JsonText.{json_of}
 use Rattle.requests.specs.Transitions.{state_of}
 use Rattle.requests.specs.Values.{number_at}
 use Rattle.service_profile.specs.Answers.{map_ok}
-use Rattle.service.specs.Asked.{RequestData, acquire, report, release, install, move, reset, read, page, cut}
+use Rattle.service.specs.Asked.{RequestData, acquire, report, release, install, move, reset, read, page, cut, roll}
 use Rattle.http_routes.specs.EntryNumbers.{entry_number}
 use Rattle.http_routes.specs.declared.table.Route.{Route}
 use Rattle.http_routes.specs.declared.table.Route.TheVariants as route
@@ -19,6 +19,7 @@ abbrev pub value_asks : Route → Data → Option RequestData
 value_asks route.Report d = option_map report (report_of d)
 value_asks route.Release d = option_map release (number_at (codes "ticket") d)
 value_asks route.Transition d = option_map move (state_of d)
+value_asks route.Roll d = option_map roll (number_at (codes "to") d)
 value_asks other d = None
 
 -- a body that is no JSON is refused as such, before its values are looked at
@@ -31,7 +32,7 @@ abbrev pub page_asks : Option (List ℕ) → Result RequestData RefusalNumber
 page_asks None = Err refusal.BadValue
 page_asks (Some number) = map_ok page (entry_number number)
 
--- what is asked for, or why nothing is: a report, a release and a transition have a body of JSON, a program is its body, and the other routes ignore theirs
+-- what is asked for, or why nothing is: a report, a release, a transition and a roll have a body of JSON, a program is its body, and the other routes ignore theirs
 abbrev pub body_asks : Route → Option (List ℕ) → List ℕ → Result RequestData RefusalNumber
 body_asks route.Acquire number body = Ok acquire
 body_asks route.Report number body = json_asks route.Report (json_of body)
@@ -39,6 +40,7 @@ body_asks route.Release number body = json_asks route.Release (json_of body)
 body_asks route.Transition number body = json_asks route.Transition (json_of body)
 body_asks route.Reset number body = Ok reset
 body_asks route.Cut number body = Ok cut
+body_asks route.Roll number body = json_asks route.Roll (json_of body)
 body_asks route.Program number body = Ok (install body)
 body_asks route.State number body = Ok read
 body_asks route.Journal number body = page_asks number

@@ -22,6 +22,7 @@ fn value_asks(route: Route, value: &Value) -> Option<Request>
         Route::Report => Some(Request::Report(report(value)?)),
         Route::Release => Some(Request::Release(number_at(value, "ticket")?)),
         Route::Transition => Some(Request::Move(state(value)?)),
+        Route::Roll => Some(Request::Roll(number_at(value, "to")?)),
         _ => None,
     }
 }
@@ -54,8 +55,8 @@ fn page_asks(number: Option<&str>) -> Result<Request, RefusalNumber>
 }
 
 /// What a request asks for, by its route, the number in its path, and its body. A report is an object with
-/// `ticket` and `outcome`, a release one with `ticket`, a transition one with `state`; their other keys are
-/// ignored. A program is bytecode as it is. The other routes ignore the body. The refusals are `BadJson`,
+/// `ticket` and `outcome`, a release one with `ticket`, a transition one with `state`, a roll one with `to`;
+/// their other keys are ignored. A program is bytecode as it is. The other routes ignore the body. The refusals are `BadJson`,
 /// where the body is to be JSON and is none, and then `BadValue`, where a value or the number of an entry
 /// is missing, of the wrong kind or out of range. The outer error is want of memory.
 pub fn body_asks(
@@ -69,7 +70,9 @@ pub fn body_asks(
 {
     match route {
         Route::Acquire => Ok(Ok(Request::Acquire)),
-        Route::Report | Route::Release | Route::Transition => json_asks(alloc, route, body),
+        Route::Report | Route::Release | Route::Transition | Route::Roll => {
+            json_asks(alloc, route, body)
+        }
         Route::Reset => Ok(Ok(Request::Reset)),
         Route::Cut => Ok(Ok(Request::Cut)),
         Route::Program => Ok(Ok(Request::Install(Vec::from_slice(alloc, body)?))),

@@ -34,7 +34,7 @@ abbrev pub page_from : RequestData → Option ℕ
 page_from (page from) = Some from
 page_from other = None
 
--- of the entries that a cut hands out the count is told
+-- of the entries that a cut or a roll hands out the count is told
 abbrev pub told : ResponseData → Answer
 told (replies r) = answer.Reply r
 told (refuses_program refused) = answer.ProgramRefused refused

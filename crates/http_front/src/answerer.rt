@@ -1,6 +1,6 @@
 //! Who answers.
 ghost use Rattle.std.specs.Prelude.{◌≡◌, ℕ, List, Bool, true};
-ghost use Rattle.service.specs.Asked.{RequestData, acquire, report, release, install, move, reset, read, page, cut, ResponseData, response_data};
+ghost use Rattle.service.specs.Asked.{RequestData, acquire, report, release, install, move, reset, read, page, cut, roll, ResponseData, response_data};
 
 use book::State;
 use service::{Report, Response};
@@ -62,4 +62,9 @@ pub trait Answerer {
     fn cut(&mut self, service: &str, moment: u64) -> Response
         requires held { holds self.old service.now ≡ true }
         ensures { answers self.old service.now moment cut (response_data result) self.new };
+
+    /// Hands out the entries of the journal up to this number, which goes on.
+    fn roll(&mut self, service: &str, moment: u64, last: u64) -> Response
+        requires held { holds self.old service.now ≡ true }
+        ensures { answers self.old service.now moment (roll last) (response_data result) self.new };
 }

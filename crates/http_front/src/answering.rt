@@ -36,6 +36,7 @@ pub(crate) fn perform<A: Answerer>(
         Request::Read => answerer.read(service, moment),
         Request::Page(from) => answerer.page(service, moment, from),
         Request::Cut => answerer.cut(service, moment),
+        Request::Roll(last) => answerer.roll(service, moment, last),
     }
 }
 

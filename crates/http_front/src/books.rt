@@ -102,4 +102,8 @@ impl Answerer for Books {
     fn cut(&mut self, service: &str, moment: u64) -> Response {
         self.ask(service, moment, Request::Cut)
     }
+
+    fn roll(&mut self, service: &str, moment: u64, last: u64) -> Response {
+        self.ask(service, moment, Request::Roll(last))
+    }
 }
