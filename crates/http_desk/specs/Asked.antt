@@ -10,9 +10,9 @@ use Rattle.service_profile.specs.declared.replies.Reply.{Reply}
 use Rattle.service_profile.specs.declared.replies.Reply.TheVariants as reply
 use Rattle.service_profile.specs.Events.{EventData, acquires, releases, installs, moves, resets, EntryData}
 use Rattle.service.specs.declared.request.Report.{Report}
-use Rattle.service.specs.Asked.{RequestData, acquire, report, release, install, move, reset, read, page, cut, ResponseData, replies, refuses_program, shows, entries_of}
+use Rattle.service.specs.Asked.{RequestData, acquire, report, release, install, move, reset, read, page, cut, roll, ResponseData, replies, refuses_program, shows, entries_of}
 use Rattle.desk.specs.Seats.{SeatData, after_call}
-use Rattle.desk.specs.AfterSome.{IsReplied, IsReported as IsReportedAtDesk, IsShown, IsPageFrom, IsCutOff}
+use Rattle.desk.specs.AfterSome.{IsReplied, IsReported as IsReportedAtDesk, IsShown, IsPageFrom, IsCutOff, IsRolledOff}
 use Rattle.http_desk.specs.Seated.{SeatedData}
 
 -- so many entries of a seat leave no room for the count to go on
@@ -50,6 +50,7 @@ IsAskedBy seat moment reset (replies r) after = IsMade seat moment resets r afte
 IsAskedBy seat moment read (shows shown) after = IsShown moment shown × (after ≡ seat)
 IsAskedBy seat moment (page from) given after = (found : Result (List EntryData) RefusalNumber) × IsPageFrom from found × (given ≡ entries_of found) × (after ≡ seat)
 IsAskedBy seat moment cut given after = (found : Result (List EntryData) RefusalNumber) × IsCutOff found × (given ≡ entries_of found) × (after ≡ seat)
+IsAskedBy seat moment (roll last) given after = (found : Result (List EntryData) RefusalNumber) × IsRolledOff last found × (given ≡ entries_of found) × (after ≡ seat)
 IsAskedBy seat moment other other_answer after = ⊥
 
 -- the same of the answerer, whose desk has the same services

@@ -183,4 +183,10 @@ impl<'a, L: Ledger, M: Ledger, G: Gate, R: Wait> Answerer for SeatedAnswerer<'a,
         let SeatedAnswerer { rt, desk, seat, .. } = self;
         entries(desk.cut(*rt, seat, service, moment))
     }
+
+    fn roll(&mut self, service: &str, moment: u64, last: u64) -> Response {
+        let service = self.service(service);
+        let SeatedAnswerer { rt, desk, seat, .. } = self;
+        entries(desk.roll(*rt, seat, service, moment, last))
+    }
 }

@@ -12,7 +12,7 @@ use Rattle.texts.specs.JsonText.{json_of}
 use Rattle.requests.specs.Transitions.{state_of}
 use Rattle.requests.specs.Values.{number_at, text_at}
 use Rattle.replay.specs.declared.asking.Asked.{Asked}
-use Rattle.service.specs.Asked.{RequestData, acquire, report, release, install, move, reset, read, cut, request_data}
+use Rattle.service.specs.Asked.{RequestData, acquire, report, release, install, move, reset, read, cut, roll, request_data}
 
 -- what is to be done, and at which moment
 pub record Wish : Type 0 where
@@ -35,7 +35,8 @@ plain_named name d =
     else (if bytes_eq name (codes "reset") then Some reset
     else (if bytes_eq name (codes "read") then Some read
     else (if bytes_eq name (codes "cut") then Some cut
-    else None))))))
+    else (if bytes_eq name (codes "roll") then option_map roll (number_at (codes "to") d)
+    else None)))))))
 
 -- what is asked under a name; an install names a program
 unfoldable pub want_named : List ℕ → Data → Option RequestData

@@ -43,6 +43,7 @@ fn plain_named(name: &str, value: &Value) -> Option<Request>
         "reset" => Some(Request::Reset),
         "read" => Some(Request::Read),
         "cut" => Some(Request::Cut),
+        "roll" => Some(Request::Roll(number_at(value, "to")?)),
         _ => None,
     }
 }
