@@ -214,9 +214,30 @@ fn make_calls(
     Ok(())
 }
 
-/// Prints a page, what a cut hands out, and how the book reads behind it.
+/// What a roll up to a number hands out. Where it is refused for want of memory, nothing has changed.
+fn roll(refusals: &mut Refusals, book: &mut Book, last: u64) -> io::Result<Vec<Entry>> {
+    for _ in 0..TRIES {
+        let before = (book.read(0), book.last_number(), book.entries(0).len());
+        match book.roll(last) {
+            Ok(entries) => return Ok(entries),
+            Err(RefusalNumber::ServiceOutOfMemory) => {
+                refusals.count();
+                if (book.read(0), book.last_number(), book.entries(0).len()) != before {
+                    return Err(wrong());
+                }
+            }
+            Err(_) => return Err(wrong()),
+        }
+    }
+    Err(wrong())
+}
+
+/// Prints a page, what a roll and a cut hand out, and how the book reads behind them.
 fn show_journal(refusals: &mut Refusals, book: &mut Book, out: &mut impl Write) -> io::Result<()> {
     show(page(refusals, book, 3)?.as_slice(), out)?;
+    let rolled = roll(refusals, book, 4)?;
+    writeln!(out, "roll {}", rolled.len())?;
+    show(rolled.as_slice(), out)?;
     let handed_out = cut(refusals, book)?;
     writeln!(out, "cut {}", handed_out.len())?;
     show(handed_out.as_slice(), out)?;

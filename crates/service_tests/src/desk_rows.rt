@@ -30,6 +30,8 @@ enum Step<'a> {
     CutFails(RefusalNumber),
     /// A cut hands out the entries of these calls.
     Cut(&'a [Called]),
+    /// A roll up to a number hands out the entries of these calls.
+    Roll(u64, &'a [Called]),
     /// The number of the last entry.
     LastNumber(u64),
     /// How many entries the calls of the seat have made.
@@ -76,6 +78,7 @@ fn go_through<L: Ledger, M: Ledger, R: Wait + Abort>(
             Step::Stands(moment, reading) => same(rt, read(rt, desk, seat, moment), reading),
             Step::CutFails(number) => cut_fails(rt, desk, seat, number),
             Step::Cut(calls) => cut_has(rt, desk, seat, calls),
+            Step::Roll(last, calls) => roll_has(rt, desk, seat, last, calls),
             Step::LastNumber(number) => same(rt, read(rt, desk, seat, 0).entries, number),
             Step::Counts(count) => same(rt, seat.count(), count),
         }
@@ -156,6 +159,21 @@ fn cut_has<L: Ledger, M: Ledger, R: Wait + Abort>(
 ) {
     let service = desk.find("pay").expect(rt, "a service of the desk");
     let entries = desk.cut(rt, seat, service, 1).expect(rt, "ample memory");
+    are_entries(rt, &entries, seat.number(), calls);
+}
+
+/// Makes a roll up to a number, which hands out the entries of these calls.
+fn roll_has<L: Ledger, M: Ledger, R: Wait + Abort>(
+    rt: &R,
+    desk: &Desk<L, M>,
+    seat: &mut Seat<L>,
+    last: u64,
+    calls: &[Called],
+) {
+    let service = desk.find("pay").expect(rt, "a service of the desk");
+    let entries = desk
+        .roll(rt, seat, service, 1, last)
+        .expect(rt, "ample memory");
     are_entries(rt, &entries, seat.number(), calls);
 }
 
@@ -509,6 +527,37 @@ fn numbers_go_on_over_cuts(rt: HostRuntime) {
             Step::LastNumber(3),
             Step::Call(0, Wish::Report(1, 200), SPENT),
             Step::Counts(3),
+        ],
+    );
+}
+
+/// A journal that is rolled while its ticket is open.
+#[test]
+fn numbers_go_on_over_rolls(rt: HostRuntime) {
+    play(
+        &rt,
+        rt.alloc(),
+        ConfigParts::DEFAULT,
+        &[
+            Step::Call(0, Wish::Acquire, Answer::Permitted(1, 1, State::Closed)),
+            Step::Call(1, Wish::Reset, Answer::Moved(State::Closed, 2)),
+            Step::Roll(
+                1,
+                &[(0, Wish::Acquire, Answer::Permitted(1, 1, State::Closed))],
+            ),
+            Step::Roll(1, &[]),
+            Step::LastNumber(2),
+            Step::Call(0, Wish::Release(1), Answer::Released(State::Closed)),
+            Step::Roll(
+                3,
+                &[
+                    (1, Wish::Reset, Answer::Moved(State::Closed, 2)),
+                    (1, Wish::Release(1), Answer::Released(State::Closed)),
+                ],
+            ),
+            Step::Call(0, Wish::Acquire, Answer::Permitted(2, 1, State::Closed)),
+            Step::LastNumber(4),
+            Step::Counts(4),
         ],
     );
 }

@@ -2,7 +2,7 @@
 //! that the proof of a test stays short.
 use crate::checks::{is_true_at, same_at};
 use crate::wishes::{Answer, Wish, is_entry, program, reply, response, shared_program};
-use book::{Book, Config, ConfigParts, Event, Fate, Reading, Reply, State};
+use book::{Book, Config, ConfigParts, Entry, Event, Fate, Reading, Reply, State};
 use bpf_run::{Verdict, judge};
 use refusals::RefusalNumber;
 use std::alloc::Global;
@@ -19,6 +19,8 @@ pub(crate) enum Step {
     CallFrom(u32, u64, Wish, Answer),
     /// So many calls, each reported as a success: two entries a call.
     Calls(u64),
+    /// Calls with the tickets from one number to another, each reported as a success.
+    CallsFrom(u64, u64),
     /// At a moment, what another program made of a response is reported under this ticket.
     Strange(u64, u64, Answer),
     /// The program that ignores every outcome is installed as each version from 2 to this one.
@@ -35,6 +37,9 @@ pub(crate) enum Step {
     CutFails(RefusalNumber),
     /// A cut hands out so many entries, of which the last one has this number and this moment.
     Cut(usize, u64, u64),
+    /// A roll up to a number hands out so many entries, of which the last one has this number and this
+    /// moment; with none both are 0.
+    Roll(u64, usize, u64, u64),
 }
 
 /// A book of these parts with the default classifier.
@@ -75,7 +80,8 @@ fn take(rt: &impl Abort, alloc: Global, book: &mut Book, step: Step, index: usiz
                 index,
             );
         }
-        Step::Calls(calls) => make_calls(rt, alloc, book, calls),
+        Step::Calls(calls) => make_calls(rt, alloc, book, 1, calls),
+        Step::CallsFrom(first, last) => make_calls(rt, alloc, book, first, last),
         Step::Strange(moment, ticket, answer) => {
             let found = report_of_stranger(rt, alloc, book, moment, ticket);
             same_at(rt, found, reply(answer), index);
@@ -92,11 +98,14 @@ fn take(rt: &impl Abort, alloc: Global, book: &mut Book, step: Step, index: usiz
         Step::Cut(count, number, moment) => {
             same_at(rt, cut(book), Ok((count, number, moment)), index);
         }
+        Step::Roll(last, count, number, moment) => {
+            same_at(rt, roll(book, last), Ok((count, number, moment)), index);
+        }
     }
 }
 
 /// Asks a book.
-fn ask(
+pub(crate) fn ask(
     rt: &impl Abort,
     alloc: Global,
     book: &mut Book,
@@ -173,9 +182,9 @@ fn install(
     apply(book, seat, moment, Event::Install(program))
 }
 
-/// Makes this many calls, each reported as a success.
-fn make_calls(rt: &impl Abort, alloc: Global, book: &mut Book, calls: u64) {
-    for ticket in 1..=calls {
+/// Makes calls with the tickets from one number to another, each reported as a success.
+fn make_calls(rt: &impl Abort, alloc: Global, book: &mut Book, first: u64, last: u64) {
+    for ticket in first..=last {
         let closed = reply(Answer::Permitted(ticket, 1, State::Closed));
         same_at(
             rt,
@@ -204,7 +213,7 @@ fn install_versions(rt: &impl Abort, alloc: Global, book: &mut Book, last: u64) 
     }
 }
 
-fn read(book: &Book, moment: u64) -> Reading {
+pub(crate) fn read(book: &Book, moment: u64) -> Reading {
     book.read(moment)
 }
 
@@ -233,11 +242,20 @@ fn is_last_entry(
     }
 }
 
-/// Makes a cut: how many entries it hands out, and the number and the moment of the last one.
-fn cut(book: &mut Book) -> Result<(usize, u64, u64), RefusalNumber> {
-    let entries = book.cut()?;
-    Ok(match entries.last() {
+/// How many entries there are, and the number and the moment of the last one.
+fn counted(entries: &[Entry]) -> (usize, u64, u64) {
+    match entries.last() {
         Some(last) => (entries.len(), last.number(), last.moment()),
         None => (0, 0, 0),
-    })
+    }
+}
+
+/// Makes a cut: what it hands out.
+fn cut(book: &mut Book) -> Result<(usize, u64, u64), RefusalNumber> {
+    Ok(counted(&book.cut()?))
+}
+
+/// Makes a roll up to a number: what it hands out.
+fn roll(book: &mut Book, last: u64) -> Result<(usize, u64, u64), RefusalNumber> {
+    Ok(counted(&book.roll(last)?))
 }

@@ -25,6 +25,8 @@ mod histories;
 #[cfg(test)]
 mod registries;
 #[cfg(test)]
+mod rolls;
+#[cfg(test)]
 mod seats;
 #[cfg(test)]
 mod sliding_windows;
