@@ -2,6 +2,11 @@
 use Rattle.std.specs.Prelude.{◌≡◌, ℕ, ◌+◌, ◌-◌, ◌^◌, ◌==◌, ◌&&◌, nat_lt, min, Bool, true, List, [], ◌∷◌, ◌++◌, Option, Some, None, Result, Ok, Err, if◌then◌else◌, ⊤}
 use Rattle.std.specs.Io.KnownBytes.{Appends}
 
+-- a reader or a writer, and how many of its calls failed
+pub record CountedData (T : Type 0) : Type 0 where
+  pub inner : T
+  pub failures : ℕ
+
 -- one more failure, up to 2^64 - 1
 abbrev pub one_more : ℕ → ℕ
 one_more failures = min (failures + 1) (2 ^ 64 - 1)

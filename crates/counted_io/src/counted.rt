@@ -6,13 +6,25 @@ ghost use Rattle.counted_io.specs.Counting.{counted, is_failed_write};
 
 use std::io;
 use std::io::{Read, Write};
+use std::marker::Model;
 
 /// A reader or a writer, with how many of its calls failed. The count stops at 2^64 - 1.
+///
+/// Contracts see both. Nobody else reads or writes past the count, or changes it: so where a contract says that it went
+/// up by one, a call really failed.
 #[derive(Drop)]
 pub struct Counted<T> {
-    pub inner: T,
+    inner: T,
     /// How many reads and writes answered an error, or wrote nothing of a piece that isn't empty.
-    pub failures: u64,
+    failures: u64,
+}
+
+impl<T> Model for Counted<T> {
+    ghost use Rattle.counted_io.specs.Counting.{CountedData};
+
+    ghost Value = { CountedData T };
+
+    ghost view = { λ c. record { inner = c.inner; failures = c.failures } };
 }
 
 impl<T> Counted<T> {
@@ -22,6 +34,27 @@ impl<T> Counted<T> {
         ensures failures { result.failures ≡ 0 }
     {
         Counted { inner, failures: 0 }
+    }
+
+    /// The reader or the writer.
+    pub fn inner(&self) -> &T
+        ensures { result.now ≡ self.now.inner }
+    {
+        &self.inner
+    }
+
+    /// How many reads and writes failed.
+    pub fn failures(&self) -> u64
+        ensures { result ≡ self.now.failures }
+    {
+        self.failures
+    }
+
+    /// Gives the reader or the writer back.
+    pub fn into_inner(self) -> T
+        ensures { result ≡ self.inner }
+    {
+        self.inner
     }
 }
 

@@ -2,6 +2,8 @@
 #![tactic(auto)]
 
 mod counted;
+#[cfg(test)]
+mod tests_of_calls;
 mod whole;
 
 pub use counted::Counted;

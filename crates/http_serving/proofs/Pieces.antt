@@ -1,5 +1,5 @@
 -- Bytes that are read behind others.
-use Rattle.std.proofs.Common.{◌≡◌, ℕ, ◌+◌, ◌<◌, ◌≤◌, List, [], ◌++◌, length, take, Option, Some, None, ap, sym, ◌∙◌, append_assoc, arith, inl}
+use Rattle.std.proofs.Common.{◌≡◌, ℕ, ◌+◌, ◌<◌, ◌≤◌, List, [], ◌++◌, length, take, Option, Some, None, Bool, suc, ◌∷◌, Err, refl, ap, sym, ◌∙◌, append_assoc, arith, inl, inr}
 use Rattle.std.proofs.lemmas.Grind.{common_steps}
 use Rattle.std.proofs.lemmas.List.{append-nil, take-append-le}
 use Rattle.std.proofs.Math.Seq.{take-add, take-append_seam, drop-append_seam}
@@ -9,7 +9,11 @@ use Rattle.http_messages.specs.declared.front.Front.TheVariants as front
 use Rattle.http_messages.specs.Fronts.{IsFront}
 use Rattle.http_messages.specs.Heads.{IsPartOfHead}
 use Rattle.http_messages.specs.Messages.{IsPartOfMessage}
-use Rattle.http_serving.specs.Reading.{ReadsMore}
+use Rattle.counted_io.specs.Counting.{one_more}
+use Rattle.http_serving.specs.declared.ended.Ended.{Ended}
+use Rattle.http_serving.specs.declared.ended.Ended.TheVariants as ended
+use Rattle.http_serving.specs.Reading.{ReadsMore, IsReadCause, IsReadEnd}
+use Rattle.http_serving.specs.Serving.{IsUnfinished}
 
 take_past : (xs ys : List ℕ) (n : ℕ) → take (length xs + n) (xs ++ ys) ≡ xs ++ take n ys
 take_past xs ys n = rw (take-add (length xs) n (xs ++ ys), take-append_seam xs ys, drop-append_seam xs ys)
@@ -54,6 +58,24 @@ reads_more a b c x y z (more, taken, is) (again, taken_again, is_again) = (
   consumes_more a b c more again taken taken_again,
   is_again ∙ ap (λ w. w ++ again) is ∙ append_assoc x more again,
 )
+
+-- a part of a head, or nothing
+unfinished_head : (seen unread new : List ℕ) (found : Front) → seen ≡ unread → IsFront seen found → found ≡ front.Part → new ≡ unread → IsUnfinished new
+unfinished_head seen unread [] found same is part stays = inl refl
+unfinished_head seen unread (byte ∷ later) found same is part stays =
+    let cut : IsPartOfHead seen = rw part at is in
+    let here : IsPartOfHead (byte ∷ later) = rw (same ∙ sym stays) at cut in
+    inr (λ none. (let e : suc (length later) ≡ 0 = ap length none in omega (arith, e)), inl here)
+
+-- no more could be read behind it
+pub stopped_in_head : (end : Ended) (seen unread new : List ℕ) (found : Front) (left : Option (List ℕ)) (first before after : ℕ) → seen ≡ unread → IsFront seen found → found ≡ front.Part → new ≡ unread → before ≡ first
+    → IsReadCause {X = Bool} (Err end) before after → IsReadEnd end new left first after
+stopped_in_head ended.ReadFailed seen unread new found left first before after same is part stays quiet cause = (unfinished_head seen unread new found same is part stays, cause ∙ ap one_more quiet)
+stopped_in_head ended.OutOfMemory seen unread new found left first before after same is part stays quiet cause = cause ∙ quiet
+stopped_in_head ended.Closed seen unread new found left first before after same is part stays quiet cause = absurd cause
+stopped_in_head ended.Truncated seen unread new found left first before after same is part stays quiet cause = absurd cause
+stopped_in_head ended.Finished seen unread new found left first before after same is part stays quiet cause = absurd cause
+stopped_in_head ended.WriteFailed seen unread new found left first before after same is part stays quiet cause = absurd cause
 
 -- the input ended within a head
 pub cut_in_head : (seen unread new : List ℕ) (found : Front) → seen ≡ unread → IsFront seen found → found ≡ front.Part → new ≡ unread → 0 < length new → IsPartOfMessage new

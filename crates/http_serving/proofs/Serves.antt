@@ -79,7 +79,7 @@ module _ {S C : Type 0} (refusal : Fault → List ℕ) (responds : S → ℕ →
       → IsUnderway refusal responds ticks had has unread s c t d w v → IsReadEnd end unread has before after → Ends end had has s c t d w v
   stops ended.Closed had has unread s c t d w v before after (bytes, messages, text, taken, are, answered, sent) is = (bytes, taken, (messages, text, (unread, are, is.0), answered, sent))
   stops ended.Truncated had has unread s c t d w v before after (bytes, messages, text, taken, are, answered, sent) is = (bytes, taken, (messages, text, (unread, are, is.0), answered, sent))
-  stops ended.ReadFailed had has unread s c t d w v before after (bytes, messages, text, taken, are, answered, sent) is = (bytes, taken, (messages, unread, text, are, answered, sent))
+  stops ended.ReadFailed had has unread s c t d w v before after (bytes, messages, text, taken, are, answered, sent) is = (bytes, taken, (messages, unread, text, are, is.0, answered, sent))
   stops ended.OutOfMemory had has unread s c t d w v before after (bytes, messages, text, taken, are, answered, sent) is = (bytes, taken, (messages, unread, text, t, d, are, answered, sent, inl (refl, refl)))
   stops ended.Finished had has unread s c t d w v before after h is = absurd is
   stops ended.WriteFailed had has unread s c t d w v before after h is = absurd is

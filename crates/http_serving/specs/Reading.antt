@@ -6,6 +6,7 @@ use Rattle.counted_io.specs.Counting.{one_more}
 use Rattle.http_messages.specs.declared.front.Head.{Head}
 use Rattle.http_messages.specs.Fronts.{IsHeadAt}
 use Rattle.http_messages.specs.Messages.{Message, HasFault, IsPartOfMessage}
+use Rattle.http_serving.specs.Serving.{IsUnfinished}
 use Rattle.http_serving.specs.declared.ended.Ended.{Ended}
 use Rattle.http_serving.specs.declared.ended.Ended.TheVariants as ended
 use Rattle.http_serving.specs.declared.input.Found.{Found}
@@ -42,7 +43,7 @@ IsFound bytes (found.Refused fault) = HasFault bytes fault
 abbrev pub IsReadEnd : Ended → List ℕ → Option (List ℕ) → ℕ → ℕ → Type 0
 IsReadEnd ended.Closed unread left before after = (unread ≡ []) × IsAtEnd left × (after ≡ before)
 IsReadEnd ended.Truncated unread left before after = IsPartOfMessage unread × IsAtEnd left × (after ≡ before)
-IsReadEnd ended.ReadFailed unread left before after = after ≡ one_more before
+IsReadEnd ended.ReadFailed unread left before after = IsUnfinished unread × (after ≡ one_more before)
 IsReadEnd ended.OutOfMemory unread left before after = after ≡ before
 IsReadEnd other unread left before after = ⊥
 

@@ -3,10 +3,14 @@ use Rattle.std.specs.Prelude.{◌≡◌, ◌⊎◌, ℕ, List, [], ◌∷◌, �
 use Rattle.std.specs.Io.KnownBytes.{Appends, Consumes}
 use Rattle.counted_io.specs.Counting.{AppendsPart}
 use Rattle.http_messages.specs.declared.front.Fault.{Fault}
-use Rattle.http_messages.specs.Messages.{Message, BeginsWith, AreMessages, IsInput, Ending, closed, truncated, refused, final}
+use Rattle.http_messages.specs.Messages.{Message, BeginsWith, AreMessages, IsInput, IsPartOfMessage, Ending, closed, truncated, refused, final}
 use Rattle.http_serving.specs.declared.ended.Ended.{Ended}
 use Rattle.http_serving.specs.declared.ended.Ended.TheVariants as ended
 use Rattle.http_serving.specs.Requests.{RequestData, request_of}
+
+-- no whole message stands in the bytes, nor one that is refused: nothing, or a part of a message
+abbrev pub IsUnfinished : List ℕ → Type 0
+IsUnfinished bytes = (bytes ≡ []) ⊎ IsPartOfMessage bytes
 
 -- refusal is the text of the answer to a message that is refused; responds relates a state, a moment and a request to the text of the answer and the state after it; ticks relates a clock's state to the moment that it reads and the state after it
 module _ {S C : Type 0} (refusal : Fault → List ℕ) (responds : S → ℕ → RequestData → List ℕ → S → Type 0) (ticks : C → ℕ → C → Type 0) where
@@ -40,11 +44,11 @@ module _ {S C : Type 0} (refusal : Fault → List ℕ) (responds : S → ℕ →
       (messages : List Message) × (ending : Ending) × (text : List ℕ)
       × IsInput bytes messages ending × AreAnsweredToEnd state clock messages ending text after later × Appends before written text
 
-  -- each whole message was answered, and nothing was done for the bytes behind them
+  -- each whole message was answered, and nothing was done for the bytes behind them, which are no whole message
   abbrev pub IsInterrupted : List ℕ → S → C → S → C → Option (List ℕ) → Option (List ℕ) → Type 0
   IsInterrupted bytes state clock after later before written =
       (messages : List Message) × (rest : List ℕ) × (text : List ℕ)
-      × AreMessages bytes messages rest × AreAnswered state clock messages text after later × Appends before written text
+      × AreMessages bytes messages rest × IsUnfinished rest × AreAnswered state clock messages text after later × Appends before written text
 
   -- the answers of some first messages, or of all up to one behind which nothing is read
   abbrev pub IsText : List ℕ → S → C → List ℕ → S → C → Type 0

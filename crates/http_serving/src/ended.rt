@@ -5,12 +5,12 @@
 pub enum Ended {
     /// The input ended between messages.
     Closed,
-    /// Nothing is read behind the last message: it was refused, is one of HTTP/1.0, or asked for the end
-    /// of the connection.
+    /// No further message is answered behind the last one: it was refused, is one of HTTP/1.0, or asked for the end
+    /// of the connection. Bytes that were read behind it are dropped.
     Finished,
     /// The input ended within a message: nothing is answered or done for it.
     Truncated,
-    /// A read failed. One that was interrupted failed too.
+    /// A read failed, where no whole message was there. One that was interrupted failed too.
     ReadFailed,
     /// A write failed, or took nothing. One that was interrupted failed too.
     WriteFailed,

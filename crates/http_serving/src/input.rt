@@ -1,5 +1,5 @@
 //! Messages from a reader. What is read behind a message stays for the next one.
-ghost use Rattle.std.specs.Prelude.{◌≡◌, ◌≢◌, ◌≤◌, ◌<◌, Ok, Err, IfOk, IfErr, OnOk, true, false, drop, length};
+ghost use Rattle.std.specs.Prelude.{◌≡◌, ◌≢◌, ◌≤◌, ◌<◌, Ok, Err, IfOk, IfErr, OnOk, OnErr, true, false, drop, length};
 ghost use Rattle.std.specs.Io.KnownBytes.{IsAtEnd};
 ghost use Rattle.http_serving.specs.Reading.{ReadsMore, IsReadCause, IsBodyCause, IsReadEnd, IsNext};
 ghost use Rattle.http_messages.specs.Fronts.{IsFront};
@@ -26,6 +26,7 @@ fn fill<R: Read>(reader: &mut Counted<R>, unread: &mut Vec<u8>) -> Result<bool, 
     ensures read { ReadsMore (R.remaining reader.old.inner) (R.remaining reader.new.inner) unread.old.items unread.new.items }
     ensures more { result ≡ Ok true → length unread.old.items < length unread.new.items }
     ensures end { result ≡ Ok false → (unread.new.items ≡ unread.old.items) × IsAtEnd (R.remaining reader.new.inner) }
+    ensures kept { OnErr result (unread.new.items ≡ unread.old.items) }
     ensures cause { IsReadCause result reader.old.failures reader.new.failures }
 {
     let count = unread.len();
@@ -67,7 +68,11 @@ fn next_head<R: Read>(
             Front::Part => {}
             front => return Ok(front),
         }
-        if !fill(reader, unread)? {
+        let is_more = match fill(reader, unread) {
+            Ok(is_more) => is_more,
+            Err(ended) => return Err(ended),
+        };
+        if !is_more {
             return Err(if unread.is_empty() {
                 Ended::Closed
             } else {
@@ -81,7 +86,8 @@ fn next_head<R: Read>(
 fn fill_to<R: Read>(reader: &mut Counted<R>, unread: &mut Vec<u8>, size: usize) -> Result<(), Ended>
     ensures read { ReadsMore (R.remaining reader.old.inner) (R.remaining reader.new.inner) unread.old.items unread.new.items }
     ensures enough { OnOk result (size ≤ length unread.new.items) }
-    ensures truncated { result ≡ Err Ended.Truncated → (length unread.new.items < size) × IsAtEnd (R.remaining reader.new.inner) }
+    ensures truncated { result ≡ Err Ended.Truncated → IsAtEnd (R.remaining reader.new.inner) }
+    ensures fewer { OnErr result (length unread.new.items < size) }
     ensures cause { IsBodyCause result reader.old.failures reader.new.failures }
 {
     'reading: while unread.len() < size {

@@ -1,0 +1,180 @@
+//! What passes through a counted reader or writer, and which calls count. Most of it is proved; what isn't: that large
+//! texts are written whole, that a failed call leaves the reader or the writer as it can go on, and that the error is
+//! the one that was met.
+use crate::Counted;
+use std::alloc::Global;
+use std::fmt::Debug;
+use std::io;
+use std::io::{ErrorKind, Read, Write};
+use std::process::Abort;
+use std::test::Fail;
+
+/// Stops the test where two values differ. It promises nothing, so that the proof of a test stays short.
+fn same<R: Abort, T: Debug + PartialEq + Drop>(rt: &R, found: T, wanted: T) {
+    assert_eq!(rt; found, wanted);
+}
+
+/// Fails at one call, and goes on behind it. It gives or takes at most three bytes a call.
+#[derive(Drop)]
+struct FailsOnce<T> {
+    inner: T,
+    calls_before: u64,
+    kind: ErrorKind,
+}
+
+impl<T> FailsOnce<T> {
+    /// Counts a call, and answers the error where it is the one that fails.
+    fn count(&mut self) -> io::Result<()> {
+        let is_failing = self.calls_before == 0;
+        self.calls_before = self.calls_before.wrapping_sub(1);
+        if is_failing {
+            Err(io::Error::from(self.kind))
+        } else {
+            Ok(())
+        }
+    }
+}
+
+impl<R: Read> Read for FailsOnce<R> {
+    fn read(&mut self, buf: &mut [u8]) -> io::Result<usize> {
+        self.count()?;
+        let count = buf.len().min(3);
+        self.inner.read(&mut buf[..count])
+    }
+}
+
+impl<W: Write> Write for FailsOnce<W> {
+    fn write(&mut self, buf: &[u8]) -> io::Result<usize> {
+        self.count()?;
+        self.inner.write(&buf[..buf.len().min(3)])
+    }
+
+    fn flush(&mut self) -> io::Result<()> {
+        self.inner.flush()
+    }
+}
+
+/// Each value of a byte, one after another, over and over.
+fn bytes(alloc: Global, count: usize) -> Result<Vec<u8>, Fail> {
+    let mut bytes = Vec::with_capacity(alloc, count)?;
+    for number in 0..count {
+        bytes.push((number % 256) as u8)?;
+    }
+    Ok(bytes)
+}
+
+/// The kinds of errors that are told apart.
+const KINDS: &[ErrorKind] = &[
+    ErrorKind::Interrupted,
+    ErrorKind::WouldBlock,
+    ErrorKind::TimedOut,
+    ErrorKind::ConnectionReset,
+    ErrorKind::BrokenPipe,
+    ErrorKind::StorageFull,
+    ErrorKind::OutOfMemory,
+];
+
+#[test]
+fn bytes_pass_through(rt: HostRuntime) -> Result<(), Fail> {
+    let mut reader = Counted::new(b"ab".as_slice());
+    let mut piece = [0; 4];
+    same(&rt, reader.next_byte()?, Some(b'a'));
+    same(&rt, reader.read(&mut piece)?, 1);
+    same(&rt, reader.next_byte()?, None);
+    same(&rt, reader.failures(), 0);
+    let mut writer = Counted::new(Vec::new(rt.alloc()));
+    writer.send(b"abc")?;
+    same(&rt, writer.write(b"")?, 0);
+    writer.flush()?;
+    same(&rt, writer.failures(), 0);
+    same(&rt, writer.inner().as_slice(), b"abc".as_slice());
+    Ok(())
+}
+
+#[test]
+fn calls_that_take_nothing_are_counted(rt: HostRuntime) {
+    let mut room = [0; 2];
+    let mut writer = Counted::new(room.as_mut_slice());
+    same(&rt, writer.send(b"abc").is_err(), true);
+    same(&rt, writer.failures(), 1);
+    same(&rt, writer.write(b"c").is_ok(), true);
+    same(&rt, writer.failures(), 2);
+}
+
+#[test]
+fn each_byte_is_read(rt: HostRuntime) -> Result<(), Fail> {
+    let bytes = bytes(rt.alloc(), 256)?;
+    let mut reader = Counted::new(bytes.as_slice());
+    for byte in &bytes {
+        same(&rt, reader.next_byte()?, Some(*byte));
+    }
+    same(&rt, reader.next_byte()?, None);
+    same(&rt, reader.failures(), 0);
+    Ok(())
+}
+
+#[test]
+fn large_texts_are_written_whole(rt: HostRuntime) -> Result<(), Fail> {
+    let bytes = bytes(rt.alloc(), 1 << 20)?;
+    let mut writer = Counted::new(FailsOnce {
+        inner: Vec::new(rt.alloc()),
+        calls_before: u64::MAX,
+        kind: ErrorKind::Other,
+    });
+    writer.send(&bytes)?;
+    same(&rt, writer.failures(), 0);
+    let written = writer.into_inner().inner;
+    same(&rt, written.len(), 1 << 20);
+    same(&rt, written.as_slice() == bytes.as_slice(), true);
+    Ok(())
+}
+
+/// The kind of the error that was met.
+fn kind_of<T: Drop>(outcome: io::Result<T>) -> Option<ErrorKind> {
+    match outcome {
+        Ok(_) => None,
+        Err(error) => Some(error.kind()),
+    }
+}
+
+/// A read that fails in mid-stream is the error, counts, and leaves the bytes behind it.
+fn a_read_fails(rt: &impl Abort, kind: ErrorKind) -> io::Result<()> {
+    let mut reader = Counted::new(FailsOnce {
+        inner: b"ab".as_slice(),
+        calls_before: 1,
+        kind,
+    });
+    same(rt, reader.next_byte()?, Some(b'a'));
+    same(rt, kind_of(reader.next_byte()), Some(kind));
+    same(rt, reader.failures(), 1);
+    same(rt, reader.next_byte()?, Some(b'b'));
+    same(rt, reader.next_byte()?, None);
+    same(rt, reader.failures(), 1);
+    Ok(())
+}
+
+/// A write that fails in mid-stream is the error, counts, and leaves what was written before it; what is sent behind
+/// it goes on there.
+fn a_write_fails(rt: &impl Abort, alloc: Global, kind: ErrorKind) -> io::Result<()> {
+    let mut writer = Counted::new(FailsOnce {
+        inner: Vec::new(alloc),
+        calls_before: 1,
+        kind,
+    });
+    same(rt, kind_of(writer.send(b"abcdef")), Some(kind));
+    same(rt, writer.failures(), 1);
+    same(rt, writer.inner().inner.as_slice(), b"abc".as_slice());
+    writer.send(b"gh")?;
+    same(rt, writer.failures(), 1);
+    same(rt, writer.inner().inner.as_slice(), b"abcgh".as_slice());
+    Ok(())
+}
+
+#[test]
+fn each_kind_of_error_is_passed_on(rt: HostRuntime) -> Result<(), Fail> {
+    for kind in KINDS {
+        a_read_fails(&rt, *kind)?;
+        a_write_fails(&rt, rt.alloc(), *kind)?;
+    }
+    Ok(())
+}
