@@ -32,12 +32,11 @@ IsReported history seat moment reported r after =
 abbrev pub IsProgramRefused : History → List ℕ → Refusal → History → Type 0
 IsProgramRefused history bytes refused after = ((refused ≡ out_of_memory) ⊎ IsRefused bytes (fault_of refused)) × (after ≡ history)
 
--- the program that the bytes spell is installed, which flow and analysis accept, and which is safe; or there is no memory to own it, and nothing changed
+-- the bytes spell a program, which flow and analysis accept, and which is safe. It is installed; or there is no memory to own it, and nothing changed
 abbrev pub IsProgramTaken : History → ℕ → ℕ → List ℕ → Reply → History → Type 0
 IsProgramTaken history seat moment bytes r after =
-    ((r ≡ reply.Refused refusal.ServiceOutOfMemory) × (after ≡ history))
-    ⊎ ((program : VerifiedProgram) × IsVerification bytes program × IsSafe context_size program.slots program.budget
-    × IsApplied history seat moment (installs program) r after)
+    (program : VerifiedProgram) × IsVerification bytes program × IsSafe context_size program.slots program.budget
+    × (IsApplied history seat moment (installs program) r after ⊎ ((r ≡ reply.Refused refusal.ServiceOutOfMemory) × (after ≡ history)))
 
 abbrev pub IsInstalled : History → ℕ → ℕ → List ℕ → ResponseData → History → Type 0
 IsInstalled history seat moment bytes (refuses_program refused) after = IsProgramRefused history bytes refused after
