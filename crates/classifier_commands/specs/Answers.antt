@@ -23,6 +23,10 @@ abbrev pub IsAdmitted : List ℕ → List Slot → ℕ → Type 0
 IsAdmitted text slots budget =
     (bytes : List ℕ) × (hex_of text ≡ Some bytes) × IsVerification bytes (record { slots = slots; budget = budget }) × IsSafe context_size slots budget
 
+-- the text is hexadecimal of a program that is accepted
+abbrev pub IsAccepted : List ℕ → Type 0
+IsAccepted text = (slots : List Slot) × (budget : ℕ) × IsAdmitted text slots budget
+
 -- why the text is no program that is accepted: memory ran out, it is no hexadecimal, or its bytes are refused for their first fault
 abbrev pub IsTextRefused : List ℕ → Fault → Type 0
 IsTextRefused text fault =

@@ -1,5 +1,5 @@
 -- What the program's words ask for of a classifier, and how that ends.
-use Rattle.std.specs.Prelude.{◌≡◌, ◌⊎◌, ℕ, List, [], ◌∷◌, ◌++◌, length, slice_index_or, codes, Option}
+use Rattle.std.specs.Prelude.{◌≡◌, ◌⊎◌, ℕ, List, [], ◌∷◌, ◌++◌, length, slice_index_or, codes, Option, ⊤}
 use Rattle.std.specs.Borrow.{Bor}
 use Rattle.std.specs.Io.KnownBytes.{Appends}
 use Rattle.classifier_commands.specs.declared.answer.Answer.{Answer}
@@ -11,7 +11,7 @@ use Rattle.classifier_commands.specs.declared.commands.Request.{Request}
 use Rattle.classifier_commands.specs.declared.commands.Request.TheVariants as request
 use Rattle.classifier_commands.specs.declared.commands.Status.{Status}
 use Rattle.classifier_commands.specs.declared.commands.Status.TheVariants as status
-use Rattle.classifier_commands.specs.Answers.{IsAllOf, IsVerifyAnswer, IsJudgeAnswer}
+use Rattle.classifier_commands.specs.Answers.{IsAllOf, IsAccepted, IsVerifyAnswer, IsJudgeAnswer}
 use Rattle.classifier_commands.specs.Assembling.{IsAssembled, IsAssemblyRefused, IsDisassembled, IsDisassemblyRefused}
 use Rattle.classifier_commands.specs.Text.{answer_text}
 
@@ -40,6 +40,17 @@ IsRequest words (request.Judge program) = Names words (codes "judge") × (progra
 IsRequest words (request.Verify program) = Names words (codes "verify") × (program.now ≡ word words 1)
 IsRequest words request.Assemble = NamesAlone words (codes "asm")
 IsRequest words (request.Disassemble program) = Names words (codes "dis") × (program.now ≡ word words 1)
+
+-- input is asked for: by `judge` with a program that is accepted, and by `asm`
+abbrev pub AsksForInput : Words → Type 0
+AsksForInput words = (Names words (codes "judge") × IsAccepted (word words 1)) ⊎ NamesAlone words (codes "asm")
+
+-- the request asks for input
+abbrev pub WantsInput : Request → Type 0
+WantsInput (request.Judge program) = IsAccepted program.now
+WantsInput (request.Verify program) = ⊥
+WantsInput request.Assemble = ⊤
+WantsInput (request.Disassemble program) = ⊥
 
 -- the line that wrong words are answered with
 abbrev pub usage : List ℕ

@@ -1,9 +1,10 @@
 //! The commands that the program's words name.
-ghost use Rattle.std.specs.Prelude.{◌≡◌, IsNone, IfOk, IfSome};
+ghost use Rattle.std.specs.Prelude.{◌≡◌, IsNone, IfOk, IfErr, IfSome};
 ghost use Rattle.std.specs.Io.KnownBytes.{Appends};
 ghost use Rattle.classifier_commands.specs.Causes.{IsCause, IsWriteCause};
-ghost use Rattle.classifier_commands.specs.Commands.{NamesNone, IsRequest, IsDone, HasJudged, HasAssembled, HasDisassembled, usage, code_of, status_of_error, IsSettled, HasAnswered};
-ghost use Rattle.classifier_commands.specs.Endings.{IsUsageShown, IsEnded};
+ghost use Rattle.classifier_commands.specs.Answers.{IsAccepted};
+ghost use Rattle.classifier_commands.specs.Commands.{NamesNone, AsksForInput, WantsInput, IsRequest, IsDone, HasJudged, HasAssembled, HasDisassembled, usage, code_of, status_of_error, IsSettled, HasAnswered};
+ghost use Rattle.classifier_commands.specs.Endings.{IsUsageShown, IsEnded, IsUnanswered, IsInPart, IsAnsweredInPart, IsCut};
 
 use crate::answer::Answer;
 use crate::assembling::{assembled, disassembled};
@@ -52,6 +53,8 @@ impl<'a> Request<'a> {
     ) -> Result<Status, CommandError>
         ensures done { IfOk result (λ status. IsDone self.now (R.remaining reader.old.inner) status (O.contents out.old.inner) (O.contents out.new.inner)) }
         ensures settled { IfOk result IsSettled }
+        ensures part { IfErr result (λ error. IsCut error out.old out.new (IsInPart (IsDone self.now (R.remaining reader.old.inner)) (O.contents out.old.inner) (O.contents out.new.inner))) }
+        ensures unread { (WantsInput self.now → ⊥) → reader.new ≡ reader.old }
         ensures cause { IsCause result reader.old.failures reader.new.failures out.old.failures out.new.failures }
     {
         match self {
@@ -137,6 +140,8 @@ fn judge_outcome<R: Read, O: Write>(
 ) -> Result<Status, CommandError>
     ensures judged { IfOk result (λ status. HasJudged program.now (R.remaining reader.old.inner) status (O.contents out.old.inner) (O.contents out.new.inner)) }
     ensures settled { IfOk result IsSettled }
+    ensures part { IfErr result (λ error. IsCut error out.old out.new (IsInPart (HasJudged program.now (R.remaining reader.old.inner)) (O.contents out.old.inner) (O.contents out.new.inner))) }
+    ensures unread { (IsAccepted program.now → ⊥) → reader.new ≡ reader.old }
     ensures cause { IsCause result reader.old.failures reader.new.failures out.old.failures out.new.failures }
 {
     let answer = judge(alloc, program, reader)?;
@@ -151,6 +156,7 @@ fn assemble_text<R: Read, O: Write>(
 ) -> Result<Status, CommandError>
     ensures assembled { IfOk result (λ status. HasAssembled (R.remaining reader.old.inner) status (O.contents out.old.inner) (O.contents out.new.inner)) }
     ensures settled { IfOk result IsSettled }
+    ensures part { IfErr result (λ error. IsCut error out.old out.new (IsInPart (HasAssembled (R.remaining reader.old.inner)) (O.contents out.old.inner) (O.contents out.new.inner))) }
     ensures cause { IsCause result reader.old.failures reader.new.failures out.old.failures out.new.failures }
 {
     let text = read_all(alloc, reader)?;
@@ -168,6 +174,7 @@ fn disassemble_program<O: Write>(
 ) -> Result<Status, CommandError>
     ensures disassembled { IfOk result (λ status. HasDisassembled program.now status (O.contents out.old.inner) (O.contents out.new.inner)) }
     ensures settled { IfOk result IsSettled }
+    ensures part { IfErr result (λ error. IsCut error out.old out.new (IsInPart (HasDisassembled program.now) (O.contents out.old.inner) (O.contents out.new.inner))) }
     ensures cause { IsWriteCause result out.old.failures out.new.failures }
 {
     match disassembled(alloc, program) {
@@ -205,6 +212,13 @@ pub fn command<R: Read, O: Write, E: Write>(
     ensures refused { result ≡ Status.Refused → HasAnswered words.now (R.remaining reader.old.inner) Status.Refused (O.contents out.old.inner) (O.contents out.new.inner) }
     // With wrong arguments the words name no command, and the usage was printed.
     ensures wrong { result ≡ Status.WrongArguments → NamesNone words.now × Appends (E.contents err.old.inner) (E.contents err.new.inner) usage }
+    ensures unnamed { result ≡ Status.UsageFailed → NamesNone words.now }
+    // Where a read fails or memory runs out, nothing is written on `out`; where a write fails, a beginning of an answer
+    // to the words.
+    ensures unanswered { IsUnanswered result → out.new ≡ out.old }
+    ensures part { result ≡ Status.WriteFailed → IsAnsweredInPart words.now (R.remaining reader.old.inner) (O.contents out.old.inner) (O.contents out.new.inner) }
+    // No input is taken but by `asm`, and by `judge` with a program that is accepted.
+    ensures unread { (AsksForInput words.now → ⊥) → reader.new ≡ reader.old }
     // Words that name no command print nothing on `out`, and the usage on `err`, or a beginning of it where a write failed.
     ensures silent { NamesNone words.now → out.new ≡ out.old }
     ensures usage { NamesNone words.now → IsUsageShown result (E.contents err.old.inner) (E.contents err.new.inner) err.old.failures err.new.failures }

@@ -2,7 +2,7 @@
 ghost use Rattle.std.specs.Prelude.{◌≡◌, Some, None, IfOk, IfErr};
 ghost use Rattle.helpers.specs.Json.{outcome_of};
 ghost use Rattle.serde_json.specs.View.{view};
-ghost use Rattle.classifier_commands.specs.Answers.{IsAdmitted, IsTextRefused, IsOutcomeRead, IsOutcomeRefused, IsVerifyAnswer, IsJudgement, IsReadJudgement, IsJudgeAnswer};
+ghost use Rattle.classifier_commands.specs.Answers.{IsAdmitted, IsAccepted, IsTextRefused, IsOutcomeRead, IsOutcomeRefused, IsVerifyAnswer, IsJudgement, IsReadJudgement, IsJudgeAnswer};
 ghost use Rattle.classifier_commands.specs.Causes.{IsReadCause};
 
 use crate::answer::{Answer, Fault};
@@ -103,6 +103,7 @@ pub(crate) fn judge<R: Read>(
     reader: &mut Counted<R>,
 ) -> Result<Answer, CommandError>
     ensures judged { IfOk result (λ answer. IsJudgeAnswer text.now (R.remaining reader.old.inner) answer) }
+    ensures unread { (IsAccepted text.now → ⊥) → reader.new ≡ reader.old }
     ensures cause { IsReadCause result reader.old.failures reader.new.failures }
 {
     match admitted(alloc, text) {

@@ -1,8 +1,10 @@
 //! What the commands print.
-ghost use Rattle.std.specs.Prelude.{◌≡◌, ◌++◌, [], ◌∷◌, IfOk, string_bytes};
+ghost use Rattle.std.specs.Prelude.{◌≡◌, ◌++◌, [], ◌∷◌, IfOk, IfErr, string_bytes};
 ghost use Rattle.std.specs.Io.KnownBytes.{Appends};
+ghost use Rattle.counted_io.specs.Counting.{AppendsPart};
 ghost use Rattle.classifier_commands.specs.Causes.{IsWriteCause};
 ghost use Rattle.classifier_commands.specs.Commands.{IsPrinted, IsSettled};
+ghost use Rattle.classifier_commands.specs.Endings.{IsCut};
 ghost use Rattle.classifier_commands.specs.Text.{answer_text};
 
 use crate::answer::Answer;
@@ -15,6 +17,7 @@ use std::io::Write;
 /// Writes a text.
 fn send<O: Write>(text: &str, out: &mut Counted<O>) -> Result<(), CommandError>
     ensures sent { IfOk result (λ done. Appends (O.contents out.old.inner) (O.contents out.new.inner) text.now) }
+    ensures part { IfErr result (λ error. IsCut error out.old out.new (AppendsPart (O.contents out.old.inner) (O.contents out.new.inner) text.now)) }
     ensures cause { IsWriteCause result out.old.failures out.new.failures }
 {
     match out.send(text.as_bytes()) {
@@ -47,6 +50,8 @@ pub fn print<O: Write>(
     // The line of the answer was printed, and the status is the answer's.
     ensures printed { IfOk result (λ status. IsPrinted answer status (O.contents out.old.inner) (O.contents out.new.inner)) }
     ensures settled { IfOk result IsSettled }
+    // A failed write leaves a beginning of the line, and want of memory nothing.
+    ensures part { IfErr result (λ error. IsCut error out.old out.new (AppendsPart (O.contents out.old.inner) (O.contents out.new.inner) (answer_text answer ++ 10 ∷ []))) }
     // A failed write is answered where that count went up by one, and in no other case.
     ensures cause { IsWriteCause result out.old.failures out.new.failures }
 {
@@ -62,6 +67,7 @@ pub(crate) fn print_line<O: Write>(
     out: &mut Counted<O>,
 ) -> Result<Status, CommandError>
     ensures printed { IfOk result (λ status. (status ≡ Status.Done) × Appends (O.contents out.old.inner) (O.contents out.new.inner) (text.now ++ 10 ∷ [])) }
+    ensures part { IfErr result (λ error. IsCut error out.old out.new (AppendsPart (O.contents out.old.inner) (O.contents out.new.inner) (text.now ++ 10 ∷ []))) }
     ensures cause { IsWriteCause result out.old.failures out.new.failures }
 {
     let line = with_end(alloc, text)?;
@@ -75,6 +81,7 @@ pub(crate) fn print_lines<O: Write>(
     out: &mut Counted<O>,
 ) -> Result<Status, CommandError>
     ensures printed { IfOk result (λ status. (status ≡ Status.Done) × Appends (O.contents out.old.inner) (O.contents out.new.inner) text.now) }
+    ensures part { IfErr result (λ error. IsCut error out.old out.new (AppendsPart (O.contents out.old.inner) (O.contents out.new.inner) text.now)) }
     ensures cause { IsWriteCause result out.old.failures out.new.failures }
 {
     send(text, out)?;

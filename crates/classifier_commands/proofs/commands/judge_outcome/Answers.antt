@@ -1,0 +1,7 @@
+use Rattle.std.proofs.Common.{refl}
+use Rattle.classifier_commands.proofs.Cuts.{cut_weaker}
+use Rattle.classifier_commands.proofs.commands.judge_outcome.Goals as goal
+
+pub returns-clause-part : goal.returns-clause-part
+returns-clause-part g c =
+    cut_weaker c.print.result _ _ (λ part. (_, _, (c.in_ok-answer.answer, c.in_ok-answer.ensures.judged, (refl, refl)), part)) c.print.ensures.part
