@@ -3,11 +3,18 @@ use Rattle.std.proofs.Common.{◌≡◌, ◌<◌, ℕ, suc, Bool, List, [], ◌�
 use Rattle.std.specs.Prelude.{slice_index_or, IfOk}
 use Rattle.service.specs.Asked.{RequestData, ResponseData}
 use Rattle.http_pool.specs.declared.workers.Worker.{Worker}
-use Rattle.http_pool.specs.Workers.{HasWorked, HaveWorked}
+use Rattle.http_pool.specs.Workers.{HasWorked, HaveWorked, HasEnded, HaveEnded}
 
 pub if_ok_both : {T E : Type 0} (r : Result T E) (P Q Z : T → Type 0) → ((x : T) → P x → Q x → Z x) → IfOk r P → IfOk r Q → IfOk r Z
 if_ok_both (Ok x) P Q Z both p q = both x p q
 if_ok_both (Err e) P Q Z both p q = tt
+
+-- each worker that ended by itself had a limit
+pub each_ended : {S C : Type 0} (connections : ℕ) (workers after : List (Worker S C)) → length after ≡ length workers → ((i : ℕ) (d : Worker S C) → i < length workers → HasEnded connections (slice_index_or after i d)) → HaveEnded connections after
+each_ended connections [] [] same each = tt
+each_ended connections [] (w ∷ after) same each = absurd (omega (arith, same))
+each_ended connections (w ∷ workers) [] same each = absurd (omega (arith, same))
+each_ended connections (w ∷ workers) (v ∷ after) same each = (each 0 w (omega arith), each_ended connections workers after (omega (arith, same)) (λ i d within. each (suc i) d (omega (arith, within))))
 
 module _ {S C : Type 0} (holds : S → List ℕ → Bool) (answers : S → List ℕ → ℕ → RequestData → ResponseData → S → Type 0) (ticks : C → ℕ → C → Type 0) where
   pub each_worked : (workers after : List (Worker S C)) → length after ≡ length workers → ((i : ℕ) (d : Worker S C) → i < length workers → HasWorked holds answers ticks (slice_index_or workers i d) (slice_index_or after i d)) → HaveWorked holds answers ticks workers after

@@ -1,5 +1,5 @@
 -- What becomes of workers, each of which serves connections beside the others.
-use Rattle.std.specs.Prelude.{◌==◌, ◌||◌, nat_lt, ℕ, List, [], ◌∷◌, Bool, ⊤}
+use Rattle.std.specs.Prelude.{◌≡◌, ◌==◌, ◌||◌, nat_lt, ℕ, List, [], ◌∷◌, Bool, false, Option, None, ⊤}
 use Rattle.service.specs.Asked.{RequestData, ResponseData}
 use Rattle.http_pool.specs.declared.workers.Worker.{Worker}
 use Rattle.http_pool.specs.Connections.{HasServed}
@@ -11,6 +11,19 @@ most_workers = 64
 -- whether the connection of this number, from 0 on, is one of so many; 0 sets no limit
 abbrev pub is_left : ℕ → ℕ → Bool
 is_left connections number = (connections == 0) || nat_lt number connections
+
+-- some number is not left: there is a limit
+abbrev pub ends : ℕ → Type 0
+ends connections = (number : ℕ) × (is_left connections number ≡ false)
+
+-- a worker met a failure of the listener, or ended by itself
+abbrev pub HasEnded : {S C : Type 0} → ℕ → Worker S C → Type 0
+HasEnded connections worker = worker.failure ≡ None → ends connections
+
+-- each of them
+abbrev pub HaveEnded : {S C : Type 0} → ℕ → List (Worker S C) → Type 0
+HaveEnded connections [] = ⊤
+HaveEnded connections (worker ∷ workers) = HasEnded connections worker × HaveEnded connections workers
 
 -- holds tells which services an answerer has; answers relates an answerer, a service, a moment and what is asked to the response and the answerer after it; ticks relates a clock to the moment that it reads and the clock after it
 module _ {S C : Type 0} (holds : S → List ℕ → Bool) (answers : S → List ℕ → ℕ → RequestData → ResponseData → S → Type 0) (ticks : C → ℕ → C → Type 0) where

@@ -2,6 +2,10 @@
 #![tactic(auto)]
 
 mod connections;
+mod failure;
+mod starting;
 mod workers;
 
+pub use failure::ListenerFailed;
+pub use starting::threads_at_once;
 pub use workers::{Worker, pool, serve_connections};

@@ -36,20 +36,20 @@ fn config_in(alloc: Global, line: &[u8]) -> Result<Option<Config>, AllocError>
     }
 }
 
-/// The configuration on the first line.
+/// The configuration on the first line, which is read into `line`.
 fn first_config<R: Read>(
     alloc: Global,
     reader: &mut Counted<R>,
+    line: &mut Vec<u8>,
 ) -> Result<Option<Config>, ReplayError>
     ensures begun { IfOk result (λ found. IsBegun (R.remaining reader.old.inner) (R.remaining reader.new.inner) found) }
     ensures fewer { IfOk result (λ found. IfSome found (λ config. LosesLines 0 (R.remaining reader.old.inner) (R.remaining reader.new.inner))) }
     ensures cause { IsReadCause result reader.old.failures reader.new.failures (R.remaining reader.old.inner) }
 {
-    let mut line = Vec::new(alloc);
-    if !next_line(reader, &mut line)? {
+    if !next_line(reader, line)? {
         return Ok(None);
     }
-    Ok(config_in(alloc, &line)?)
+    Ok(config_in(alloc, line)?)
 }
 
 /// A service with the default classifier.
@@ -109,7 +109,23 @@ pub fn replay<R: Read, W: Write>(
     // 2^64 - 1 lines alone; in each other case no call failed.
     ensures cause { IsCause result reader.old.failures reader.new.failures out.old.failures out.new.failures (R.remaining reader.old.inner) }
 {
-    let Some(config) = first_config(alloc, reader)? else {
+    let mut first = Vec::new(alloc);
+    replay_with(alloc, &mut first, reader, out)
+}
+
+/// Replays events as `replay` does, and leaves the first line that says something in `first`, so that a caller can tell
+/// what is wrong with a configuration that can't be used. Where no line says anything, it is empty.
+pub fn replay_with<R: Read, W: Write>(
+    alloc: Global,
+    first: &mut Vec<u8>,
+    reader: &mut Counted<R>,
+    out: &mut Counted<W>,
+) -> Result<Ended, ReplayError>
+    ensures replayed { IfOk result (λ ended. IsReplayed (R.remaining reader.old.inner) ended (W.contents out.old.inner) (W.contents out.new.inner)) }
+    ensures part { IsReplayedPart (R.remaining reader.old.inner) (W.contents out.old.inner) (W.contents out.new.inner) }
+    ensures cause { IsCause result reader.old.failures reader.new.failures out.old.failures out.new.failures (R.remaining reader.old.inner) }
+{
+    let Some(config) = first_config(alloc, reader, first)? else {
         return Ok(Ended::BadConfig);
     };
     let mut book = open(alloc, config)?;

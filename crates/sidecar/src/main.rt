@@ -39,8 +39,9 @@ fn main(rt: HostRuntime) -> ExitCode {
     };
     if let ["serve", path] = *words.as_slice() {
         let mut out = Counted::new(rt.stdout());
+        let mut err = Counted::new(rt.stderr());
         let mut clock = SystemClock::new(&rt);
-        let status = serve_path(&rt, rt.alloc(), path, &mut out, &mut clock);
+        let status = serve_path(&rt, rt.alloc(), path, &mut out, &mut err, &mut clock);
         return ExitCode::from(status.code());
     }
     match run_command(&rt, &words) {

@@ -8,7 +8,7 @@ use Rattle.classifier_commands.specs.declared.commands.Status.TheVariants as sta
 use Rattle.classifier_commands.specs.declared.error.CommandError.{CommandError}
 use Rattle.classifier_commands.specs.declared.error.CommandError.TheVariants as command_error
 use Rattle.classifier_commands.specs.Commands.{Words, NamesAlone, IsPrinted}
-use Rattle.classifier_commands.specs.Commands.{NamesNone as names_no_classifier_command, HasAnswered as has_answered_of_classifier}
+use Rattle.classifier_commands.specs.Commands.{NamesNone as names_no_classifier_command, AsksForInput as classifier_asks_for_input, HasAnswered as has_answered_of_classifier}
 use Rattle.replay.specs.declared.Ended.{Ended}
 use Rattle.replay.specs.declared.Ended.TheVariants as ended
 use Rattle.replay.specs.declared.ReplayError.{ReplayError}
@@ -23,6 +23,10 @@ NamesReplay words = NamesAlone words (codes "replay")
 -- neither a command on a classifier nor a replay
 abbrev pub NamesNone : Words → Type 0
 NamesNone words = names_no_classifier_command words × (¬ (NamesReplay words))
+
+-- input is asked for: by a command on a classifier that does, and by a replay
+abbrev pub AsksForInput : Words → Type 0
+AsksForInput words = classifier_asks_for_input words ⊎ NamesReplay words
 
 -- ---- replays
 

@@ -1,16 +1,20 @@
 //! The commands that the program's words name.
-ghost use Rattle.std.specs.Prelude.{◌≡◌, Decides, IfOk};
+ghost use Rattle.std.specs.Prelude.{◌≡◌, ◌++◌, [], ◌∷◌, Ok, Decides, IfOk, IfErr};
 ghost use Rattle.std.specs.Io.KnownBytes.{Appends};
+ghost use Rattle.counted_io.specs.Counting.{AppendsPart};
 ghost use Rattle.classifier_commands.specs.Commands.{IsPrinted, IsSettled, usage};
 ghost use Rattle.classifier_commands.specs.Endings.{IsUsageShown};
+ghost use Rattle.classifier_commands.specs.Text.{answer_text};
 ghost use Rattle.replay.specs.Causes.{IsCause, IsWriteCause};
-ghost use Rattle.sidecar_commands.specs.Commands.{NamesReplay, NamesNone, HasReplayed, HasAnswered, status_of_error, replay_error_of, bad_config};
-ghost use Rattle.sidecar_commands.specs.Endings.{IsEnded};
+ghost use Rattle.replay.specs.Parts.{IsReplayedPart};
+ghost use Rattle.sidecar_commands.specs.Commands.{NamesReplay, NamesNone, AsksForInput, HasReplayed, HasAnswered, status_of_error, replay_error_of, bad_config};
+ghost use Rattle.sidecar_commands.specs.Endings.{IsEnded, IsUnanswered, IsAnsweredInPart, IsCut, IsReplayCut};
 
 use classifier_commands::{Answer, CommandError, Fault, Status, print};
+use config_mistakes::config_mistake;
 use counted_io::Counted;
 use refusals::RefusalNumber;
-use replay::{Ended, ReplayError, replay};
+use replay::{Ended, ReplayError, replay_with};
 use std::alloc::Global;
 use std::io::{Read, Write};
 
@@ -47,6 +51,7 @@ const NO_CONFIG: Fault = Fault {
 fn refuse<O: Write>(alloc: Global, out: &mut Counted<O>) -> Result<Status, ReplayError>
     ensures printed { IfOk result (λ status. IsPrinted bad_config status (O.contents out.old.inner) (O.contents out.new.inner)) }
     ensures settled { IfOk result IsSettled }
+    ensures part { IfErr result (λ error. IsCut error out.old out.new (AppendsPart (O.contents out.old.inner) (O.contents out.new.inner) (answer_text bad_config ++ 10 ∷ []))) }
     ensures cause { IsWriteCause result out.old.failures out.new.failures }
 {
     match print(alloc, Answer::Refused(NO_CONFIG), out) {
@@ -55,19 +60,59 @@ fn refuse<O: Write>(alloc: Global, out: &mut Counted<O>) -> Result<Status, Repla
     }
 }
 
-/// Answers the events that are read.
-fn replay_events<R: Read, O: Write>(
+/// Prints that the configuration on a line can't be used, and then what is wrong with it on `err`.
+fn refuse_line<O: Write, E: Write>(
+    alloc: Global,
+    first: &[u8],
+    out: &mut Counted<O>,
+    err: &mut Counted<E>,
+) -> Result<Status, ReplayError>
+    ensures printed { IfOk result (λ status. IsPrinted bad_config status (O.contents out.old.inner) (O.contents out.new.inner)) }
+    ensures settled { IfOk result IsSettled }
+    ensures part { IfErr result (λ error. IsCut error out.old out.new (AppendsPart (O.contents out.old.inner) (O.contents out.new.inner) (answer_text bad_config ++ 10 ∷ []))) }
+    ensures quiet { (result ≡ Ok Status.Refused → ⊥) → err.new ≡ err.old }
+    ensures cause { IsWriteCause result out.old.failures out.new.failures }
+{
+    let status = refuse(alloc, out)?;
+    if status == Status::Refused {
+        notify_mistake(alloc, first, err);
+    }
+    Ok(status)
+}
+
+/// Writes what is wrong with the first line of a replay, for people. Where that can't be made or written, nothing else
+/// changes.
+fn notify_mistake<E: Write>(alloc: Global, first: &[u8], err: &mut Counted<E>) {
+    if first.is_empty() {
+        let _sent = err.send(
+            b"the input has no first line: the configuration stands there, as {}\n",
+        );
+        return;
+    }
+    if let Ok(Some(mistake)) = config_mistake(alloc, first)
+        && let Ok(line) = format!(in alloc; "{mistake}\n")
+    {
+        let _sent = err.send(line.as_bytes());
+    }
+}
+
+/// Answers the events that are read. Where the configuration is refused, what is wrong with it is written on `err`.
+fn replay_events<R: Read, O: Write, E: Write>(
     alloc: Global,
     reader: &mut Counted<R>,
     out: &mut Counted<O>,
+    err: &mut Counted<E>,
 ) -> Result<Status, ReplayError>
     ensures replayed { IfOk result (λ status. HasReplayed (R.remaining reader.old.inner) status (O.contents out.old.inner) (O.contents out.new.inner)) }
     ensures settled { IfOk result IsSettled }
+    ensures part { IfErr result (λ error. IsReplayCut error (R.remaining reader.old.inner) (O.contents out.old.inner) (O.contents out.new.inner)) }
+    ensures quiet { (result ≡ Ok Status.Refused → ⊥) → err.new ≡ err.old }
     ensures cause { IsCause result reader.old.failures reader.new.failures out.old.failures out.new.failures (R.remaining reader.old.inner) }
 {
-    match replay(alloc, reader, out)? {
+    let mut first = Vec::new(alloc);
+    match replay_with(alloc, &mut first, reader, out)? {
         Ended::Done => Ok(Status::Done),
-        Ended::BadConfig => refuse(alloc, out),
+        Ended::BadConfig => refuse_line(alloc, &first, out, err),
     }
 }
 
@@ -81,7 +126,8 @@ fn is_replay(words: &[&str]) -> bool
 /// Does what the words ask for, and answers how that ended.
 ///
 /// An answer, also a refusal, is one line on `out`; for wrong words there is a line on `err` and
-/// nothing on `out`. Where the reader or the writer fails, or memory runs out with no answer that
+/// nothing on `out`. Behind the refusal of a replay's configuration there is a line on `err` too, which says
+/// what is wrong with it, for people. Where the reader or the writer fails, or memory runs out with no answer that
 /// says so, nothing more is written. One failed read or write ends the command, also one that was
 /// interrupted. Input is read byte by byte: give it a reader that is buffered.
 pub fn command<R: Read, O: Write, E: Write>(
@@ -97,18 +143,27 @@ pub fn command<R: Read, O: Write, E: Write>(
     ensures refused { result ≡ Status.Refused → HasAnswered words.now (R.remaining reader.old.inner) Status.Refused (O.contents out.old.inner) (O.contents out.new.inner) }
     // With wrong arguments the words name no command, and the usage was printed.
     ensures wrong { result ≡ Status.WrongArguments → NamesNone words.now × Appends (E.contents err.old.inner) (E.contents err.new.inner) usage }
+    ensures unnamed { result ≡ Status.UsageFailed → NamesNone words.now }
+    // Where a read fails or memory runs out, a command on a classifier writes nothing on `out`, and a replay what it
+    // answered up to then.
+    ensures unanswered { IsUnanswered result → (NamesReplay words.now → ⊥) → out.new ≡ out.old }
+    ensures replayed { IsUnanswered result → NamesReplay words.now → IsReplayedPart (R.remaining reader.old.inner) (O.contents out.old.inner) (O.contents out.new.inner) }
+    // Where a write fails, a beginning of an answer to the words is written.
+    ensures part { result ≡ Status.WriteFailed → IsAnsweredInPart words.now (R.remaining reader.old.inner) (O.contents out.old.inner) (O.contents out.new.inner) }
+    // No input is taken but by a replay, by `asm`, and by `judge` with a program that is accepted.
+    ensures unread { (AsksForInput words.now → ⊥) → reader.new ≡ reader.old }
     // Words that name no command print nothing on `out`, and the usage on `err`, or a beginning of it where a write failed.
     ensures silent { NamesNone words.now → out.new ≡ out.old }
     ensures usage { NamesNone words.now → IsUsageShown result (E.contents err.old.inner) (E.contents err.new.inner) err.old.failures err.new.failures }
-    // Words that name a command write nothing on `err`.
-    ensures quiet { (NamesNone words.now → ⊥) → err.new ≡ err.old }
+    // Words that name a command write nothing on `err`, but for a replay whose configuration was refused.
+    ensures quiet { (NamesNone words.now → ⊥) → (NamesReplay words.now × (result ≡ Status.Refused) → ⊥) → err.new ≡ err.old }
     // A failed read or write is answered where that count went up by one, and in no other case.
     ensures cause { IsEnded result reader.old.failures reader.new.failures out.old.failures out.new.failures (R.remaining reader.old.inner) }
 {
     if !is_replay(words) {
         return classifier_commands::command(alloc, words, reader, out, err);
     }
-    match replay_events(alloc, reader, out) {
+    match replay_events(alloc, reader, out, err) {
         Ok(status) => status,
         Err(error) => status_of(error),
     }

@@ -1,2 +1,4 @@
 pub mod Openings
 pub mod Seating
+pub mod Silence
+pub mod Endings

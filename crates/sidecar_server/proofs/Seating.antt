@@ -1,5 +1,5 @@
 -- Seats one after another, the workers who have them, and how many they are.
-use Rattle.std.proofs.Common.{◌≡◌, ◌∙◌, ◌≤◌, ◌<◌, ◌+◌, ◌&&◌, ℕ, zero, suc, Bool, true, false, nat_le, List, [], ◌∷◌, ◌++◌, map, length, ap, refl, sym, subst, String, Global, arith}
+use Rattle.std.proofs.Common.{◌≡◌, ◌∙◌, ◌≤◌, ◌<◌, ◌+◌, ◌&&◌, ℕ, zero, suc, Bool, true, false, nat_le, List, [], ◌∷◌, ◌++◌, map, length, None, ap, refl, sym, subst, String, Global, arith}
 use Rattle.std.proofs.lemmas.Bool.{leb-true}
 use Rattle.std.proofs.lemmas.List.{length-map, map-append}
 use Rattle.std.specs.Prelude.{string_bytes}
@@ -35,14 +35,14 @@ as_many_seats number zero = refl
 as_many_seats number (suc count) = ap suc (as_many_seats (suc number) count)
 
 -- one worker more, with the next seat
-pub next_worker : {C : Type 0} (names : List (List ℕ)) (clock : C) (done : List SeatData) (seat : SeatData) (workers : List (Worker SeatedData C)) (answerer : SeatedData) → workers ≡ workers_with names clock done → answerer ≡ seated names seat → workers ++ record { answerer = answerer; clock = clock } ∷ [] ≡ workers_with names clock (done ++ seat ∷ [])
+pub next_worker : {C : Type 0} (names : List (List ℕ)) (clock : C) (done : List SeatData) (seat : SeatData) (workers : List (Worker SeatedData C)) (answerer : SeatedData) → workers ≡ workers_with names clock done → answerer ≡ seated names seat → workers ++ record { answerer = answerer; clock = clock; failure = None } ∷ [] ≡ workers_with names clock (done ++ seat ∷ [])
 next_worker {C} names clock done seat workers answerer before is =
-    let worker : SeatedData → Worker SeatedData C = λ a. record { answerer = a; clock = clock } in
+    let worker : SeatedData → Worker SeatedData C = λ a. record { answerer = a; clock = clock; failure = None } in
     ap (λ ws. ws ++ worker answerer ∷ []) before ∙ (ap (λ a. workers_with names clock done ++ worker a ∷ []) is ∙ sym (map-append (λ s. worker (seated names s)) done (seat ∷ [])))
 
 pub as_many_workers : {C : Type 0} (names : List (List ℕ)) (clock : C) (number count : ℕ) → length (workers_with names clock (seats_of number count)) ≡ count
 as_many_workers {C} names clock number count =
-    let worker : SeatData → Worker SeatedData C = λ seat. record { answerer = seated names seat; clock = clock } in
+    let worker : SeatData → Worker SeatedData C = λ seat. record { answerer = seated names seat; clock = clock; failure = None } in
     length-map (seats_of number count) worker ∙ as_many_seats number count
 
 -- what services are opened by has their names

@@ -1,5 +1,5 @@
 -- What becomes of services that are served by one worker, or by many.
-use Rattle.std.specs.Prelude.{◌≡◌, ◌<◌, ◌⊎◌, ℕ, zero, suc, List, [], ◌∷◌, map, String, string_bytes}
+use Rattle.std.specs.Prelude.{◌≡◌, ◌<◌, ◌⊎◌, ℕ, zero, suc, List, [], ◌∷◌, map, None, String, string_bytes}
 use Rattle.std.specs.Global.{Global}
 use Rattle.service_profile.specs.declared.configuration.Config.{Config}
 use Rattle.verifier.specs.declared.verified.Verified.{Verified}
@@ -37,7 +37,7 @@ seats_of number (suc count) = seat_of number 0 ∷ seats_of (suc number) count
 
 -- workers with these seats at a desk that has services of these names, each with this clock
 abbrev pub workers_with : {C : Type 0} → List (List ℕ) → C → List SeatData → List (Worker SeatedData C)
-workers_with names clock seats = map (λ seat. record { answerer = seated names seat; clock = clock }) seats
+workers_with names clock seats = map (λ seat. record { answerer = seated names seat; clock = clock; failure = None }) seats
 
 -- many workers: as many as the settings say sat down at a desk with the services, and each served connections, one after another, by its seat
 abbrev pub HasServedAtDesk : {C : Type 0} → (C → ℕ → C → Type 0) → Settings → C → Type 0

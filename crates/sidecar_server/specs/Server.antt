@@ -1,9 +1,9 @@
 -- What a server prints, and why it ends.
-use Rattle.std.specs.Prelude.{◌≡◌, ℕ, List, ◌∷◌, [], ◌++◌, codes, Option, Some, None, Result, Ok, Err, ⊤}
+use Rattle.std.specs.Prelude.{◌≡◌, ◌⊎◌, ℕ, List, ◌∷◌, [], ◌++◌, codes, decimal, Option, Some, None, Result, Ok, Err, ⊤}
 use Rattle.std.specs.Io.KnownBytes.{Appends}
 use Rattle.std.specs.Net.Text.{socket_text}
 use Rattle.std.specs.declared.net.socket_addr.SocketAddr.{SocketAddr}
-use Rattle.counted_io.specs.Counting.{one_more}
+use Rattle.counted_io.specs.Counting.{one_more, AppendsPart}
 use Rattle.refusals.specs.declared.RefusalNumber.{RefusalNumber}
 use Rattle.refusals.specs.declared.RefusalNumber.TheVariants as refusal
 use Rattle.refusals.specs.Texts.{refusal_text}
@@ -27,15 +27,37 @@ IsFileRefused text refusal.BadConfig = IsRead text None
 IsFileRefused text refusal.Listen = (settings : Settings) × IsRead text (Some settings)
 IsFileRefused text other = ⊥
 
+-- the line that says that fewer workers run at once than the file says
+abbrev pub workers_line : ℕ → ℕ → List ℕ
+workers_line running workers = codes "the system runs only " ++ (decimal running ++ (codes " of " ++ (decimal workers ++ (codes " workers at once" ++ 10 ∷ []))))
+
+-- what standard error may have where nothing was refused and the listener didn't fail: nothing, or that line, or a beginning of it
+abbrev pub IsNotice : Option (List ℕ) → Option (List ℕ) → Type 0
+IsNotice before after = (after ≡ before) ⊎ ((running : ℕ) × (workers : ℕ) × AppendsPart before after (workers_line running workers))
+
+-- what standard error has, by how the server ended: where a refusal was printed, or the listener failed, it says why
+abbrev pub IsQuiet : Status → Option (List ℕ) → Option (List ℕ) → Type 0
+IsQuiet (status.Refused number) before after = ⊤
+IsQuiet status.ListenerFailed before after = ⊤
+IsQuiet other before after = IsNotice before after
+
+-- connections were served: the server is done, or the listener accepts no more
+abbrev pub IsServing : Status → Type 0
+IsServing status.Done = ⊤
+IsServing status.ListenerFailed = ⊤
+IsServing other = ⊥
+
 -- a write failed, or memory ran out
 abbrev pub IsFailed : Status → Type 0
 IsFailed status.Done = ⊥
+IsFailed status.ListenerFailed = ⊥
 IsFailed (status.Refused number) = ⊥
 IsFailed other = ⊤
 
 -- the refusal was printed, or printing it failed
 abbrev pub IsRefused : Status → RefusalNumber → Option (List ℕ) → Option (List ℕ) → Type 0
 IsRefused status.Done number before after = ⊥
+IsRefused status.ListenerFailed number before after = ⊥
 IsRefused (status.Refused refused) number before after = (refused ≡ number) × Appends before after (refused_line number)
 IsRefused other number before after = ⊤
 
@@ -55,6 +77,7 @@ IsListening before after = (address : SocketAddr) × Appends before after (liste
 -- what serving with settings printed, by how it ended: the line of the address where it is done, or the refusal
 abbrev pub IsEnded : Status → Option (List ℕ) → Option (List ℕ) → Type 0
 IsEnded status.Done before after = IsListening before after
+IsEnded status.ListenerFailed before after = IsListening before after
 IsEnded (status.Refused number) before after = (number ≡ refusal.Listen) × Appends before after (refused_line number)
 IsEnded other before after = ⊤
 
@@ -65,6 +88,7 @@ HasServedFile ticks text clock later before after =
 
 abbrev pub code_of : Status → ℕ
 code_of status.Done = 0
+code_of status.ListenerFailed = 1
 code_of (status.Refused number) = 1
 code_of status.WriteFailed = 1
 code_of status.FlushFailed = 1

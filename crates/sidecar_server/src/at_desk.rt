@@ -1,17 +1,20 @@
 //! Serving by many workers, each with a seat of one desk.
-ghost use Rattle.std.specs.Prelude.{◌≡◌, ◌≤◌, map, IfOk};
+ghost use Rattle.std.specs.Prelude.{◌≡◌, ◌≤◌, ◌<◌, List, map, vec_len, IfOk, OnOk};
+ghost use Rattle.http_pool.specs.declared.workers.Worker.{Worker as WorkerData};
+ghost use Rattle.http_pool.specs.Workers.{HaveWorked, most_workers};
 ghost use Rattle.service_file.specs.Settled.{HasCounts};
 ghost use Rattle.sidecar_server.specs.declared.serving.Status.TheVariants as Status;
-ghost use Rattle.sidecar_server.specs.Server.{IsEnded, IsCause};
+ghost use Rattle.sidecar_server.specs.Server.{IsEnded, IsCause, IsServing, IsQuiet, IsNotice};
 ghost use Rattle.sidecar_server.specs.Served.{opening_of, seats_of, workers_with, HasServedAtDesk};
 
+use crate::notices::{notify_failure, notify_workers};
 use crate::serving::{Status, listen};
 use book::Config;
 use counted_io::Counted;
 use desk::{Desk, Seat};
 use http_desk::{OpenGate, SeatedAnswerer};
-use http_front::Clock;
-use http_pool::{Worker, pool};
+use http_front::{Answerer, Clock};
+use http_pool::{ListenerFailed, Worker, pool};
 use service_file::{ServiceSettings, Settings};
 use std::alloc::{AllocError, Global};
 use std::io::Write;
@@ -19,6 +22,7 @@ use std::net::{Net, TcpListener, TcpStream};
 use std::sync::Wait;
 use std::sync::ledger::{Blank, Ledger};
 use std::thread::Threads;
+use std::time;
 use verifier::Verified;
 
 /// What a desk opens its services by: the name, the configuration and the first program of each.
@@ -70,17 +74,53 @@ fn workers<'a, L: Ledger, M: Ledger, R: Wait, C: Clock + Copy>(
     let mut workers = Vec::new(alloc);
     for seat in seats {
         let answerer = SeatedAnswerer::new(rt, alloc, desk, seat, gate);
-        workers.push(Worker { answerer, clock })?;
+        workers.push(Worker {
+            answerer,
+            clock,
+            failure: None,
+        })?;
     }
     Ok(workers)
 }
 
+/// The first failure that a worker met.
+fn failure_of<A, C>(workers: &[Worker<A, C>]) -> Option<ListenerFailed> {
+    workers.iter().find_map(|worker| worker.failure)
+}
+
+/// Serves the connections of a listener by workers, and returns the failure of the listener that ended them, if one
+/// did. Where the system runs fewer workers at once, it says so first. The error is want of memory.
+fn serve_by_pool<
+    R: Threads + Wait + time::Clock + Sync,
+    A: Answerer + Send + Drop,
+    C: Clock + Send + Drop,
+    E: Write,
+>(
+    rt: &R,
+    alloc: Global,
+    listener: &TcpListener,
+    connections: u64,
+    workers: Vec<Worker<A, C>>,
+    err: &mut Counted<E>,
+) -> Result<Option<ListenerFailed>, AllocError>
+    requires some { 0 < vec_len workers }
+    requires few { vec_len workers ≤ most_workers }
+    ensures worked { OnOk result ((later : List (WorkerData A C)) × HaveWorked A.holds A.answers C.ticks workers.items later) }
+    ensures notice { IsNotice (E.contents err.old.inner) (E.contents err.new.inner) }
+{
+    notify_workers(rt, alloc, workers.len() as u64, err)?;
+    let workers = pool(rt, alloc, listener, connections, workers)?;
+    Ok(failure_of(&workers))
+}
+
 /// Opens a desk, listens and serves by as many workers as the settings say.
+#[tactic(auto, using(crate::proofs::Silence::quiet_kept))]
 pub(crate) fn serve_at_desk<
     L: Ledger + Send + Sync,
     M: Ledger + Send + Sync,
-    R: Threads + Wait + Sync + Net<Listener = TcpListener, Stream = TcpStream>,
+    R: Threads + Wait + time::Clock + Sync + Net<Listener = TcpListener, Stream = TcpStream>,
     O: Write,
+    E: Write,
     C: Clock + Copy + Send,
 >(
     rt: &R,
@@ -89,6 +129,7 @@ pub(crate) fn serve_at_desk<
     entry_parts: Blank,
     settings: Settings,
     out: &mut Counted<O>,
+    err: &mut Counted<E>,
     clock: C,
 ) -> Status
     requires seats_name { seat_parts.name ≡ L.name }
@@ -96,8 +137,9 @@ pub(crate) fn serve_at_desk<
     requires entries_name { entry_parts.name ≡ M.name }
     requires entries_parts { (entry_parts.parts ≡ M.parts) × (M.parts ≡ 65) }
     requires counts { HasCounts settings }
-    ensures served { result ≡ Status.Done → HasServedAtDesk C.ticks settings clock }
+    ensures served { IsServing result → HasServedAtDesk C.ticks settings clock }
     ensures ended { IsEnded result (O.contents out.old.inner) (O.contents out.new.inner) }
+    ensures quiet { IsQuiet result (E.contents err.old.inner) (E.contents err.new.inner) }
     ensures cause { IsCause result out.old.failures out.new.failures }
 {
     let Ok(opened) = opened_by(alloc, settings.services) else {
@@ -113,11 +155,16 @@ pub(crate) fn serve_at_desk<
     let Ok(workers) = workers(rt, alloc, &desk, seats, &gate, clock) else {
         return Status::OutOfMemory;
     };
-    match listen(rt, alloc, settings.listen, out) {
-        Ok(listener) => match pool(rt, alloc, &listener, settings.connections, workers) {
-            Ok(_) => Status::Done,
-            Err(_) => Status::OutOfMemory,
-        },
-        Err(status) => status,
+    let listener = match listen(rt, alloc, settings.listen, out, err) {
+        Ok(listener) => listener,
+        Err(status) => return status,
+    };
+    match serve_by_pool(rt, alloc, &listener, settings.connections, workers, err) {
+        Ok(None) => Status::Done,
+        Ok(Some(failure)) => {
+            notify_failure(alloc, failure, err);
+            Status::ListenerFailed
+        }
+        Err(_) => Status::OutOfMemory,
     }
 }

@@ -4,6 +4,7 @@
 
 mod at_desk;
 mod clock;
+mod notices;
 mod opening;
 mod serving;
 

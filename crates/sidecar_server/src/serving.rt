@@ -1,12 +1,13 @@
 //! The command `serve`.
 ghost use Rattle.std.specs.Prelude.{◌≡◌, ℕ, List, IfErr, OnOk};
 ghost use Rattle.std.specs.Io.KnownBytes.{Appends};
-ghost use Rattle.refusals.specs.declared.RefusalNumber.TheVariants.{Listen};
+ghost use Rattle.refusals.specs.declared.RefusalNumber.TheVariants.{BadConfig, Listen};
 ghost use Rattle.service_file.specs.Settled.{HasCounts};
-ghost use Rattle.sidecar_server.specs.Server.{refused_line, IsListening, IsFileRefused, IsRefused, IsFailed, IsCause, IsEnded, HasServedFile, status_of, code_of};
+ghost use Rattle.sidecar_server.specs.Server.{refused_line, IsListening, IsFileRefused, IsRefused, IsFailed, IsCause, IsEnded, IsServing, IsQuiet, HasServedFile, status_of, code_of};
 ghost use Rattle.sidecar_server.specs.Served.{HasServedAlone, HasServedBy};
 
 use crate::at_desk::serve_at_desk;
+use crate::notices::{notify_error, notify_failure, notify_mistake};
 use crate::opening::open;
 use counted_io::Counted;
 use http_front::Clock;
@@ -15,19 +16,21 @@ use refusals::{RefusalNumber, RefusalText};
 use service_file::{Settings, read_settings};
 use std::alloc::Global;
 use std::fs::{File, Files};
-use std::io;
 use std::io::{ErrorKind, Read, Write};
 use std::marker::Brand;
 use std::net::{Net, SocketAddr, TcpListener, TcpStream};
 use std::sync::Wait;
 use std::sync::ledger::Blank;
 use std::thread::Threads;
+use std::{io, time};
 
 /// How the server ended.
 #[derive(Clone, Copy, Debug, PartialEq, Eq)]
 pub enum Status {
-    /// It has served its connections, or can accept no more.
+    /// It has served its connections.
     Done,
+    /// It has served connections, and the listener accepts no more.
+    ListenerFailed,
     /// It was refused, and the refusal was printed: `BadConfig` where the file can't be read or used,
     /// `Listen` where the address can't be bound.
     Refused(RefusalNumber),
@@ -46,8 +49,11 @@ impl Status {
     {
         match self {
             Status::Done => 0,
-            Status::Refused(_) | Status::WriteFailed | Status::FlushFailed | Status::OutOfMemory =>
-                1,
+            Status::ListenerFailed
+            | Status::Refused(_)
+            | Status::WriteFailed
+            | Status::FlushFailed
+            | Status::OutOfMemory => 1,
         }
     }
 }
@@ -83,31 +89,58 @@ fn refuse<O: Write>(alloc: Global, number: RefusalNumber, out: &mut Counted<O>) 
 }
 
 /// Listens on an address. Answers the address that is bound, with its port where the system chose it.
-fn bound<R>(rt: &R, address: SocketAddr) -> Option<(TcpListener, SocketAddr)>
+fn bound<R>(rt: &R, address: SocketAddr) -> io::Result<(TcpListener, SocketAddr)>
 where
     R: Net<Listener = TcpListener, Stream = TcpStream>,
 {
-    let listener = TcpListener::bind(rt, address).ok()?;
-    let address = listener.local_addr().ok()?;
-    Some((listener, address))
+    let listener = TcpListener::bind(rt, address)?;
+    let address = listener.local_addr()?;
+    Ok((listener, address))
+}
+
+/// Prints that an address can't be bound, and then why on `err`.
+#[tactic(auto, using(crate::proofs::Silence::quiet_kept))]
+fn refuse_address<O: Write, E: Write>(
+    alloc: Global,
+    address: SocketAddr,
+    error: &io::Error,
+    out: &mut Counted<O>,
+    err: &mut Counted<E>,
+) -> Status
+    ensures refused { IsRefused result Listen (O.contents out.old.inner) (O.contents out.new.inner) }
+    ensures quiet { IsQuiet result (E.contents err.old.inner) (E.contents err.new.inner) }
+    ensures cause { IsCause result out.old.failures out.new.failures }
+{
+    let status = refuse(alloc, RefusalNumber::Listen, out);
+    if let Status::Refused(_) = status
+        && let Ok(name) = format!(in alloc; "{address}")
+    {
+        notify_error(alloc, &name, error, err);
+    }
+    status
 }
 
 /// Listens on an address, and prints the line that says so at once. Where the address can't be bound it prints the
-/// refusal.
-pub(crate) fn listen<R, O: Write>(
+/// refusal, and why on `err`.
+#[tactic(auto, using(crate::proofs::Silence::quiet_kept))]
+pub(crate) fn listen<R, O: Write, E: Write>(
     rt: &R,
     alloc: Global,
     address: SocketAddr,
     out: &mut Counted<O>,
+    err: &mut Counted<E>,
 ) -> Result<TcpListener, Status>
 where
     R: Net<Listener = TcpListener, Stream = TcpStream>,
     ensures listening { OnOk result (IsListening (O.contents out.old.inner) (O.contents out.new.inner)) }
     ensures refused { IfErr result (λ status. IsRefused status Listen (O.contents out.old.inner) (O.contents out.new.inner)) }
+    ensures heard { OnOk result (err.new ≡ err.old) }
+    ensures quiet { IsQuiet (status_of result) (E.contents err.old.inner) (E.contents err.new.inner) }
     ensures cause { IsCause (status_of result) out.old.failures out.new.failures }
 {
-    let Some((listener, address)) = bound(rt, address) else {
-        return Err(refuse(alloc, RefusalNumber::Listen, out));
+    let (listener, address) = match bound(rt, address) {
+        Ok(bound) => bound,
+        Err(error) => return Err(refuse_address(alloc, address, &error, out, err)),
     };
     let Ok(line) = format!(in alloc; "listening {address}\n") else {
         return Err(Status::OutOfMemory);
@@ -117,91 +150,126 @@ where
 }
 
 /// Opens the services, listens and serves by one worker, who has the books to itself.
-fn serve_alone<R, O: Write, C: Clock>(
+#[tactic(auto, using(crate::proofs::Silence::quiet_kept))]
+fn serve_alone<R, O: Write, E: Write, C: Clock>(
     rt: &R,
     alloc: Global,
     settings: Settings,
     out: &mut Counted<O>,
+    err: &mut Counted<E>,
     clock: &mut C,
 ) -> Status
 where
-    R: Wait + Net<Listener = TcpListener, Stream = TcpStream>,
-    ensures served { result ≡ Status.Done → HasServedAlone C.ticks settings clock.old clock.new }
+    R: Wait + time::Clock + Net<Listener = TcpListener, Stream = TcpStream>,
+    ensures served { IsServing result → HasServedAlone C.ticks settings clock.old clock.new }
     ensures ended { IsEnded result (O.contents out.old.inner) (O.contents out.new.inner) }
+    ensures quiet { IsQuiet result (E.contents err.old.inner) (E.contents err.new.inner) }
     ensures cause { IsCause result out.old.failures out.new.failures }
 {
     let Ok(mut books) = open(alloc, settings.services) else {
         return Status::OutOfMemory;
     };
-    match listen(rt, alloc, settings.listen, out) {
-        Ok(listener) => {
-            serve_connections(
-                rt,
-                alloc,
-                &listener,
-                settings.connections,
-                &mut books,
-                clock,
-            );
-            Status::Done
+    let listener = match listen(rt, alloc, settings.listen, out, err) {
+        Ok(listener) => listener,
+        Err(status) => return status,
+    };
+    match serve_connections(
+        rt,
+        alloc,
+        &listener,
+        settings.connections,
+        &mut books,
+        clock,
+    ) {
+        Ok(()) => Status::Done,
+        Err(failure) => {
+            notify_failure(alloc, failure, err);
+            Status::ListenerFailed
         }
-        Err(status) => status,
     }
 }
 
 /// Opens the services, listens and serves, by one worker or by many.
-fn serve_settings<R, O: Write, C: Clock + Copy + Send>(
+fn serve_settings<R, O: Write, E: Write, C: Clock + Copy + Send>(
     rt: &R,
     alloc: Global,
     settings: Settings,
     out: &mut Counted<O>,
+    err: &mut Counted<E>,
     clock: &mut C,
 ) -> Status
 where
-    R: Threads + Wait + Sync + Net<Listener = TcpListener, Stream = TcpStream>,
+    R: Threads + Wait + time::Clock + Sync + Net<Listener = TcpListener, Stream = TcpStream>,
     requires counts { HasCounts settings }
-    ensures served { result ≡ Status.Done → HasServedBy C.ticks settings clock.old clock.new }
+    ensures served { IsServing result → HasServedBy C.ticks settings clock.old clock.new }
     ensures ended { IsEnded result (O.contents out.old.inner) (O.contents out.new.inner) }
+    ensures quiet { IsQuiet result (E.contents err.old.inner) (E.contents err.new.inner) }
     ensures cause { IsCause result out.old.failures out.new.failures }
 {
     if settings.workers == 1 {
-        return serve_alone(rt, alloc, settings, out, clock);
+        return serve_alone(rt, alloc, settings, out, err, clock);
     }
-    serve_at_desk::<Brand, Brand, R, O, C>(
+    serve_at_desk::<Brand, Brand, R, O, E, C>(
         rt,
         alloc,
         Blank::new(129),
         Blank::new(65),
         settings,
         out,
+        err,
         *clock,
     )
+}
+
+/// Prints that a file's text can't be used, and then what is wrong with it on `err`.
+#[tactic(auto, using(crate::proofs::Silence::quiet_kept))]
+fn refuse_text<O: Write, E: Write>(
+    alloc: Global,
+    text: &[u8],
+    out: &mut Counted<O>,
+    err: &mut Counted<E>,
+) -> Status
+    ensures refused { IsRefused result BadConfig (O.contents out.old.inner) (O.contents out.new.inner) }
+    ensures quiet { IsQuiet result (E.contents err.old.inner) (E.contents err.new.inner) }
+    ensures cause { IsCause result out.old.failures out.new.failures }
+{
+    let status = refuse(alloc, RefusalNumber::BadConfig, out);
+    if let Status::Refused(_) = status {
+        notify_mistake(alloc, text, err);
+    }
+    status
 }
 
 /// Serves as the text of a file says, which `service_file::read_settings` reads: it opens the services, listens,
 /// prints the line `listening ADDRESS`, which it flushes, and serves connections: one after another by one worker, or
 /// as many at once as the file has workers, each with a copy of the clock and a thread of its own. Where the text
-/// can't be used or the address can't be bound it prints the refusal as a line.
-pub fn serve_file<R, O: Write, C: Clock + Copy + Send>(
+/// can't be used or the address can't be bound it prints the refusal as a line, and a line on `err` that says why, for
+/// people. There is also a line on `err` where the system runs fewer workers at once than the file says, and where the
+/// listener accepts no more connections.
+#[tactic(auto, using(crate::proofs::Silence::quiet_kept))]
+pub fn serve_file<R, O: Write, E: Write, C: Clock + Copy + Send>(
     rt: &R,
     alloc: Global,
     text: &[u8],
     out: &mut Counted<O>,
+    err: &mut Counted<E>,
     clock: &mut C,
 ) -> Status
 where
-    R: Threads + Wait + Sync + Net<Listener = TcpListener, Stream = TcpStream>,
+    R: Threads + Wait + time::Clock + Sync + Net<Listener = TcpListener, Stream = TcpStream>,
     // Where it is done, the file's services opened, the line was printed, and connections were served from there
-    // on, by as many workers as the file says.
-    ensures done { result ≡ Status.Done → HasServedFile C.ticks text.now clock.old clock.new (O.contents out.old.inner) (O.contents out.new.inner) }
+    // on, by as many workers as the file says. The same holds where the listener accepts no more.
+    ensures done { IsServing result → HasServedFile C.ticks text.now clock.old clock.new (O.contents out.old.inner) (O.contents out.new.inner) }
     // Where it is refused, the refusal was printed: the text can't be used, or it can and the address can't be bound.
     ensures refused { (number : RefusalNumber) → result ≡ Status.Refused number → IsFileRefused text.now number × Appends (O.contents out.old.inner) (O.contents out.new.inner) (refused_line number) }
+    // On `err` stands at most the line on too few workers, but where a refusal was printed or the listener failed.
+    ensures quiet { IsQuiet result (E.contents err.old.inner) (E.contents err.new.inner) }
     // A failed write is answered where that count went up by one, and in no other case.
     ensures cause { IsCause result out.old.failures out.new.failures }
 {
     match read_settings(alloc, text) {
-        Ok(Some(settings)) => serve_settings(rt, alloc, settings, out, clock),
-        Ok(None) => refuse(alloc, RefusalNumber::BadConfig, out),
+        Ok(Some(settings)) => serve_settings(rt, alloc, settings, out, err, clock),
+        Ok(None) => refuse_text(alloc, text, out, err),
         Err(_) => Status::OutOfMemory,
     }
 }
@@ -214,26 +282,55 @@ fn read<R: Files>(rt: &R, alloc: Global, path: &str) -> io::Result<Vec<u8>> {
     Ok(text)
 }
 
+/// Prints that a file can't be read, and then why on `err`.
+#[tactic(auto, using(crate::proofs::Silence::quiet_kept))]
+fn refuse_path<O: Write, E: Write>(
+    alloc: Global,
+    path: &str,
+    error: &io::Error,
+    out: &mut Counted<O>,
+    err: &mut Counted<E>,
+) -> Status
+    ensures refused { IsRefused result BadConfig (O.contents out.old.inner) (O.contents out.new.inner) }
+    ensures quiet { IsQuiet result (E.contents err.old.inner) (E.contents err.new.inner) }
+    ensures cause { IsCause result out.old.failures out.new.failures }
+{
+    let status = refuse(alloc, RefusalNumber::BadConfig, out);
+    if let Status::Refused(_) = status {
+        notify_error(alloc, path, error, err);
+    }
+    status
+}
+
 /// Serves as the file at a path says. One that can't be read is refused as one that can't be used.
-pub fn serve_path<R, O: Write, C: Clock + Copy + Send>(
+#[tactic(auto, using(crate::proofs::Silence::quiet_kept))]
+pub fn serve_path<R, O: Write, E: Write, C: Clock + Copy + Send>(
     rt: &R,
     alloc: Global,
     path: &str,
     out: &mut Counted<O>,
+    err: &mut Counted<E>,
     clock: &mut C,
 ) -> Status
 where
-    R: Threads + Wait + Sync + Files + Net<Listener = TcpListener, Stream = TcpStream>,
+    R: Threads
+        + Wait
+        + time::Clock
+        + Sync
+        + Files
+        + Net<Listener = TcpListener, Stream = TcpStream>,
     // Where it is done, it served as some text says, in the way of `serve_file`: no clause knows a file's text.
-    ensures done { result ≡ Status.Done → (text : List ℕ) × HasServedFile C.ticks text clock.old clock.new (O.contents out.old.inner) (O.contents out.new.inner) }
+    ensures done { IsServing result → (text : List ℕ) × HasServedFile C.ticks text clock.old clock.new (O.contents out.old.inner) (O.contents out.new.inner) }
     // Where it is refused, the refusal was printed.
     ensures refused { (number : RefusalNumber) → result ≡ Status.Refused number → Appends (O.contents out.old.inner) (O.contents out.new.inner) (refused_line number) }
+    // On `err` stands at most the line on too few workers, but where a refusal was printed or the listener failed.
+    ensures quiet { IsQuiet result (E.contents err.old.inner) (E.contents err.new.inner) }
     // A failed write is answered where that count went up by one, and in no other case.
     ensures cause { IsCause result out.old.failures out.new.failures }
 {
     match read(rt, alloc, path) {
-        Ok(text) => serve_file(rt, alloc, &text, out, clock),
+        Ok(text) => serve_file(rt, alloc, &text, out, err, clock),
         Err(error) if error.kind() == ErrorKind::OutOfMemory => Status::OutOfMemory,
-        Err(_) => refuse(alloc, RefusalNumber::BadConfig, out),
+        Err(error) => refuse_path(alloc, path, &error, out, err),
     }
 }

@@ -1,4 +1,4 @@
-use Rattle.std.proofs.Common.{◌≡◌, ◌∙◌, ap, List, [], ◌∷◌, ◌++◌}
+use Rattle.std.proofs.Common.{◌≡◌, ◌∙◌, ap, List, [], ◌∷◌, ◌++◌, None}
 use Rattle.std.specs.Vec.Iter.{into_iter_items}
 use Rattle.desk.specs.Seats.{SeatData}
 use Rattle.sidecar_server.specs.Served.{workers_with}
@@ -12,7 +12,7 @@ loop-seat-preserved g c =
     let later : List SeatData = into_iter_items c.next.new.self in
     let seat : SeatData = c.in-Some.seat in
     let whole : c.args.seats.items ≡ done ++ (seat ∷ later) = c.loop-seat.invariant.2.1 ∙ ap (λ rest. done ++ rest) c.in-Some.ensures.steps.0 in
-    let pushed : c.push.new.self.items ≡ c.loop-seat.workers.items ++ record { answerer = c.new-answerer.result; clock = c.args.clock } ∷ [] = c.in_ok-push.ensures.items in
-    let next : c.loop-seat.workers.items ++ record { answerer = c.new-answerer.result; clock = c.args.clock } ∷ [] ≡ workers_with c.args.desk.now.services c.args.clock (done ++ seat ∷ []) =
+    let pushed : c.push.new.self.items ≡ c.loop-seat.workers.items ++ record { answerer = c.new-answerer.result; clock = c.args.clock; failure = None } ∷ [] = c.in_ok-push.ensures.items in
+    let next : c.loop-seat.workers.items ++ record { answerer = c.new-answerer.result; clock = c.args.clock; failure = None } ∷ [] ≡ workers_with c.args.desk.now.services c.args.clock (done ++ seat ∷ []) =
     next_worker c.args.desk.now.services c.args.clock done seat c.loop-seat.workers.items c.new-answerer.result c.loop-seat.invariant.2.2 c.new-answerer.ensures in
     (tt, tt, (done ++ seat ∷ [], whole ∙ one_more done seat later, pushed ∙ next))

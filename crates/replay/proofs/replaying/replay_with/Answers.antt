@@ -5,7 +5,7 @@ use Rattle.replay.specs.Replaying.{IsBegun, IsOpened}
 use Rattle.replay.proofs.Causing.{cause_on}
 use Rattle.replay.proofs.Parts.{nothing_replayed, replayed_part}
 use Rattle.replay.proofs.Running.{replayed_bad, replayed_done}
-use Rattle.replay.proofs.replaying.replay.Goals as goal
+use Rattle.replay.proofs.replaying.replay_with.Goals as goal
 
 pub returns-in_err-config-clause-part : goal.returns-in_err-config-clause-part
 returns-in_err-config-clause-part g c = nothing_replayed (g.R.Read.remaining c.args.reader.now.inner) (g.W.Write.contents c.args.out.now.inner)

@@ -1,0 +1,13 @@
+//! What is wrong with a configuration, or with the file of `sidecar serve`, in words for people.
+//!
+//! What can be used is decided by `requests` and `service_file`. Where these answer that it can't, this says why: which
+//! key of which service, what stands there, and what is allowed. Nothing is decided by it.
+#![tactic(auto)]
+
+mod configurations;
+mod files;
+mod services;
+mod values;
+
+pub use configurations::config_mistake;
+pub use files::file_mistake;

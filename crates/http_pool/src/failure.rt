@@ -1,0 +1,50 @@
+//! Why a listener accepts no more connections.
+use std::fmt::{Display, Formatter};
+use std::{fmt, io};
+
+/// A listener accepts no more connections. Its text says why, as the system does.
+#[derive(Clone, Copy, Debug, PartialEq, Eq)]
+pub struct ListenerFailed {
+    /// The number of the system's error (`errno`).
+    pub code: i32,
+}
+
+/// Errors of Linux's accept(2) that lie in the listener: it would not wait (EAGAIN), it is closed (EBADF), its memory is
+/// none (EFAULT), it doesn't listen (EINVAL), it is no socket (ENOTSOCK), and none that accepts (EOPNOTSUPP).
+const EAGAIN: i32 = 11;
+
+const EBADF: i32 = 9;
+
+const EFAULT: i32 = 14;
+
+const EINVAL: i32 = 22;
+
+const ENOTSOCK: i32 = 88;
+
+const EOPNOTSUPP: i32 = 95;
+
+impl ListenerFailed {
+    /// A listener that is closed.
+    pub(crate) const CLOSED: ListenerFailed = ListenerFailed { code: EBADF };
+
+    /// Returns the failure where an error of accepting lies in the listener. Each other error may pass, as too few
+    /// file descriptors or too little memory, or lies in the one connection.
+    pub fn from_error(error: &io::Error) -> Option<ListenerFailed> {
+        let code = error.raw_os_error()?;
+        if matches!(
+            code,
+            EAGAIN | EBADF | EFAULT | EINVAL | ENOTSOCK | EOPNOTSUPP
+        ) {
+            Some(ListenerFailed { code })
+        } else {
+            None
+        }
+    }
+}
+
+impl Display for ListenerFailed {
+    fn fmt<W: fmt::Write>(&self, f: &mut Formatter<W>) -> fmt::Result {
+        let error = io::Error::from_raw_os_error(self.code);
+        write!(f, "the listener accepts no more connections: {error}")
+    }
+}
