@@ -128,13 +128,16 @@ fn is_moved(rt: &impl Abort, alloc: Global, book: &mut Book, state: State) {
 }
 
 #[test]
-fn journals_are_read_and_cut(rt: HostRuntime) {
+fn journals_are_read_rolled_and_cut(rt: HostRuntime) {
     let alloc = rt.alloc();
     let mut book = book(&rt, alloc);
     is_moved(&rt, alloc, &mut book, State::Open);
     is_moved(&rt, alloc, &mut book, State::Closed);
     same(&rt, entries_read(alloc, &mut book), Some(2));
     same(&rt, entries_of(alloc, &mut book, Request::Page(2)), Some(1));
-    same(&rt, entries_of(alloc, &mut book, Request::Cut), Some(2));
+    same(&rt, entries_of(alloc, &mut book, Request::Roll(1)), Some(1));
+    same(&rt, entries_read(alloc, &mut book), Some(2));
+    same(&rt, entries_of(alloc, &mut book, Request::Page(1)), Some(1));
+    same(&rt, entries_of(alloc, &mut book, Request::Cut), Some(1));
     same(&rt, entries_of(alloc, &mut book, Request::Page(1)), Some(0));
 }

@@ -1,6 +1,7 @@
 //! What tests compare. None of these functions has a clause: a fact that a comparison leaves behind would be
 //! tried in each goal after it.
-use std::fmt::Debug;
+use std::alloc::Global;
+use std::fmt::{Debug, Display};
 use std::process::Abort;
 
 /// Stops the test where two values differ. It promises nothing, so that the proof of a test stays short.
@@ -16,6 +17,12 @@ pub(crate) fn same_at<R: Abort, T: Debug + PartialEq + Drop, A: Debug + Drop>(
     at: A,
 ) {
     assert_eq!(rt; found, wanted, "{at:?}");
+}
+
+/// Stops the test where a value is printed otherwise. It promises nothing.
+pub(crate) fn is_printed<R: Abort, T: Display>(rt: &R, alloc: Global, value: &T, text: &str) {
+    let found = format!(in alloc; "{value}").expect(rt, "ample memory");
+    same(rt, found.as_str(), text);
 }
 
 /// Stops the test where this does not hold. It promises nothing, so that the proof of a test stays short.

@@ -15,6 +15,8 @@ mod json_requests;
 #[cfg(test)]
 mod replayed_events;
 #[cfg(test)]
+mod replayed_reads;
+#[cfg(test)]
 mod replayed_services;
 #[cfg(test)]
 mod replays;

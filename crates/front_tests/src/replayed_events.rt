@@ -35,7 +35,7 @@ fn replays(rt: &impl Abort, alloc: Global, input: &[u8], ended: Ended, printed: 
     let mut out = Counted::new(Vec::new(alloc));
     let found = replay(alloc, &mut reader, &mut out).expect(rt, "a replay that is done");
     let wanted = joined_text(rt, alloc, printed);
-    same(rt, out.inner.as_slice(), wanted.as_bytes());
+    same(rt, out.inner().as_slice(), wanted.as_bytes());
     same(rt, found, ended);
 }
 
@@ -313,7 +313,7 @@ fn printed_bytes(rt: &impl Abort, alloc: Global, input: &[u8]) -> (Ended, usize)
     let mut reader = Counted::new(input);
     let mut out = Counted::new(Vec::new(alloc));
     let ended = replay(alloc, &mut reader, &mut out).expect(rt, "a replay that is done");
-    (ended, out.inner.len())
+    (ended, out.inner().len())
 }
 
 #[test]
@@ -376,7 +376,7 @@ fn failing_reader(alloc: Global, left: u64) -> (Result<Ended, ReplayError>, usiz
     });
     let mut out = Counted::new(Vec::new(alloc));
     let found = replay(alloc, &mut reader, &mut out);
-    (found, out.inner.len())
+    (found, out.inner().len())
 }
 
 /// How it is to end, and how many bytes it is to print.
@@ -407,7 +407,7 @@ fn failing_writer(alloc: Global, left: u64) -> (Result<Ended, ReplayError>, u64)
         left,
     });
     let found = replay(alloc, &mut reader, &mut out);
-    (found, out.inner.inner.len() as u64)
+    (found, out.inner().inner.len() as u64)
 }
 
 #[test]

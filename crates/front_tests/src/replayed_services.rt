@@ -1,4 +1,4 @@
-//! What is answered to releases, installs, transitions, resets, cuts and reads of time windows.
+//! What is answered to releases, installs, transitions, resets, cuts, rolls and reads of time windows.
 use crate::inputs::joined_text;
 use crate::replayed_events::{ACQUIRED, ACQUIRED_AGAIN, BAD_VALUE, FAILED, SUCCEEDED, prints};
 use std::alloc::Global;
@@ -270,6 +270,42 @@ fn programs_and_values_are_refused(rt: HostRuntime) {
             ("\"transition\"", BAD_VALUE),
             ("\"transition\",\"state\":\"half_open\"", BAD_VALUE),
             ("\"transition\",\"to\":\"OPEN\"", BAD_VALUE),
+        ],
+    );
+}
+
+#[test]
+fn a_roll_leaves_what_is_open(rt: HostRuntime) {
+    let input = "{}\n\
+        {\"at\":0,\"do\":\"acquire\"}\n\
+        {\"at\":1,\"do\":\"acquire\"}\n\
+        {\"at\":2,\"do\":\"release\",\"ticket\":2}\n\
+        {\"at\":2,\"do\":\"roll\",\"to\":2}\n\
+        {\"at\":2,\"do\":\"roll\",\"to\":2}\n\
+        {\"at\":3,\"do\":\"read\"}\n\
+        {\"at\":4,\"do\":\"release\",\"ticket\":1}\n\
+        {\"at\":4,\"do\":\"release\",\"ticket\":2}\n\
+        {\"at\":4,\"do\":\"roll\",\"to\":99}\n\
+        {\"at\":4,\"do\":\"roll\"}\n\
+        {\"at\":4,\"do\":\"roll\",\"to\":-1}\n\
+        {\"at\":5,\"do\":\"cut\"}\n";
+    prints(
+        &rt,
+        rt.alloc(),
+        input,
+        &[
+            ACQUIRED,
+            ACQUIRED_AGAIN,
+            "200 {\"fate\":\"released\",\"state\":\"CLOSED\"}\n",
+            "200 {\"entries\":2}\n",
+            "200 {\"entries\":0}\n",
+            "200 {\"budget\":6,\"entries\":3,\"failed\":0,\"failureRate\":-1,\"free\":24,\"notPermitted\":0,\"open\":1,\"period\":1,\"slow\":0,\"slowRate\":-1,\"state\":\"CLOSED\",\"total\":0,\"version\":1}\n",
+            "200 {\"fate\":\"released\",\"state\":\"CLOSED\"}\n",
+            SPENT,
+            "200 {\"entries\":3}\n",
+            BAD_VALUE,
+            BAD_VALUE,
+            "200 {\"entries\":0}\n",
         ],
     );
 }

@@ -1,5 +1,5 @@
 //! That a replay succeeds with ample memory, however long its input is.
-use crate::checks::{is_true, is_true_at, same, same_at};
+use crate::checks::{is_printed, is_true, is_true_at, same, same_at};
 use crate::inputs::{joined, repeated};
 use counted_io::Counted;
 use replay::{Ended, ReplayError, replay};
@@ -13,10 +13,9 @@ fn replayed(rt: &impl Abort, alloc: Global, input: &[u8]) -> (Ended, Vec<u8>) {
     let mut reader = Counted::new(input);
     let mut out = Counted::new(Vec::new(alloc));
     let ended = replay(alloc, &mut reader, &mut out).expect(rt, "a replay that is done");
-    same(rt, reader.failures, 0);
-    same(rt, out.failures, 0);
-    let Counted { inner, .. } = out;
-    (ended, inner)
+    same(rt, reader.failures(), 0);
+    same(rt, out.failures(), 0);
+    (ended, out.into_inner())
 }
 
 /// An input, how its replay ends, and what it prints.
@@ -136,8 +135,7 @@ fn slowly_answered(rt: &impl Abort, alloc: Global, input: &[u8]) -> Vec<u8> {
     let mut out = Counted::new(Slow(Vec::new(alloc)));
     let ended = replay(alloc, &mut reader, &mut out).expect(rt, "a replay that is done");
     same(rt, ended, Ended::Done);
-    let Counted { inner, .. } = out;
-    let Slow(text) = inner;
+    let Slow(text) = out.into_inner();
     text
 }
 
@@ -193,6 +191,28 @@ fn failures_are_told_apart(rt: HostRuntime) {
     let mut out = Counted::new(room.as_mut_slice());
     let found = replay(rt.alloc(), &mut reader, &mut out);
     same(&rt, found, Err(ReplayError::WriteFailed));
-    same(&rt, reader.failures, 0);
-    same(&rt, out.failures, 1);
+    same(&rt, reader.failures(), 0);
+    same(&rt, out.failures(), 1);
+}
+
+/// Checks what errors are printed as.
+fn are_printed(rt: &impl Abort, alloc: Global, rows: &[(ReplayError, &str)]) {
+    for row in rows {
+        let (error, text) = *row;
+        is_printed(rt, alloc, &error, text);
+    }
+}
+
+#[test]
+fn texts_of_errors(rt: HostRuntime) {
+    are_printed(
+        &rt,
+        rt.alloc(),
+        &[
+            (ReplayError::ReadFailed, "a read failed"),
+            (ReplayError::WriteFailed, "a write failed"),
+            (ReplayError::OutOfMemory, "out of memory"),
+            (ReplayError::TooLong, "too many lines"),
+        ],
+    );
 }

@@ -121,7 +121,7 @@ fn served(
     let mut reader = Counted::new(input);
     let mut writer = Counted::new(room);
     let ended = serve(rt, alloc, &mut reader, &mut writer, books, &mut Still);
-    (ended, size.saturating_sub(writer.inner.len()))
+    (ended, size.saturating_sub(writer.inner().len()))
 }
 
 fn begins_with_refusal(text: &[u8]) -> bool {

@@ -1,5 +1,6 @@
 //! The lines that commands print, and the statuses that they end with.
-use crate::checks::same_at;
+use crate::checks::{is_printed, same_at};
+use classifier_commands::CommandError;
 use counted_io::Counted;
 use sidecar_commands::Status;
 use std::alloc::Global;
@@ -29,7 +30,22 @@ pub(crate) fn command<R: Read, O: Write, E: Write>(
     sidecar_commands::command(alloc, words, &mut reader, &mut out, &mut err).code()
 }
 
+/// The status with which a command ends, what it prints, and what it says on standard error.
+type Ending<'a> = (u8, &'a str, &'a str);
+
 /// That the words end so on this input.
+fn ends_telling(rt: &impl Abort, alloc: Global, words: &[&str], input: &[u8], ending: Ending<'_>) {
+    let (status, printed, told) = ending;
+    let mut reader = input;
+    let mut out = Vec::new(alloc);
+    let mut err = Vec::new(alloc);
+    let found = command(alloc, words, &mut reader, &mut out, &mut err);
+    same_at(rt, out.as_slice(), printed.as_bytes(), &words);
+    same_at(rt, err.as_slice(), told.as_bytes(), &words);
+    same_at(rt, found, status, &words);
+}
+
+/// That the words end so on this input, and say nothing on standard error but the usage.
 pub(crate) fn ends(
     rt: &impl Abort,
     alloc: Global,
@@ -38,14 +54,8 @@ pub(crate) fn ends(
     status: u8,
     printed: &str,
 ) {
-    let mut reader = input;
-    let mut out = Vec::new(alloc);
-    let mut err = Vec::new(alloc);
-    let found = command(alloc, words, &mut reader, &mut out, &mut err);
     let usage = if status == 2 { USAGE } else { "" };
-    same_at(rt, out.as_slice(), printed.as_bytes(), &words);
-    same_at(rt, err.as_slice(), usage.as_bytes(), &words);
-    same_at(rt, found, status, &words);
+    ends_telling(rt, alloc, words, input, (status, printed, usage));
 }
 
 /// A command with a program and its input, the status, and what is printed.
@@ -162,7 +172,8 @@ fn events_are_replayed(rt: HostRuntime) {
     let acquired = "200 {\"state\":\"CLOSED\",\"ticket\":1,\"version\":1}\n";
     ends(&rt, alloc, &["replay"], events, 0, acquired);
     let refused = "refused 47 BadConfig\n";
-    ends(&rt, alloc, &["replay"], b"[]\n", 1, refused);
+    let why = "the configuration: an array is not an object\n";
+    ends_telling(&rt, alloc, &["replay"], b"[]\n", (1, refused, why));
     are_wrong(&rt, alloc, b"{}", &[&["replay", "x"]]);
 }
 
@@ -231,7 +242,7 @@ fn fails(rt: &impl Abort, alloc: Global, words: &[&str], status: Status, failure
     same_at(rt, found, status, &words);
     same_at(
         rt,
-        [reader.failures, out.failures, err.failures],
+        [reader.failures(), out.failures(), err.failures()],
         failures,
         &words,
     );
@@ -261,6 +272,85 @@ fn failures_are_told_apart(rt: HostRuntime) {
             (&["verify", FAILURE], Status::WriteFailed, [0, 1, 0]),
             (&["dis", FAILURE], Status::WriteFailed, [0, 1, 0]),
             (&["judge"], Status::UsageFailed, [0, 0, 1]),
+        ],
+    );
+}
+
+/// A reader that counts its calls.
+#[derive(Drop)]
+struct Watched<'a> {
+    left: &'a [u8],
+    calls: usize,
+}
+
+impl<'a> Read for Watched<'a> {
+    fn read(&mut self, room: &mut [u8]) -> io::Result<usize> {
+        self.calls = self.calls.wrapping_add(1);
+        self.left.read(room)
+    }
+}
+
+/// How many calls the reader of an input has for these words.
+fn calls(alloc: Global, words: &[&str], input: &str) -> usize {
+    let mut reader = Watched {
+        left: input.as_bytes(),
+        calls: 0,
+    };
+    let mut out = Vec::new(alloc);
+    let mut err = Vec::new(alloc);
+    let _status = command(alloc, words, &mut reader, &mut out, &mut err);
+    reader.calls
+}
+
+/// Words, their input, and how many calls its reader has.
+type Called<'a> = (&'a [&'a str], &'a str, usize);
+
+/// How many calls readers have.
+fn are_called(rt: &impl Abort, alloc: Global, rows: &[Called<'_>]) {
+    for row in rows {
+        let (words, input, wanted) = *row;
+        same_at(rt, calls(alloc, words, input), wanted, &words);
+    }
+}
+
+/// Each byte is read by a call of its own, the end by one more, and nothing is read that nobody asked for.
+#[test]
+fn input_is_read_once(rt: HostRuntime) {
+    are_called(
+        &rt,
+        rt.alloc(),
+        &[
+            (&["judge", FAILURE], "{}", 3),
+            (&["judge", FAILURE], "", 1),
+            (&["judge", "9g"], "{}", 0),
+            (&["asm"], "exit\n", 6),
+            (&["asm"], "", 1),
+            (&["verify", FAILURE], "{}", 0),
+            (&["dis", FAILURE], "{}", 0),
+            (&["judge"], "{}", 0),
+            (&["replay"], "{}\n", 4),
+            (&["replay"], "[]\n{}\n", 3),
+        ],
+    );
+}
+
+/// Checks what errors are printed as.
+fn are_printed(rt: &impl Abort, alloc: Global, rows: &[(CommandError, &str)]) {
+    for row in rows {
+        let (error, text) = *row;
+        is_printed(rt, alloc, &error, text);
+    }
+}
+
+#[test]
+fn texts_of_errors(rt: HostRuntime) {
+    are_printed(
+        &rt,
+        rt.alloc(),
+        &[
+            (CommandError::ReadFailed, "a read failed"),
+            (CommandError::WriteFailed, "a write failed"),
+            (CommandError::OutOfMemory, "out of memory"),
         ],
     );
 }

@@ -104,8 +104,8 @@ fn is_cut(rt: &(impl Wait + Abort), alloc: Global, said: &Conversation, cut: usi
         failures: (0, 0),
         is_applied: true,
     };
-    let ended = (end, (reader.failures, writer.failures));
-    leaves(rt, said, &books, &writer.inner, ended, wanted, cut as u64);
+    let ended = (end, (reader.failures(), writer.failures()));
+    leaves(rt, said, &books, writer.inner(), ended, wanted, cut as u64);
 }
 
 /// Serves a conversation in two pieces of each size.
@@ -170,8 +170,8 @@ fn fails(
         piece,
     });
     let end = serve(rt, alloc, &mut reader, &mut writer, &mut books, &mut Still);
-    let ended = (end, (reader.failures, writer.failures));
-    let text = writer.inner.inner.as_slice();
+    let ended = (end, (reader.failures(), writer.failures()));
+    let text = writer.inner().inner.as_slice();
     leaves(rt, said, &books, text, ended, wanted, calls.0.min(calls.1));
 }
 

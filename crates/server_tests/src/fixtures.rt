@@ -89,7 +89,7 @@ pub(crate) fn served(
     let mut reader = Counted::new(input);
     let mut writer = Counted::new(Vec::new(alloc));
     let ended = serve(rt, alloc, &mut reader, &mut writer, books, &mut Still);
-    (ended, writer.inner)
+    (ended, writer.into_inner())
 }
 
 /// An input is answered so, and serving it ends so.

@@ -11,8 +11,6 @@ mod checks;
 #[cfg(test)]
 mod commands;
 #[cfg(test)]
-mod counting;
-#[cfg(test)]
 mod failing_connections;
 #[cfg(test)]
 mod fixtures;

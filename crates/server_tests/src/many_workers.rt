@@ -62,8 +62,9 @@ where
         line: Vec::new(alloc),
         port,
     });
+    let mut err = Counted::new(Vec::new(alloc));
     let mut clock = SystemClock::new(rt);
-    serve_file(rt, alloc, FILE.as_bytes(), &mut out, &mut clock)
+    serve_file(rt, alloc, FILE.as_bytes(), &mut out, &mut err, &mut clock)
 }
 
 /// The address that is told. It is waited for ten seconds at most.

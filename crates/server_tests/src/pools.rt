@@ -5,7 +5,7 @@ ghost use Rattle.std.specs.Prelude.{◌≡◌};
 use crate::checks::{is_true_at, same};
 use crate::fixtures::{ACQUIRE, entries, pay};
 use http_front::{Books, Clock};
-use http_pool::{Worker, pool, serve_connections};
+use http_pool::{ListenerFailed, Worker, pool, serve_connections, threads_at_once};
 use std::alloc::{AllocError, Global};
 use std::io;
 use std::io::{Read, Write};
@@ -37,10 +37,7 @@ fn workers(
     let mut workers = Vec::new(alloc);
     for number in 0..count {
         let times = number.saturating_mul(100);
-        workers.push(Worker {
-            answerer: pay(rt, alloc),
-            clock: Readings { times },
-        })?;
+        workers.push(Worker::new(pay(rt, alloc), Readings { times }))?;
     }
     Ok(workers)
 }
@@ -102,6 +99,15 @@ where
     Ok(streams)
 }
 
+/// How many workers met the failure of a listener that would not wait (EAGAIN).
+fn failures(workers: &[Worker<Books, Readings>]) -> usize {
+    let would_wait = Some(ListenerFailed { code: 11 });
+    workers
+        .iter()
+        .filter(|worker| worker.failure == would_wait)
+        .count()
+}
+
 #[test]
 fn workers_share_the_connections(rt: HostRuntime) -> Result<(), Fail> {
     let alloc = rt.alloc();
@@ -111,6 +117,7 @@ fn workers_share_the_connections(rt: HostRuntime) -> Result<(), Fail> {
     assert_eq!(rt; workers.len(), 3);
     let workers = pool(&rt, alloc, &listener, 8, workers)?;
     same(&rt, workers.len(), 3);
+    same(&rt, failures(&workers), 0);
     have_answered(&rt, &workers, 8);
     for stream in &streams {
         is_answered(&rt, alloc, stream, "\"version\":1}")?;
@@ -119,7 +126,7 @@ fn workers_share_the_connections(rt: HostRuntime) -> Result<(), Fail> {
 }
 
 #[test]
-fn a_pool_ends_where_accepting_fails(rt: HostRuntime) -> Result<(), Fail> {
+fn a_pool_ends_where_the_listener_would_not_wait(rt: HostRuntime) -> Result<(), Fail> {
     let alloc = rt.alloc();
     let listener = TcpListener::bind(&rt, "127.0.0.1:0")?;
     let stream = ask(&rt, listener.local_addr()?, ACQUIRE)?;
@@ -129,6 +136,7 @@ fn a_pool_ends_where_accepting_fails(rt: HostRuntime) -> Result<(), Fail> {
     assert_eq!(rt; workers.len(), 2);
     let workers = pool(&rt, alloc, &listener, 0, workers)?;
     same(&rt, workers.len(), 2);
+    same(&rt, failures(&workers), 2);
     have_answered(&rt, &workers, 1);
     is_answered(&rt, alloc, &stream, "\"version\":1}")?;
     Ok(())
@@ -145,12 +153,20 @@ fn connections_are_served_one_after_another(rt: HostRuntime) -> Result<(), Fail>
     let last = ask(&rt, address, ACQUIRE)?;
     let mut books = pay(&rt, alloc);
     let mut clock = Readings { times: 0 };
-    serve_connections(&rt, alloc, &listener, 3, &mut books, &mut clock);
+    let ended = serve_connections(&rt, alloc, &listener, 3, &mut books, &mut clock);
+    same(&rt, ended, Ok(()));
     same(&rt, (entries(&books), clock.times), (2, 2));
     same(&rt, answer(alloc, &cut)?.len(), 0);
     let ending = "{\"state\":\"CLOSED\",\"ticket\":1,\"version\":1}";
     is_answered(&rt, alloc, &first, ending)?;
     let ending = "{\"state\":\"CLOSED\",\"ticket\":2,\"version\":1}";
     is_answered(&rt, alloc, &last, ending)?;
+    Ok(())
+}
+
+#[test]
+fn threads_run_at_once(rt: HostRuntime) -> Result<(), Fail> {
+    let running = threads_at_once(&rt, rt.alloc(), 8)?;
+    same(&rt, running, 8);
     Ok(())
 }

@@ -19,7 +19,7 @@ use std::sync::atomic::{AtomicU64, Ordering};
 use std::sync::ledger::{Blank, Ledger};
 use std::test::Fail;
 use std::thread::Threads;
-use std::{io, thread};
+use std::{io, thread, time};
 
 /// How often a thread looks whether another one is there yet.
 const MOST_TURNS: u32 = 1_000_000;
@@ -157,14 +157,14 @@ fn workers<'a, L: Ledger, M: Ledger, R: Wait>(
     gate: &'a OvertakingGate,
 ) -> Result<Vec<Worker<SeatedAnswerer<'a, L, M, OvertakingGate, R>, Readings<'a>>>, AllocError> {
     let mut workers = Vec::new(alloc);
-    workers.push(Worker {
-        answerer: SeatedAnswerer::new(rt, alloc, desk, seats.0, gate),
-        clock: Readings { times: 0, gate },
-    })?;
-    workers.push(Worker {
-        answerer: SeatedAnswerer::new(rt, alloc, desk, seats.1, gate),
-        clock: Readings { times: 0, gate },
-    })?;
+    workers.push(Worker::new(
+        SeatedAnswerer::new(rt, alloc, desk, seats.0, gate),
+        Readings { times: 0, gate },
+    ))?;
+    workers.push(Worker::new(
+        SeatedAnswerer::new(rt, alloc, desk, seats.1, gate),
+        Readings { times: 0, gate },
+    ))?;
     Ok(workers)
 }
 
@@ -194,7 +194,12 @@ fn are_in_order<L: Ledger, M: Ledger, R: Wait + Abort>(
 fn reports_of_two_workers<
     L: Ledger + Send + Sync,
     M: Ledger + Send + Sync,
-    R: Threads + Wait + Sync + Abort + Net<Listener = TcpListener, Stream = TcpStream>,
+    R: Threads
+        + Wait
+        + time::Clock
+        + Sync
+        + Abort
+        + Net<Listener = TcpListener, Stream = TcpStream>,
 >(rt: &R, alloc: Global, seats: Blank, entries: Blank) -> Result<(), Fail>
     requires seats_name { seats.name ≡ L.name }
     requires seats_parts { (seats.parts ≡ L.parts) × (L.parts ≡ 129) }

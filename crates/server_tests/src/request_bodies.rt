@@ -90,7 +90,7 @@ fn reports_name_ticket_and_outcome(rt: HostRuntime) {
 }
 
 #[test]
-fn releases_and_transitions_are_read(rt: HostRuntime) {
+fn releases_transitions_and_rolls_are_read(rt: HostRuntime) {
     let body = b"{\"ticket\":18446744073709551615,\"outcome\":null}";
     let release = asked(&rt, rt.alloc(), Route::Release, None, body);
     is_true(&rt, matches!(release, Ok(Request::Release(u64::MAX))));
@@ -100,6 +100,9 @@ fn releases_and_transitions_are_read(rt: HostRuntime) {
         &rt,
         matches!(transition, Ok(Request::Move(State::HalfOpen))),
     );
+    let body = b"{\"to\":18446744073709551615,\"from\":1}";
+    let roll = asked(&rt, rt.alloc(), Route::Roll, None, body);
+    is_true(&rt, matches!(roll, Ok(Request::Roll(u64::MAX))));
 }
 
 /// The refusal of what a route is asked for, if any.
@@ -154,6 +157,7 @@ fn bodies_that_are_no_json_are_refused_first(rt: HostRuntime) {
     refuses(&rt, rt.alloc(), Route::Report);
     refuses(&rt, rt.alloc(), Route::Release);
     refuses(&rt, rt.alloc(), Route::Transition);
+    refuses(&rt, rt.alloc(), Route::Roll);
 }
 
 /// A route and a body with a wrong value.
@@ -184,6 +188,10 @@ fn wrong_values_are_refused(rt: HostRuntime) {
             (Route::Release, "{\"ticket\":null}"),
             (Route::Transition, "{\"state\":\"closed\"}"),
             (Route::Transition, "{\"to\":\"CLOSED\"}"),
+            (Route::Roll, "{\"to\":\"5\"}"),
+            (Route::Roll, "{\"to\":5.0}"),
+            (Route::Roll, "{\"to\":18446744073709551616}"),
+            (Route::Roll, "{\"ticket\":5}"),
         ],
     );
 }

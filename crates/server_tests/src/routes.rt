@@ -64,6 +64,7 @@ fn each_word_names_its_route(rt: HostRuntime) {
             ),
             ("/v1/services/pay/reset", Route::Reset, "reset", "POST"),
             ("/v1/services/pay/cut", Route::Cut, "cut", "POST"),
+            ("/v1/services/pay/roll", Route::Roll, "roll", "POST"),
             ("/v1/services/pay/program", Route::Program, "program", "PUT"),
             ("/v1/services/pay/state", Route::State, "state", "GET"),
         ],
@@ -136,6 +137,7 @@ fn services_are_one_segment(rt: HostRuntime) {
             (b"/v1/services/pay/cut??", Route::Cut, b"pay"),
             (b"/v1/services/pay/cut?\xff", Route::Cut, b"pay"),
             (b"/v1/services/\xc3\xa9/cut", Route::Cut, b"\xc3\xa9"),
+            (b"/v1/services/roll/roll?to=5", Route::Roll, b"roll"),
         ],
     );
 }

@@ -23,6 +23,8 @@ const INSTALL: &[u8] =
 
 const JOURNAL: &str = "GET /v1/services/pay/journal/3 HTTP/1.1\r\n\r\n";
 
+const ROLL: &str = "POST /v1/services/pay/roll HTTP/1.1\r\nContent-Length: 8\r\n\r\n{\"to\":2}";
+
 const TICKET: &str = "{\"state\":\"CLOSED\",\"ticket\":1,\"version\":1}";
 
 const INSTALLED: &str = "{\"budget\":2,\"version\":2}";
@@ -46,7 +48,7 @@ fn answers<A: Answerer, R: Wait + Abort>(
     let mut reader = Counted::new(input);
     let mut writer = Counted::new(Vec::new(alloc));
     let _ended = serve(rt, alloc, &mut reader, &mut writer, answerer, &mut Still);
-    let text = writer.inner.as_slice();
+    let text = writer.inner().as_slice();
     is_true_at(rt, text.ends_with(ending.as_bytes()), text);
 }
 
@@ -73,6 +75,8 @@ fn asked_by_two<L: Ledger, M: Ledger, R: Wait + Abort>(
     // The ticket's version judges, whatever is current.
     answers(rt, alloc, &mut second, REPORT.as_bytes(), RECORDED);
     answers(rt, alloc, &mut first, REPORT.as_bytes(), SPENT);
+    answers(rt, alloc, &mut first, JOURNAL.as_bytes(), LAST_ENTRY);
+    answers(rt, alloc, &mut second, ROLL.as_bytes(), "{\"entries\":2}");
     answers(rt, alloc, &mut first, JOURNAL.as_bytes(), LAST_ENTRY);
     is_true(rt, !first.find("none"));
     same(rt, first.into_seat().count(), 1);

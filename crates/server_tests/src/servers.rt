@@ -95,21 +95,24 @@ fn connections_are_served(rt: HostRuntime) -> Result<(), Fail> {
         streams: Vec::new(alloc),
     });
     let mut clock = SystemClock::new(&rt);
-    let status = serve_file(&rt, alloc, file.as_bytes(), &mut out, &mut clock);
+    let mut err = Counted::new(Vec::new(alloc));
+    let status = serve_file(&rt, alloc, file.as_bytes(), &mut out, &mut err, &mut clock);
     same(&rt, (status, status.code()), (Status::Done, 0));
-    are_answered(&rt, alloc, &out.inner.streams)?;
+    same(&rt, err.inner().len(), 0);
+    are_answered(&rt, alloc, &out.inner().streams)?;
     Ok(())
 }
 
-/// What a server prints for a file that it refuses.
-fn refused<R>(rt: &R, alloc: Global, file: &str) -> (Status, Vec<u8>)
+/// What a server prints for a file that it refuses: on standard output, and on standard error.
+fn refused<R>(rt: &R, alloc: Global, file: &str) -> (Status, Vec<u8>, Vec<u8>)
 where
     R: Threads + Wait + Sync + time::Clock + Net<Listener = TcpListener, Stream = TcpStream>,
 {
     let mut out = Counted::new(Vec::new(alloc));
+    let mut err = Counted::new(Vec::new(alloc));
     let mut clock = SystemClock::new(rt);
-    let status = serve_file(rt, alloc, file.as_bytes(), &mut out, &mut clock);
-    (status, out.inner)
+    let status = serve_file(rt, alloc, file.as_bytes(), &mut out, &mut err, &mut clock);
+    (status, out.into_inner(), err.into_inner())
 }
 
 #[test]
@@ -119,25 +122,45 @@ fn busy_addresses_are_refused(rt: HostRuntime) -> Result<(), Fail> {
     let file = format!(in rt.alloc();
         "{{\"listen\":\"127.0.0.1:{port}\",\"workers\":1,\"connections\":1,\"services\":[{{\"name\":\"pay\"}}]}}"
     )?;
-    let (status, text) = refused(&rt, rt.alloc(), &file);
+    let (status, text, why) = refused(&rt, rt.alloc(), &file);
     same(&rt, status.code(), 1);
     same(&rt, text.as_slice(), b"refused 48 Listen\n".as_slice());
+    let told = format!(in rt.alloc(); "127.0.0.1:{port}: Address already in use (os error 98)\n")?;
+    same(&rt, why.as_slice(), told.as_bytes());
     Ok(())
 }
 
 #[test]
 fn files_that_cannot_be_used_are_refused(rt: HostRuntime) -> Result<(), Fail> {
-    let (status, text) = refused(&rt, rt.alloc(), "{}");
+    let (status, text, why) = refused(&rt, rt.alloc(), "{}");
     same(&rt, status.code(), 1);
     same(&rt, text.as_slice(), b"refused 47 BadConfig\n".as_slice());
+    same(
+        &rt,
+        why.as_slice(),
+        b"listen: the key is missing\n".as_slice(),
+    );
     let mut out = Counted::new(Vec::new(rt.alloc()));
+    let mut err = Counted::new(Vec::new(rt.alloc()));
     let mut clock = SystemClock::new(&rt);
-    let status = serve_path(&rt, rt.alloc(), "no such file", &mut out, &mut clock);
+    let status = serve_path(
+        &rt,
+        rt.alloc(),
+        "no such file",
+        &mut out,
+        &mut err,
+        &mut clock,
+    );
     same(&rt, status.code(), 1);
     same(
         &rt,
-        out.inner.as_slice(),
+        out.inner().as_slice(),
         b"refused 47 BadConfig\n".as_slice(),
+    );
+    same(
+        &rt,
+        err.inner().as_slice(),
+        b"no such file: No such file or directory (os error 2)\n".as_slice(),
     );
     Ok(())
 }

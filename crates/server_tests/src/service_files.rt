@@ -1,11 +1,18 @@
 //! Files by hand.
 use crate::checks::{is_true, is_true_at, same, same_at};
+use config_mistakes::{config_mistake, file_mistake};
+use requests::config;
 use service_file::{Settings, read_settings};
 use std::alloc::{AllocError, Global};
 use std::process::Abort;
+use texts::json;
 
+/// Reads a file's text. A mistake is found in it exactly where it can't be used.
 fn read(rt: &impl Abort, alloc: Global, text: &str) -> Option<Settings> {
-    read_settings(alloc, text.as_bytes()).expect(rt, "ample memory")
+    let settings = read_settings(alloc, text.as_bytes()).expect(rt, "ample memory");
+    let mistake = file_mistake(alloc, text.as_bytes()).expect(rt, "ample memory");
+    is_true_at(rt, mistake.is_some() == settings.is_none(), text);
+    settings
 }
 
 /// A service of a file: its name, the size of its window, and the budget of its program.
@@ -41,6 +48,65 @@ fn addresses_may_be_of_version_6(rt: HostRuntime) {
     let settings = read(&rt, rt.alloc(), text).expect(&rt, "a file");
     is_true(&rt, settings.listen.is_ipv6());
     same(&rt, settings.connections, u64::MAX);
+}
+
+/// A key of a configuration, its least and its greatest value, and what stands before it in the object.
+type Range<'a> = (&'a str, u64, u64, &'a str);
+
+/// Whether a configuration with this value can be used. A mistake is found in it exactly where it can't.
+fn is_config(rt: &impl Abort, alloc: Global, range: Range<'_>, value: u64) -> bool {
+    let (key, _, _, before) = range;
+    let text = format!(in alloc; "{{{before}\"{key}\":{value}}}").expect(rt, "ample memory");
+    let parsed = json(alloc, text.as_bytes())
+        .expect(rt, "ample memory")
+        .expect(rt, "JSON");
+    let is_good = config(&parsed).is_some();
+    let mistake = config_mistake(alloc, text.as_bytes()).expect(rt, "ample memory");
+    is_true_at(rt, mistake.is_none() == is_good, text);
+    is_good
+}
+
+/// Both ends of each range can be used, and what lies next to them can't.
+fn are_ranges(rt: &impl Abort, alloc: Global, ranges: &[Range<'_>]) {
+    for range in ranges {
+        let (key, least, most, _) = *range;
+        is_true_at(rt, is_config(rt, alloc, *range, least), key);
+        is_true_at(rt, is_config(rt, alloc, *range, most), key);
+        is_true_at(
+            rt,
+            !is_config(rt, alloc, *range, most.saturating_add(1)),
+            key,
+        );
+        if least > 0 {
+            is_true_at(rt, !is_config(rt, alloc, *range, 0), key);
+        }
+    }
+}
+
+#[test]
+fn mistakes_of_configurations_are_found(rt: HostRuntime) {
+    are_ranges(
+        &rt,
+        rt.alloc(),
+        &[
+            ("failureRateThreshold", 1, 100, ""),
+            ("slowCallRateThreshold", 1, 100, ""),
+            ("slowCallDurationThreshold", 1, 1 << 32, ""),
+            ("permittedNumberOfCallsInHalfOpenState", 1, 10_000, ""),
+            ("maxWaitDurationInHalfOpenState", 0, 0, ""),
+            ("slidingWindowSize", 1, 10_000, ""),
+            (
+                "slidingWindowSize",
+                1,
+                3_600,
+                "\"slidingWindowType\":\"TIME_BASED\",",
+            ),
+            ("minimumNumberOfCalls", 1, 1_000_000, ""),
+            ("waitDurationInOpenState", 1, 1 << 40, ""),
+            ("maxConcurrentCalls", 1, 10_000, ""),
+            ("maxWaitDuration", 0, 0, ""),
+        ],
+    );
 }
 
 /// Texts that are no files.

@@ -86,3 +86,21 @@ fn refused_calls_are_unavailable(rt: HostRuntime) {
     let input = ACQUIRE.as_bytes();
     is_answered(&rt, alloc, &mut books, input, text, Ended::Closed);
 }
+
+#[test]
+fn journals_are_rolled(rt: HostRuntime) {
+    let alloc = rt.alloc();
+    let mut books = pay(&rt, alloc);
+    let roll = "POST /v1/services/pay/roll HTTP/1.1\r\nContent-Length: 8\r\n\r\n{\"to\":1}";
+    let input = joined(&rt, alloc, &[ACQUIRE, roll, roll, JOURNAL]);
+    let one =
+        "HTTP/1.1 200 OK\r\nContent-Type: application/json\r\nContent-Length: 13\r\n\r\n{\"entries\":1}";
+    let none =
+        "HTTP/1.1 200 OK\r\nContent-Type: application/json\r\nContent-Length: 13\r\n\r\n{\"entries\":0}";
+    let page =
+        "HTTP/1.1 200 OK\r\nContent-Type: application/json\r\nContent-Length: 23\r\n\r\n{\"entries\":[],\"next\":1}";
+    let text = joined(&rt, alloc, &[ACQUIRED, one, none, page]);
+    let input = input.as_bytes();
+    is_answered(&rt, alloc, &mut books, input, &text, Ended::Closed);
+    same(&rt, version(&books), 1);
+}

@@ -100,8 +100,8 @@ fn is_served(rt: &(impl Wait + Abort), alloc: Global, input: Input<'_>, wanted: 
         &mut clock,
     );
     same(rt, asked.times, clock.times);
-    same_at(rt, writer.inner.inner.as_slice(), text, input.bytes);
-    let failed = reader.failures.saturating_add(writer.failures);
+    same_at(rt, writer.inner().inner.as_slice(), text, input.bytes);
+    let failed = reader.failures().saturating_add(writer.failures());
     same_at(
         rt,
         (ended, asked.times, failed),
