@@ -1,5 +1,5 @@
 -- Every refusal that the machine replies with has an HTTP status.
-use Rattle.std.proofs.Common.{◌≡◌, ℕ, ◌+◌, nat_le, true, false, cond, length, Some, None, refl}
+use Rattle.std.proofs.Common.{◌≡◌, ℕ, ◌+◌, ◌-◌, nat_le, true, false, cond, length, Some, None, refl}
 use Rattle.refusals.specs.declared.RefusalNumber.TheVariants as refusal
 use Rattle.bpf_profile.specs.JudgedWork.{JudgedData}
 use Rattle.bpf_profile.specs.Programs.{VerifiedProgram}
@@ -44,7 +44,7 @@ released_has s ticket =
 
 installed_has : (s : Situation) (program : VerifiedProgram) → has_status (installed s program).reply ≡ true
 installed_has s program =
-    elim (nat_le most_versions (length s.programs))
+    elim (nat_le most_versions (length s.programs - s.dropped))
     as (λ b. has_status (cond b (refused s.standing refusal.VersionsFull) (record { reply = reply.Installed (s.first_version + length s.programs) program.budget; next = s.standing })).reply ≡ true)
     [ true ↦ refl | false ↦ refl ]
 

@@ -13,8 +13,8 @@ use Rattle.refusals.specs.declared.RefusalNumber.TheVariants as refusal
 use Rattle.service_profile.specs.declared.replies.Reply.TheVariants as reply
 use Rattle.service_profile.specs.Limits.{most_entries}
 use Rattle.service_profile.specs.Answers.{answer, line_of, with_line, IsApplied, as_documented, out_of_memory}
-use Rattle.service_profile.specs.Events.{EventData, EntryData, History, Opening}
-use Rattle.book.specs.Books.{IsBook, opening_of, journal}
+use Rattle.service_profile.specs.Events.{EventData, EntryData, Rolled, History, Opening}
+use Rattle.book.specs.Books.{IsBook, opening_of, journal, rolled_of}
 use Rattle.service_profile.specs.Machine.{is_refused_call, Situation, decision, is_entered}
 use Rattle.book.specs.Following.{followed, refused_after, situation_after}
 use Rattle.service_profile.specs.Histories.{Stage, Past, note_at, taken_in, install_by, situation_of, machine, opened, passed, past_of, greatest, raised, next_line, refused_of, Follows, AreLegal, IsLegal}
@@ -32,6 +32,7 @@ use Rattle.book.proofs.Effected.{before_then, effects_there, few_there, notes_be
 use Rattle.windows.specs.Notes.{AreNotAfter}
 use Rattle.book.proofs.Keeping.{situated_step, sound_step, room_step}
 use Rattle.book.proofs.Lists.{length_filter_le}
+use Rattle.book.proofs.Versions.{dropped_told}
 use Rattle.book.proofs.Passing.{refused_step, greatest_step}
 
 -- ---- lines and stages
@@ -44,27 +45,30 @@ opening_kept : (past : Past) (lines : List EntryData) → (fold passed past line
 opening_kept past [] = refl
 opening_kept past (l ∷ lines) = opening_kept (passed past l) lines
 
-pub stage_count : (opening : Opening) (lines : List EntryData) (rolled : ℕ) → length (past_of (journal opening lines rolled)).stages ≡ length lines
+pub stage_count : (opening : Opening) (lines : List EntryData) (rolled : Rolled) → length (past_of (journal opening lines rolled)).stages ≡ length lines
 stage_count opening lines rolled = let all = stages_of (opened rolled opening) lines in omega (arith, all)
 
-pub same_opening : (opening : Opening) (lines : List EntryData) (rolled : ℕ) → (past_of (journal opening lines rolled)).opening ≡ opening
+pub same_opening : (opening : Opening) (lines : List EntryData) (rolled : Rolled) → (past_of (journal opening lines rolled)).opening ≡ opening
 same_opening opening lines rolled = opening_kept (opened rolled opening) lines
 
 rolled_kept : (past : Past) (lines : List EntryData) → (fold passed past lines).rolled ≡ past.rolled
 rolled_kept past [] = refl
 rolled_kept past (l ∷ lines) = rolled_kept (passed past l) lines
 
-pub same_rolled : (opening : Opening) (lines : List EntryData) (rolled : ℕ) → (past_of (journal opening lines rolled)).rolled ≡ rolled
+pub same_rolled : (opening : Opening) (lines : List EntryData) (rolled : Rolled) → (past_of (journal opening lines rolled)).rolled ≡ rolled
 same_rolled opening lines rolled = rolled_kept (opened rolled opening) lines
 
-pub past_with : (opening : Opening) (lines : List EntryData) (rolled : ℕ) (l : EntryData) → past_of (journal opening (lines ++ l ∷ []) rolled) ≡ passed (past_of (journal opening lines rolled)) l
+pub same_lines : (opening : Opening) (lines : List EntryData) (rolled : Rolled) → (past_of (journal opening lines rolled)).rolled.lines ≡ rolled.lines
+same_lines opening lines rolled = ap (λ (r : Rolled). r.lines) (same_rolled opening lines rolled)
+
+pub past_with : (opening : Opening) (lines : List EntryData) (rolled : Rolled) (l : EntryData) → past_of (journal opening (lines ++ l ∷ []) rolled) ≡ passed (past_of (journal opening lines rolled)) l
 past_with opening lines rolled l = fold-append passed (opened rolled opening) lines (l ∷ [])
 
 legal_with : (past : Past) (lines : List EntryData) (l : EntryData) → AreLegal past lines → Follows (fold passed past lines) l → AreLegal past (lines ++ l ∷ [])
 legal_with past [] l legal follows = (follows, tt)
 legal_with past (m ∷ lines) l legal follows = (legal.0, legal_with (passed past m) lines l legal.1 follows)
 
-pub legal_step : (opening : Opening) (lines : List EntryData) (rolled : ℕ) (l : EntryData) → IsLegal (journal opening lines rolled) → Follows (past_of (journal opening lines rolled)) l → IsLegal (journal opening (lines ++ l ∷ []) rolled)
+pub legal_step : (opening : Opening) (lines : List EntryData) (rolled : Rolled) (l : EntryData) → IsLegal (journal opening lines rolled) → Follows (past_of (journal opening lines rolled)) l → IsLegal (journal opening (lines ++ l ∷ []) rolled)
 unfolding IsLegal
 legal_step opening lines rolled l legal follows = legal_with (opened rolled opening) lines l legal follows
 
@@ -78,7 +82,7 @@ fewer_mapped f (x ∷ xs) = fewer_head (f x) (filter_map f xs) (length xs) (fewe
 
 -- ---- the situation that a book's parts stand for
 
-orderly_there : (opening : Opening) (service : Service) (moment : ℕ) (lines : List EntryData) (rolled : ℕ) → IsBook opening service moment lines rolled → IsOrderly (situation_of (past_of (journal opening lines rolled)))
+orderly_there : (opening : Opening) (service : Service) (moment : ℕ) (lines : List EntryData) (rolled : Rolled) → IsBook opening service moment lines rolled → IsOrderly (situation_of (past_of (journal opening lines rolled)))
 orderly_there opening service moment lines rolled book =
     let past : Past = past_of (journal opening lines rolled) in
     let few = book.sound.used in
@@ -90,20 +94,20 @@ orderly_there opening service moment lines rolled book =
       notes = omega (arith, mapped, taken, few, book.room.line);
       tickets = omega (arith, few);
       next = omega (arith, book.room.ticket, few);
-      versions = omega (arith, book.sound.opening.version, book.sound.versions);
+      versions = omega (arith, few, book.room.version);
     }
 
-pub situated : (opening : Opening) (service : Service) (moment : ℕ) (lines : List EntryData) (rolled : ℕ) → IsBook opening service moment lines rolled → HasSituation service
+pub situated : (opening : Opening) (service : Service) (moment : ℕ) (lines : List EntryData) (rolled : Rolled) → IsBook opening service moment lines rolled → HasSituation service
 situated opening service moment lines rolled book =
     record {
-      held = length lines - rolled;
+      held = length lines - rolled.lines;
       situation = situation_of (past_of (journal opening lines rolled));
       stands = book.situated;
       orderly = orderly_there opening service moment lines rolled book;
     }
 
 -- a raised moment is not before a note
-pub notes_there : (opening : Opening) (service : Service) (moment raw now : ℕ) (lines : List EntryData) (rolled : ℕ) → IsBook opening service moment lines rolled → now ≡ max raw moment → AreNotAfter now (situation_of (past_of (journal opening lines rolled))).notes
+pub notes_there : (opening : Opening) (service : Service) (moment raw now : ℕ) (lines : List EntryData) (rolled : Rolled) → IsBook opening service moment lines rolled → now ≡ max raw moment → AreNotAfter now (situation_of (past_of (journal opening lines rolled))).notes
 notes_there opening service moment raw now lines rolled book raised_ =
     let past : Past = past_of (journal opening lines rolled) in
     before_then (greatest past) now (situation_of past).notes (omega (arith, raised_, book.greatest_moment, le-max_right raw moment)) (notes_before past)
@@ -134,7 +138,7 @@ effects_so config moment event d plan e = ap (λ (p : Plan). p.effects) e ∙ ap
 -- ---- the book after a line
 
 -- the line that the code writes is the one that follows
-pub follows_there : (opening : Opening) (service : Service) (moment : ℕ) (lines : List EntryData) (rolled : ℕ) (number seat raw now : ℕ) (e : Event) (d : Decision)
+pub follows_there : (opening : Opening) (service : Service) (moment : ℕ) (lines : List EntryData) (rolled : Rolled) (number seat raw now : ℕ) (e : Event) (d : Decision)
     → IsBook opening service moment lines rolled → number ≡ opening.line + length lines → now ≡ max raw moment → d ≡ decision (situation_of (past_of (journal opening lines rolled))) now (seen e) → is_entered d.reply ≡ true
     → Follows (past_of (journal opening lines rolled)) (line number seat (seen e) now d.reply)
 follows_there opening service moment lines rolled number seat raw now e d book numbered raised_ decided entered =
@@ -145,9 +149,9 @@ follows_there opening service moment lines rolled number seat raw now e d book n
       entered = entered;
     }
 
-pub book_step : (opening : Opening) (service after : Service) (moment : ℕ) (lines : List EntryData) (rolled : ℕ) (number seat raw now : ℕ) (e : Event) (d : Decision)
+pub book_step : (opening : Opening) (service after : Service) (moment : ℕ) (lines : List EntryData) (rolled : Rolled) (number seat raw now : ℕ) (e : Event) (d : Decision)
     → IsBook opening service moment lines rolled → number ≡ opening.line + length lines → now ≡ max raw moment → d ≡ decision (situation_of (past_of (journal opening lines rolled))) now (seen e) → is_entered d.reply ≡ true → now < 2 ^ 64 → seat < 2 ^ 32
-    → IsSafeEvent (seen e) → StandsFor after (length lines - rolled + 1) (situation_after (situation_of (past_of (journal opening lines rolled))) (line number seat (seen e) now d.reply) d.next)
+    → IsSafeEvent (seen e) → StandsFor after (length lines - rolled.lines + 1) (situation_after (situation_of (past_of (journal opening lines rolled))) (line number seat (seen e) now d.reply) d.next)
     → after.refused ≡ refused_after (past_of (journal opening lines rolled)).standing d.next service.refused (is_refused_call d.reply)
     → IsBook opening after now (lines ++ line number seat (seen e) now d.reply ∷ []) rolled
 book_step opening service after moment lines rolled number seat raw now e d book numbered raised_ decided entered word bits safe_ stands_ refused_ =
@@ -158,7 +162,7 @@ book_step opening service after moment lines rolled number seat raw now e d book
     let with_ = past_with opening lines rolled l in
     let near = decision_near (situation_of past) now (seen e) in
     let stage : Stage = record { line = l; before = past.standing; after = (machine past now (seen e)).next } in
-    let held_there : past.rolled ≤ length past.stages = omega (arith, book.there, stage_count opening lines rolled, same_rolled opening lines rolled) in
+    let held_there : past.rolled.lines ≤ length past.stages = omega (arith, book.there, stage_count opening lines rolled, same_lines opening lines rolled) in
     let there : situation_after (situation_of past) l d.next ≡ situation_of (past_of (journal opening (lines ++ l ∷ []) rolled)) =
     ap (λ (n : Standing). situation_after (situation_of past) l n) next ∙ sym (situated_step past l book.sound held_there follows) ∙ ap situation_of (sym with_) in
     record {
@@ -166,36 +170,36 @@ book_step opening service after moment lines rolled number seat raw now e d book
       sound = subst (λ (p : Past). IsSound p) (sym with_) (sound_step past l book.sound follows (record { word = word; seat = bits; event = safe_ }));
       there = omega (arith, book.there, length-append lines (l ∷ []));
       room = subst (λ (p : Past). LeavesRoom p) (sym with_) (room_step past l book.sound held_there follows book.room);
-      situated = subst (λ (n : ℕ). StandsFor after n (situation_of (past_of (journal opening (lines ++ l ∷ []) rolled)))) (omega (arith, book.there, length-append lines (l ∷ []))) (subst (λ (s : Situation). StandsFor after (length lines - rolled + 1) s) there stands_);
+      situated = subst (λ (n : ℕ). StandsFor after n (situation_of (past_of (journal opening (lines ++ l ∷ []) rolled)))) (omega (arith, book.there, length-append lines (l ∷ []))) (subst (λ (s : Situation). StandsFor after (length lines - rolled.lines + 1) s) there stands_);
       refused_calls = refused_ ∙ ap (λ (n : Standing). refused_after past.standing n service.refused (is_refused_call d.reply)) next ∙ ap (λ (n : ℕ). refused_after past.standing (machine past now (seen e)).next n (is_refused_call d.reply)) book.refused_calls ∙ sym (refused_step past.stages stage book.sound.periods near.least) ∙ ap refused_of (sym with_);
       greatest_moment = sym (greatest_step past.opening.moment past.stages stage follows.raises) ∙ ap greatest (sym with_);
     }
 
 -- parts that stand for the same are those of the same book
-pub book_kept : (opening : Opening) (service after : Service) (moment : ℕ) (lines : List EntryData) (rolled : ℕ) → IsBook opening service moment lines rolled
+pub book_kept : (opening : Opening) (service after : Service) (moment : ℕ) (lines : List EntryData) (rolled : Rolled) → IsBook opening service moment lines rolled
     → ((held : ℕ) (s : Situation) → StandsFor service held s → StandsFor after held s) → after.refused ≡ service.refused → IsBook opening after moment lines rolled
 book_kept opening service after moment lines rolled book stands_ refused_ = record {
   legal = book.legal;
   sound = book.sound;
   there = book.there;
   room = book.room;
-  situated = stands_ (length lines - rolled) (situation_of (past_of (journal opening lines rolled))) book.situated;
+  situated = stands_ (length lines - rolled.lines) (situation_of (past_of (journal opening lines rolled))) book.situated;
   refused_calls = refused_ ∙ book.refused_calls;
   greatest_moment = book.greatest_moment;
 }
 
 -- what a plan changes
-pub plan_effects : (opening : Opening) (service : Service) (moment : ℕ) (lines : List EntryData) (rolled : ℕ) (now : ℕ) (e : EventData) (plan : Plan) → IsBook opening service moment lines rolled
+pub plan_effects : (opening : Opening) (service : Service) (moment : ℕ) (lines : List EntryData) (rolled : Rolled) (now : ℕ) (e : EventData) (plan : Plan) → IsBook opening service moment lines rolled
     → plan ≡ planned service.config now e (decision (situation_of (past_of (journal opening lines rolled))) now e) → plan.effects ≡ effects_of (situation_of (past_of (journal opening lines rolled))).config now e plan.decision
 plan_effects opening service moment lines rolled now e plan book planned_ =
     let s : Situation = situation_of (past_of (journal opening lines rolled)) in
     effects_so service.config now e (decision s now e) plan planned_ ∙ ap (λ (parts : ConfigParts). effects_of parts now e plan.decision) (sym book.situated.configured)
 
-pub plan_installs : (opening : Opening) (service : Service) (moment : ℕ) (lines : List EntryData) (rolled : ℕ) (now : ℕ) (e : EventData) (plan : Plan) → IsBook opening service moment lines rolled
+pub plan_installs : (opening : Opening) (service : Service) (moment : ℕ) (lines : List EntryData) (rolled : Rolled) (now : ℕ) (e : EventData) (plan : Plan) → IsBook opening service moment lines rolled
     → plan ≡ planned service.config now e (decision (situation_of (past_of (journal opening lines rolled))) now e) → plan.effects.installs ≡ is_some (install_by e plan.decision.reply)
 plan_installs opening service moment lines rolled now e plan book planned_ = ap (λ (x : Effects). x.installs) (plan_effects opening service moment lines rolled now e plan book planned_)
 
-plan_changes : (opening : Opening) (service : Service) (moment : ℕ) (lines : List EntryData) (rolled : ℕ) (raw now : ℕ) (e : EventData) (plan : Plan) → IsBook opening service moment lines rolled → now ≡ max raw moment
+plan_changes : (opening : Opening) (service : Service) (moment : ℕ) (lines : List EntryData) (rolled : Rolled) (raw now : ℕ) (e : EventData) (plan : Plan) → IsBook opening service moment lines rolled → now ≡ max raw moment
     → plan ≡ planned service.config now e (decision (situation_of (past_of (journal opening lines rolled))) now e) → AreEffects (situation_of (past_of (journal opening lines rolled))) plan.decision.next plan.effects
 plan_changes opening service moment lines rolled raw now e plan book raised_ planned_ =
     let past : Past = past_of (journal opening lines rolled) in
@@ -206,13 +210,13 @@ plan_changes opening service moment lines rolled raw now e plan book raised_ pla
     (subst (λ (d : Decision). AreEffects s d.next (effects_of s.config now e d)) (sym decided) there)
 
 -- a book can go on as planned
-pub can_follow : (opening : Opening) (service : Service) (moment : ℕ) (lines : List EntryData) (rolled : ℕ) (raw now : ℕ) (e : EventData) (plan : Plan) → IsBook opening service moment lines rolled → now ≡ max raw moment
+pub can_follow : (opening : Opening) (service : Service) (moment : ℕ) (lines : List EntryData) (rolled : Rolled) (raw now : ℕ) (e : EventData) (plan : Plan) → IsBook opening service moment lines rolled → now ≡ max raw moment
     → plan ≡ planned service.config now e (decision (situation_of (past_of (journal opening lines rolled))) now e) → CanFollow service plan.decision.next plan.effects (install_by e plan.decision.reply)
 can_follow opening service moment lines rolled raw now e plan book raised_ planned_ =
     let past : Past = past_of (journal opening lines rolled) in
     let decided = decided_so service.config now e (decision (situation_of past) now e) plan planned_ in
     record {
-      held = length lines - rolled;
+      held = length lines - rolled.lines;
       situation = situation_of past;
       stands = book.situated;
       orderly = orderly_there opening service moment lines rolled book;
@@ -221,7 +225,7 @@ can_follow opening service moment lines rolled raw now e plan book raised_ plann
     }
 
 -- the parts after a plan are those of the book with its line
-pub taken_there : (start : Start) (service after : Service) (moment : ℕ) (lines entries : List EntryData) (rolled : ℕ) (number seat raw now : ℕ) (e : Event) (plan : Plan)
+pub taken_there : (start : Start) (service after : Service) (moment : ℕ) (lines entries : List EntryData) (rolled : Rolled) (number seat raw now : ℕ) (e : Event) (plan : Plan)
     → IsBook (opening_of service.config start) service moment lines rolled → number ≡ start.line + length lines → now ≡ max raw moment
     → plan ≡ planned service.config now (seen e) (decision (situation_of (past_of (journal (opening_of service.config start) lines rolled))) now (seen e)) → is_entered plan.decision.reply ≡ true → now < 2 ^ 64 → seat < 2 ^ 32 → IsSafeEvent (seen e)
     → ((held : ℕ) (s : Situation) → StandsFor service held s → IsOrderly s → AreEffects s plan.decision.next plan.effects → StandsFor after (held + 1) (followed s plan.decision.next plan.effects (install_by (seen e) plan.decision.reply)))
@@ -234,27 +238,40 @@ taken_there start service after moment lines entries rolled number seat raw now 
     let d : Decision = plan.decision in
     let decided = decided_so service.config now (seen e) (decision s now (seen e)) plan planned_ in
     let effects = plan_effects opening service moment lines rolled now (seen e) plan book planned_ in
-    let there : StandsFor after (length lines - rolled + 1) (followed s d.next plan.effects (install_by (seen e) d.reply)) =
-    stands_ (length lines - rolled) s book.situated (orderly_there opening service moment lines rolled book) (plan_changes opening service moment lines rolled raw now (seen e) plan book raised_ planned_) in
+    let there : StandsFor after (length lines - rolled.lines + 1) (followed s d.next plan.effects (install_by (seen e) d.reply)) =
+    stands_ (length lines - rolled.lines) s book.situated (orderly_there opening service moment lines rolled book) (plan_changes opening service moment lines rolled raw now (seen e) plan book raised_ planned_) in
     let refuses_ : plan.effects.refuses_call ≡ is_refused_call d.reply = ap (λ (x : Effects). x.refuses_call) effects in
     let step = book_step opening service after moment lines rolled number seat raw now e d book numbered raised_ decided entered word bits safe_
-    (subst (λ (x : Effects). StandsFor after (length lines - rolled + 1) (followed s d.next x (install_by (seen e) d.reply))) effects there)
-    (refused_ (length lines - rolled) s book.situated ∙ ap (refused_after s.standing d.next service.refused) refuses_) in
+    (subst (λ (x : Effects). StandsFor after (length lines - rolled.lines + 1) (followed s d.next x (install_by (seen e) d.reply))) effects there)
+    (refused_ (length lines - rolled.lines) s book.situated ∙ ap (refused_after s.standing d.next service.refused) refuses_) in
     subst (λ (ls : List EntryData). IsBook (opening_of after.config start) after now ls rolled) (sym all)
     (subst (λ (parts : ConfigParts). IsBook (opening_of parts start) after now (lines ++ line number seat (seen e) now d.reply ∷ []) rolled) (sym same) step)
 
-pub kept_there : (start : Start) (service after : Service) (moment : ℕ) (lines entries : List EntryData) (rolled : ℕ) → IsBook (opening_of service.config start) service moment lines rolled
+pub kept_there : (start : Start) (service after : Service) (moment : ℕ) (lines entries : List EntryData) (rolled : Rolled) → IsBook (opening_of service.config start) service moment lines rolled
     → ((held : ℕ) (s : Situation) → StandsFor service held s → StandsFor after held s) → after.refused ≡ service.refused → after.config ≡ service.config → entries ≡ lines → IsBook (opening_of after.config start) after moment entries rolled
 kept_there start service after moment lines entries rolled book stands_ refused_ same all =
     subst (λ (ls : List EntryData). IsBook (opening_of after.config start) after moment ls rolled) (sym all)
     (subst (λ (parts : ConfigParts). IsBook (opening_of parts start) after moment lines rolled) (sym same) (book_kept (opening_of service.config start) service after moment lines rolled book stands_ refused_))
+
+-- the first version that a book holds says how many programs were dropped
+pub rolled_is : (config : ConfigParts) (start : Start) (service : Service) (moment : ℕ) (lines : List EntryData) (rolled : Rolled) → IsBook (opening_of config start) service moment lines rolled → rolled ≡ rolled_of rolled.lines service start
+rolled_is config start service moment lines rolled book =
+    let opening : Opening = opening_of config start in
+    let s : Situation = situation_of (past_of (journal opening lines rolled)) in
+    let told = dropped_told service.registry s start.version book.situated.registered (ap (λ (o : Opening). o.version) (same_opening opening lines rolled)) in
+    let programs : service.registry.first_version - start.version ≡ rolled.programs = told ∙ ap (λ (r : Rolled). r.programs) (same_rolled opening lines rolled) in
+    ap (λ (n : ℕ). record { lines = rolled.lines; programs = n }) (sym programs)
+
+pub book_told : (config : ConfigParts) (start : Start) (service : Service) (moment : ℕ) (lines : List EntryData) (rolled : Rolled) → IsBook (opening_of config start) service moment lines rolled
+    → IsBook (opening_of config start) service moment lines (rolled_of rolled.lines service start)
+book_told config start service moment lines rolled book = subst (λ (r : Rolled). IsBook (opening_of config start) service moment lines r) (rolled_is config start service moment lines rolled book) book
 
 chosen_true : {A : Type 0} (b : Bool) (x y : A) → b ≡ true → (if b then x else y) ≡ x
 chosen_true true x y e = refl
 chosen_true false x y e = let bad : ◌≡◌ {A = Bool} false true = e in cc
 
 -- the history after is the documented one
-pub applied_there : (opening : Opening) (service : Service) (moment : ℕ) (lines : List EntryData) (rolled : ℕ) (number seat raw now : ℕ) (e : Event) (d : Decision)
+pub applied_there : (opening : Opening) (service : Service) (moment : ℕ) (lines : List EntryData) (rolled : Rolled) (number seat raw now : ℕ) (e : Event) (d : Decision)
     → IsBook opening service moment lines rolled → number ≡ opening.line + length lines → now ≡ max raw moment → d ≡ decision (situation_of (past_of (journal opening lines rolled))) now (seen e) → is_entered d.reply ≡ true
     → IsApplied (journal opening lines rolled) seat raw (seen e) d.reply (journal opening (lines ++ line number seat (seen e) now d.reply ∷ []) rolled)
 applied_there opening service moment lines rolled number seat raw now e d book numbered raised_ decided entered =
@@ -273,13 +290,13 @@ chosen_false : {A : Type 0} (b : Bool) (x y : A) → b ≡ false → (if b then 
 chosen_false false x y e = refl
 chosen_false true x y e = let bad : ◌≡◌ {A = Bool} true false = e in cc
 
-documented : (opening : Opening) (service : Service) (moment : ℕ) (lines : List EntryData) (rolled : ℕ) (raw now : ℕ) (e : EventData) (d : Decision) → IsBook opening service moment lines rolled → now ≡ max raw moment
+documented : (opening : Opening) (service : Service) (moment : ℕ) (lines : List EntryData) (rolled : Rolled) (raw now : ℕ) (e : EventData) (d : Decision) → IsBook opening service moment lines rolled → now ≡ max raw moment
     → d ≡ decision (situation_of (past_of (journal opening lines rolled))) now e → d ≡ answer (journal opening lines rolled) raw e
 documented opening service moment lines rolled raw now e d book raised_ decided =
     decided ∙ ap (λ (m : ℕ). machine (past_of (journal opening lines rolled)) m e) (raised_ ∙ ap (λ (m : ℕ). max raw m) book.greatest_moment)
 
 -- a reply that isn't entered leaves the history
-pub unentered_there : (opening : Opening) (service : Service) (moment : ℕ) (lines : List EntryData) (rolled : ℕ) (seat raw now : ℕ) (e : EventData) (d : Decision) → IsBook opening service moment lines rolled → now ≡ max raw moment
+pub unentered_there : (opening : Opening) (service : Service) (moment : ℕ) (lines : List EntryData) (rolled : Rolled) (seat raw now : ℕ) (e : EventData) (d : Decision) → IsBook opening service moment lines rolled → now ≡ max raw moment
     → d ≡ decision (situation_of (past_of (journal opening lines rolled))) now e → is_entered d.reply ≡ false → IsApplied (journal opening lines rolled) seat raw e d.reply (journal opening lines rolled)
 unentered_there opening service moment lines rolled seat raw now e d book raised_ decided none =
     let history : History = journal opening lines rolled in
@@ -288,7 +305,7 @@ unentered_there opening service moment lines rolled seat raw now e d book raised
     as_documented (ap (λ (x : Decision). x.reply) same) (sym (chosen_false (is_entered (answer history raw e).reply) (with_line history (line_of history seat raw e)) history unentered))
 
 -- without memory the history stays, where a line would have come
-pub lacking_there : (opening : Opening) (service : Service) (moment : ℕ) (lines : List EntryData) (rolled : ℕ) (seat raw now : ℕ) (e : EventData) (d : Decision) → IsBook opening service moment lines rolled → now ≡ max raw moment
+pub lacking_there : (opening : Opening) (service : Service) (moment : ℕ) (lines : List EntryData) (rolled : Rolled) (seat raw now : ℕ) (e : EventData) (d : Decision) → IsBook opening service moment lines rolled → now ≡ max raw moment
     → d ≡ decision (situation_of (past_of (journal opening lines rolled))) now e → is_entered d.reply ≡ true → IsApplied (journal opening lines rolled) seat raw e (reply.Refused refusal.ServiceOutOfMemory) (journal opening lines rolled)
 lacking_there opening service moment lines rolled seat raw now e d book raised_ decided entered =
     let same = documented opening service moment lines rolled raw now e d book raised_ decided in
@@ -296,20 +313,20 @@ lacking_there opening service moment lines rolled seat raw now e d book raised_ 
 
 -- ---- numbers that fit
 
-pub line_fits : (opening : Opening) (service : Service) (moment : ℕ) (lines : List EntryData) (rolled : ℕ) → IsBook opening service moment lines rolled → opening.line + length lines < 2 ^ 64
+pub line_fits : (opening : Opening) (service : Service) (moment : ℕ) (lines : List EntryData) (rolled : Rolled) → IsBook opening service moment lines rolled → opening.line + length lines < 2 ^ 64
 line_fits opening service moment lines rolled book =
     omega (arith, stage_count opening lines rolled, book.sound.used, book.room.line, ap (λ (o : Opening). o.line) (same_opening opening lines rolled))
 
-pub refused_fits : (opening : Opening) (service : Service) (moment : ℕ) (lines : List EntryData) (rolled : ℕ) → IsBook opening service moment lines rolled → service.refused + 1 < 2 ^ 64
+pub refused_fits : (opening : Opening) (service : Service) (moment : ℕ) (lines : List EntryData) (rolled : Rolled) → IsBook opening service moment lines rolled → service.refused + 1 < 2 ^ 64
 refused_fits opening service moment lines rolled book =
     let past : Past = past_of (journal opening lines rolled) in
     let fewer = length_filter_le (λ (stage : Stage). (stage.after.period == past.standing.period) && is_refused_call stage.line.reply) past.stages in
     omega (arith, book.refused_calls, fewer, book.sound.used, book.room.line)
 
-pub held_fits : (opening : Opening) (service : Service) (moment : ℕ) (lines : List EntryData) (rolled : ℕ) → IsBook opening service moment lines rolled → length lines - rolled ≤ most_entries
-held_fits opening service moment lines rolled book = omega (arith, stage_count opening lines rolled, same_rolled opening lines rolled, book.sound.used)
+pub held_fits : (opening : Opening) (service : Service) (moment : ℕ) (lines : List EntryData) (rolled : Rolled) → IsBook opening service moment lines rolled → length lines - rolled.lines ≤ most_entries
+held_fits opening service moment lines rolled book = omega (arith, stage_count opening lines rolled, same_lines opening lines rolled, book.sound.used)
 
-pub word_there : (opening : Opening) (service : Service) (moment : ℕ) (lines : List EntryData) (rolled : ℕ) (raw now : ℕ) → IsBook opening service moment lines rolled → raw < 2 ^ 64 → now ≡ max raw moment → now < 2 ^ 64
+pub word_there : (opening : Opening) (service : Service) (moment : ℕ) (lines : List EntryData) (rolled : Rolled) (raw now : ℕ) → IsBook opening service moment lines rolled → raw < 2 ^ 64 → now ≡ max raw moment → now < 2 ^ 64
 word_there opening service moment lines rolled raw now book word is =
     let bound : max raw moment ≤ 18446744073709551615 = max-le (omega (arith, word)) (omega (arith, book.greatest_moment, book.sound.moment)) in
     omega (arith, is, bound)

@@ -6,7 +6,7 @@ use Rattle.bpf_profile.specs.Programs.{VerifiedProgram}
 use Rattle.refusals.specs.declared.RefusalNumber.TheVariants as refusal
 use Rattle.service_profile.specs.declared.tickets.OpenTicket.{OpenTicket}
 use Rattle.service_profile.specs.Answers.{last_of, current_program, is_past_the_limit, is_worn_out, is_some_open, reopened, cut}
-use Rattle.service_profile.specs.Events.{EntryData, Opening}
+use Rattle.service_profile.specs.Events.{EntryData, Opening, Rolled}
 use Rattle.service_profile.specs.Histories.{Past, past_of, situation_of, install_at, next_line}
 use Rattle.service_profile.specs.Machine.{Situation, current_version, program_from}
 use Rattle.service_profile.specs.declared.configuration.ConfigParts.{ConfigParts}
@@ -21,7 +21,7 @@ use Rattle.book.proofs.Worlds.{reopened_opening}
 abbrev pub worn_by : ℕ → Situation → Bool
 worn_by line s = is_past_the_limit line || (is_past_the_limit s.next_ticket || (is_past_the_limit (suc s.standing.period) || is_past_the_limit (suc (current_version s))))
 
-pub worn_is : (opening : Opening) (lines : List EntryData) (rolled : ℕ) → worn_by (opening.line + length lines) (situation_of (past_of (journal opening lines rolled))) ≡ is_worn_out (past_of (journal opening lines rolled))
+pub worn_is : (opening : Opening) (lines : List EntryData) (rolled : Rolled) → worn_by (opening.line + length lines) (situation_of (past_of (journal opening lines rolled))) ≡ is_worn_out (past_of (journal opening lines rolled))
 worn_is opening lines rolled = ap (λ (n : ℕ). worn_by n (situation_of (past_of (journal opening lines rolled)))) (next_line_is opening lines rolled)
 
 -- ---- the program of new tickets
@@ -68,7 +68,7 @@ reopened_by s program line moment = record {
   moment = moment;
 }
 
-pub reopened_is : (opening : Opening) (service : Service) (moment : ℕ) (lines : List EntryData) (rolled : ℕ) (program : VerifiedProgram) → IsBook opening service moment lines rolled → program ≡ current_program (past_of (journal opening lines rolled))
+pub reopened_is : (opening : Opening) (service : Service) (moment : ℕ) (lines : List EntryData) (rolled : Rolled) (program : VerifiedProgram) → IsBook opening service moment lines rolled → program ≡ current_program (past_of (journal opening lines rolled))
     → reopened_by (situation_of (past_of (journal opening lines rolled))) program (opening.line + length lines) moment ≡ reopened (past_of (journal opening lines rolled))
 reopened_is opening service moment lines rolled program book current =
     let past : Past = past_of (journal opening lines rolled) in
@@ -81,7 +81,7 @@ pub made_so : (s : Situation) (config : ConfigParts) (program : VerifiedProgram)
     → ◌≡◌ {A = Opening} (record { config = config; program = program; version = version; period = period; ticket = ticket; line = line; moment = moment }) (reopened_by s program here moment)
 made_so s config program version period ticket line here moment e a b c d = rw (← e, a, b, c, d) refl
 
-pub reopens_well : (opening : Opening) (service : Service) (moment : ℕ) (lines : List EntryData) (rolled : ℕ) → IsBook opening service moment lines rolled → is_worn_out (past_of (journal opening lines rolled)) ≡ false → IsOpening (reopened (past_of (journal opening lines rolled)))
+pub reopens_well : (opening : Opening) (service : Service) (moment : ℕ) (lines : List EntryData) (rolled : Rolled) → IsBook opening service moment lines rolled → is_worn_out (past_of (journal opening lines rolled)) ≡ false → IsOpening (reopened (past_of (journal opening lines rolled)))
 reopens_well opening service moment lines rolled book fresh = reopened_opening (past_of (journal opening lines rolled)) book.sound fresh
 
 -- ---- a cut that is not refused

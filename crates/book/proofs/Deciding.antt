@@ -124,7 +124,7 @@ decided_near s moment (releases ticket) =
     either_near (is_issued s ticket) s.standing (released_under s (open_ticket s.open_tickets ticket)) (refused s.standing refusal.NoTicket)
     (released_under_near s (open_ticket s.open_tickets ticket)) (near_none s.standing 1)
 decided_near s moment (installs program) =
-    either_near (nat_le most_versions (length s.programs)) s.standing (refused s.standing refusal.VersionsFull) (record { reply = reply.Installed (s.first_version + length s.programs) program.budget; next = s.standing })
+    either_near (nat_le most_versions (length s.programs - s.dropped)) s.standing (refused s.standing refusal.VersionsFull) (record { reply = reply.Installed (s.first_version + length s.programs) program.budget; next = s.standing })
     (near_none s.standing 1) (near_none s.standing 1)
 decided_near s moment (moves to) = near_one to moment s.standing
 decided_near s moment resets = near_one state.Closed moment s.standing
@@ -175,7 +175,7 @@ pub data Shape (s : Situation) (event : EventData) (d : Decision) : Type 0 where
   permits : (version : ℕ) (st : State) → event ≡ acquires → d.reply ≡ reply.Permitted s.next_ticket version st → version ≡ current_version s → used s ≤ (most_entries - 2) → length s.open_tickets < s.config.max_concurrent_calls → HasPermission s d.next → Shape s event d
   concludes : (work : JudgedData) (ticket : ℕ) (f : Fate) (v : Verdict) (steps version : ℕ) (st : State) → event ≡ finishes work ticket → d.reply ≡ reply.Finished f v steps version st → is_open s.open_tickets ticket ≡ true → IsPresent s d.next ticket f → IsCounted f v → IsByVersion s work ticket v steps version → Shape s event d
   lets_go : (ticket : ℕ) (st : State) → event ≡ releases ticket → d.reply ≡ reply.Released st → is_open s.open_tickets ticket ≡ true → Shape s event d
-  takes_in : (program : VerifiedProgram) (version budget : ℕ) → event ≡ installs program → d.reply ≡ reply.Installed version budget → length s.programs < most_versions → used s ≤ (most_entries - 1) → Shape s event d
+  takes_in : (program : VerifiedProgram) (version budget : ℕ) → event ≡ installs program → d.reply ≡ reply.Installed version budget → length s.programs - s.dropped < most_versions → used s ≤ (most_entries - 1) → Shape s event d
   turns : (st : State) (period : ℕ) → d.reply ≡ reply.Moved st period → used s ≤ (most_entries - 1) → Shape s event d
 
 either_shape : (test : Bool) (s : Situation) (event : EventData) (a b : Decision) → (test ≡ true → Shape s event a) → (test ≡ false → Shape s event b) → Shape s event (if test then a else b)
@@ -310,10 +310,10 @@ released_shape s ticket full issued =
 
 installed_shape : (s : Situation) (program : VerifiedProgram) → used s ≤ (most_entries - 1) → Shape s (installs program) (installed s program)
 installed_shape s program room =
-    either_shape (nat_le most_versions (length s.programs)) s (installs program) (refused s.standing refusal.VersionsFull)
+    either_shape (nat_le most_versions (length s.programs - s.dropped)) s (installs program) (refused s.standing refusal.VersionsFull)
     (record { reply = reply.Installed (s.first_version + length s.programs) program.budget; next = s.standing })
     (λ e. unentered_shape s (installs program) s.standing refusal.VersionsFull refl)
-    (λ e. takes_in program (s.first_version + length s.programs) program.budget refl refl (leb-false most_versions (length s.programs) e) room)
+    (λ e. takes_in program (s.first_version + length s.programs) program.budget refl refl (leb-false most_versions (length s.programs - s.dropped) e) room)
 
 decided_shape : (s : Situation) (moment : ℕ) (event : EventData) → is_full s event ≡ false → OpenAreIssued s → Shape s event (decided s moment event)
 decided_shape s moment acquires full issued = acquired_shape s moment (ltb-false (most_entries - 2) (used s) full)

@@ -1,5 +1,5 @@
 -- What a decision may change.
-use Rattle.std.proofs.Common.{◌≡◌, ℕ, ◌≤◌, ◌<◌, ◌==◌, max, List, [], ◌∷◌, map, length, Option, Some, None, arith, refl, ap, sym, ◌∙◌}
+use Rattle.std.proofs.Common.{◌≡◌, ◌-◌, ℕ, ◌≤◌, ◌<◌, ◌==◌, max, List, [], ◌∷◌, map, length, Option, Some, None, arith, refl, ap, sym, ◌∙◌}
 use Rattle.std.specs.List.{filter_map, cons_option, fold, AllByRecursion}
 use Rattle.std.proofs.Math.Nat.{le-max_left, le-max_right}
 use Rattle.bpf_profile.specs.Programs.{VerifiedProgram}
@@ -55,7 +55,7 @@ issues s moment event d t (turns st period e room) h = none_issued d.reply (repl
 none_installed : {P : Type 0} (event : EventData) (r : Reply) (program : VerifiedProgram) → install_by event r ≡ None → install_by event r ≡ Some program → P
 none_installed event r program none h = let bad : ◌≡◌ {A = Option VerifiedProgram} None (Some program) = sym none ∙ h in cc
 
-pub installs_few : (s : Situation) (event : EventData) (d : Decision) (program : VerifiedProgram) → Shape s event d → install_by event d.reply ≡ Some program → length s.programs < most_versions
+pub installs_few : (s : Situation) (event : EventData) (d : Decision) (program : VerifiedProgram) → Shape s event d → install_by event d.reply ≡ Some program → length s.programs - s.dropped < most_versions
 installs_few s event d program (refuses number e room) h = none_installed event d.reply program (ap (install_by event) e ∙ install_refused event number) h
 installs_few s event d program (permits version st e r current room free given) h = none_installed event d.reply program (rw e refl) h
 installs_few s event d program (concludes work ticket f v steps version st e r there present counted version_is) h = none_installed event d.reply program (rw e refl) h
@@ -116,5 +116,5 @@ effects_there past now event sound le =
       note = λ n e. before_then (greatest past) n.moment (notes_of past) (omega (arith, le, note_moment past.opening.config now event d.reply n e)) (notes_before past);
     }
 
-pub few_there : (past : Past) (now : ℕ) (event : EventData) (program : VerifiedProgram) → IsSound past → install_by event (machine past now event).reply ≡ Some program → length (situation_of past).programs < most_versions
+pub few_there : (past : Past) (now : ℕ) (event : EventData) (program : VerifiedProgram) → IsSound past → install_by event (machine past now event).reply ≡ Some program → length (situation_of past).programs - (situation_of past).dropped < most_versions
 few_there past now event program sound h = installs_few (situation_of past) event (machine past now event) program (decision_shape (situation_of past) now event (open_are_issued past sound)) h

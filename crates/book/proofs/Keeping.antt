@@ -136,20 +136,20 @@ install_move held tickets next versions program version budget period few room =
     same_program_ p e = let same : program ≡ p = cc in ap installs same
 
 pub move_of : (s : Situation) (event : EventData) (d : Decision)
-    → Shape s event d → is_entered d.reply ≡ true → used s ≤ most_entries → length s.programs ≤ most_versions
-    → IsMove s.held s.open_tickets s.next_ticket (length s.programs) event d.reply d.next.period
+    → Shape s event d → is_entered d.reply ≡ true → used s ≤ most_entries → length s.programs - s.dropped ≤ most_versions
+    → IsMove s.held s.open_tickets s.next_ticket (length s.programs - s.dropped) event d.reply d.next.period
 move_of s event d (refuses number e room) entered most few =
-    rw e (still s.held s.open_tickets s.next_ticket (length s.programs) event (reply.Refused number) d.next.period (end_refused event number) refl (install_refused event number) (room (subst (λ (x : Reply). is_entered x ≡ true) e entered)) few)
+    rw e (still s.held s.open_tickets s.next_ticket (length s.programs - s.dropped) event (reply.Refused number) d.next.period (end_refused event number) refl (install_refused event number) (room (subst (λ (x : Reply). is_entered x ≡ true) e entered)) few)
 move_of s event d (permits version st e f current room free given) entered most few =
-    rw (e, f) (permit_move s.held s.open_tickets s.next_ticket (length s.programs) version st d.next.period room few)
+    rw (e, f) (permit_move s.held s.open_tickets s.next_ticket (length s.programs - s.dropped) version st d.next.period room few)
 move_of s event d (concludes work ticket fate v steps version st e f there present counted is) entered most few =
-    rw (e, f) (end_move s.held s.open_tickets s.next_ticket (length s.programs) (finishes work ticket) (reply.Finished fate v steps version st) d.next.period ticket refl refl refl there most few)
+    rw (e, f) (end_move s.held s.open_tickets s.next_ticket (length s.programs - s.dropped) (finishes work ticket) (reply.Finished fate v steps version st) d.next.period ticket refl refl refl there most few)
 move_of s event d (lets_go ticket st e f there) entered most few =
-    rw (e, f) (end_move s.held s.open_tickets s.next_ticket (length s.programs) (releases ticket) (reply.Released st) d.next.period ticket refl refl refl there most few)
+    rw (e, f) (end_move s.held s.open_tickets s.next_ticket (length s.programs - s.dropped) (releases ticket) (reply.Released st) d.next.period ticket refl refl refl there most few)
 move_of s event d (takes_in program version budget e f less room) entered most few =
-    rw (e, f) (install_move s.held s.open_tickets s.next_ticket (length s.programs) program version budget d.next.period less room)
+    rw (e, f) (install_move s.held s.open_tickets s.next_ticket (length s.programs - s.dropped) program version budget d.next.period less room)
 move_of s event d (turns st p e room) entered most few =
-    rw e (still s.held s.open_tickets s.next_ticket (length s.programs) event (reply.Moved st p) d.next.period (end_moved event st p) refl (install_moved event st p) room few)
+    rw e (still s.held s.open_tickets s.next_ticket (length s.programs - s.dropped) event (reply.Moved st p) d.next.period (end_moved event st p) refl (install_moved event st p) room few)
 
 -- ---- one line more
 
@@ -178,13 +178,13 @@ open_are_issued past sound = λ number e.
 pub shape_there : (past : Past) (line : EntryData) → IsSound past → Shape (situation_of past) line.event (machine past line.moment line.event)
 shape_there past line sound = decision_shape (situation_of past) line.moment line.event (open_are_issued past sound)
 
-pub move_there : (past : Past) (line : EntryData) → IsSound past → Follows past line → IsMove (length past.stages - past.rolled) (open_of past.stages) (next_ticket past) (length (programs_of past)) line.event line.reply (next_standing past line).period
+pub move_there : (past : Past) (line : EntryData) → IsSound past → Follows past line → IsMove (length past.stages - past.rolled.lines) (open_of past.stages) (next_ticket past) (length (programs_of past) - past.rolled.programs) line.event line.reply (next_standing past line).period
 move_there past line sound follows =
     let entered = subst (λ (r : Reply). is_entered r ≡ true) follows.replied follows.entered in
     let move = move_of (situation_of past) line.event (machine past line.moment line.event) (shape_there past line sound) entered sound.used sound.versions in
-    subst (λ (r : Reply). IsMove (length past.stages - past.rolled) (open_of past.stages) (next_ticket past) (length (programs_of past)) line.event r (next_standing past line).period) (sym follows.replied) move
+    subst (λ (r : Reply). IsMove (length past.stages - past.rolled.lines) (open_of past.stages) (next_ticket past) (length (programs_of past) - past.rolled.programs) line.event r (next_standing past line).period) (sym follows.replied) move
 
-pub situated_step : (past : Past) (line : EntryData) → IsSound past → past.rolled ≤ length past.stages → Follows past line → situation_of (passed past line) ≡ situation_after (situation_of past) line (next_standing past line)
+pub situated_step : (past : Past) (line : EntryData) → IsSound past → past.rolled.lines ≤ length past.stages → Follows past line → situation_of (passed past line) ≡ situation_after (situation_of past) line (next_standing past line)
 situated_step past line sound held_there follows =
     let near = decision_near (situation_of past) line.moment line.event in
     let move = move_there past line sound follows in
@@ -192,7 +192,7 @@ situated_step past line sound held_there follows =
     let programs : programs_of (passed past line) ≡ programs_of past ++ option_to_list (install_by line.event line.reply) = ap (λ (ps : List VerifiedProgram). past.opening.program ∷ ps) (map_with install_at past.stages (stage_of past line)) in
     let tickets : open_of (passed past line).stages ≡ tickets_after (open_of past.stages) (end_by line.event line.reply) (issue_by line.reply (next_standing past line).period) = open_step past.stages (stage_of past line) (next_ticket past) sound.ended move.fresh in
     let next : next_ticket (passed past line) ≡ next_ticket past + one_where_some (issue_by line.reply (next_standing past line).period) = omega (arith, issued_step past.stages (stage_of past line)) in
-    let held : length (passed past line).stages - past.rolled ≡ (length past.stages - past.rolled) + 1 = omega (arith, held_there, length-append past.stages (stage_of past line ∷ [])) in
+    let held : length (passed past line).stages - past.rolled.lines ≡ (length past.stages - past.rolled.lines) + 1 = omega (arith, held_there, length-append past.stages (stage_of past line ∷ [])) in
     cc
 
 abbrev Before : ℕ → Stage → Type 0
@@ -345,8 +345,18 @@ sound_step past line sound follows safe_ =
       moment = rw (greatest_step past.opening.moment past.stages (stage_of past line) follows.raises) safe_.word;
     }
 
--- a line takes at most one number, and two periods
-pub room_step : (past : Past) (line : EntryData) → IsSound past → past.rolled ≤ length past.stages → Follows past line → LeavesRoom past → LeavesRoom (passed past line)
+one_listed : {A : Type 0} (o : Option A) → length (option_to_list o) ≤ 1
+one_listed None = omega arith
+one_listed (Some x) = omega arith
+
+-- a line installs at most one program
+one_installed : (past : Past) (line : EntryData) → length (programs_of (passed past line)) ≤ length (programs_of past) + 1
+one_installed past line =
+    let programs : programs_of (passed past line) ≡ programs_of past ++ option_to_list (install_by line.event line.reply) = ap (λ (ps : List VerifiedProgram). past.opening.program ∷ ps) (map_with install_at past.stages (stage_of past line)) in
+    omega (arith, ap length programs, length-append (programs_of past) (option_to_list (install_by line.event line.reply)), one_listed (install_by line.event line.reply))
+
+-- a line takes at most one number, one version, and two periods
+pub room_step : (past : Past) (line : EntryData) → IsSound past → past.rolled.lines ≤ length past.stages → Follows past line → LeavesRoom past → LeavesRoom (passed past line)
 room_step past line sound held_there follows room =
     let near = decision_near (situation_of past) line.moment line.event in
     let held : length (passed past line).stages ≡ length past.stages + 1 = length-append past.stages (stage_of past line ∷ []) in
@@ -355,4 +365,5 @@ room_step past line sound held_there follows room =
       line = omega (arith, held_there, held, room.line);
       ticket = omega (arith, held_there, held, count, room.ticket, one_at_most (issue_by line.reply (next_standing past line).period));
       period = omega (arith, held_there, held, near.most, room.period);
+      version = omega (arith, held_there, held, room.version, one_installed past line);
     }

@@ -8,6 +8,7 @@ pub mod Passing
 pub mod Planned
 pub mod Permissions
 pub mod Held
+pub mod Versions
 pub mod Journals
 pub mod Settled
 pub mod Keeping

@@ -10,7 +10,7 @@ use Rattle.service_profile.specs.Answers.{IsLooked, looks, no_owner, looked, bud
 use Rattle.service_profile.specs.declared.readings.Reading.{Reading}
 use Rattle.service_profile.specs.Machine.{current_version, program_from}
 use Rattle.service_profile.specs.Openings.{first_opening, IsOpening}
-use Rattle.service_profile.specs.Events.{history_of, EntryData, History, Opening}
+use Rattle.service_profile.specs.Events.{history_of, nothing_rolled, EntryData, Rolled, History, Opening}
 use Rattle.book.specs.Books.{IsBook, journal}
 use Rattle.book.specs.Situations.{StandsFor, breaker_of}
 use Rattle.breaker.specs.Calls.{metrics_of}
@@ -21,7 +21,7 @@ use Rattle.book.specs.Sound.{IsSound}
 use Rattle.book.proofs.Applying.{same_opening, stage_count}
 use Rattle.book.proofs.Configured.{in_range}
 
-pub sound_opened : (opening : Opening) (rolled : ℕ) → IsOpening opening → IsSafeProgram opening.program → IsSound (opened rolled opening)
+pub sound_opened : (opening : Opening) (rolled : Rolled) → IsOpening opening → IsSafeProgram opening.program → IsSound (opened rolled opening)
 sound_opened opening rolled good program = record {
   opening = good;
   periods = tt;
@@ -58,12 +58,12 @@ pub legal_opened : (opening : Opening) → IsLegal (history_of opening [])
 unfolding IsLegal
 legal_opened opening = tt
 
-pub first_book : (opening : Opening) (service : Service) → IsOpening opening → IsSafeProgram opening.program → StandsFor service 0 (situation_of (opened 0 opening)) → service.refused ≡ 0 → IsBook opening service opening.moment [] 0
+pub first_book : (opening : Opening) (service : Service) → IsOpening opening → IsSafeProgram opening.program → StandsFor service 0 (situation_of (opened nothing_rolled opening)) → service.refused ≡ 0 → IsBook opening service opening.moment [] nothing_rolled
 first_book opening service good program stands none = record {
   legal = legal_opened opening;
   there = omega arith;
-  room = record { line = omega (arith, good.line); ticket = omega (arith, good.ticket); period = omega (arith, good.period) };
-  sound = sound_opened opening 0 good program;
+  room = record { line = omega (arith, good.line); ticket = omega (arith, good.ticket); period = omega (arith, good.period); version = omega (arith, good.version) };
+  sound = sound_opened opening nothing_rolled good program;
   situated = stands;
   refused_calls = none;
   greatest_moment = refl;
@@ -71,10 +71,10 @@ first_book opening service good program stands none = record {
 
 -- ---- what a book shows
 
-pub line_least : (opening : Opening) (service : Service) (moment : ℕ) (lines : List EntryData) (rolled : ℕ) → IsBook opening service moment lines rolled → 1 ≤ opening.line
+pub line_least : (opening : Opening) (service : Service) (moment : ℕ) (lines : List EntryData) (rolled : Rolled) → IsBook opening service moment lines rolled → 1 ≤ opening.line
 line_least opening service moment lines rolled book = omega (arith, book.sound.opening.first_line, ap (λ (o : Opening). o.line) (same_opening opening lines rolled))
 
-pub next_line_is : (opening : Opening) (lines : List EntryData) (rolled : ℕ) → opening.line + length lines ≡ next_line (past_of (journal opening lines rolled))
+pub next_line_is : (opening : Opening) (lines : List EntryData) (rolled : Rolled) → opening.line + length lines ≡ next_line (past_of (journal opening lines rolled))
 next_line_is opening lines rolled = omega (arith, stage_count opening lines rolled, ap (λ (o : Opening). o.line) (same_opening opening lines rolled))
 
 pub reads_so : (past : Past) (moment last : ℕ) (metrics : Metrics) (version budget count free not_permitted : ℕ)

@@ -3,7 +3,7 @@ use Rattle.std.proofs.Common.{◌≡◌, ℕ, ◌+◌, ◌-◌, ◌≤◌, Bool,
 use Rattle.std.proofs.lemmas.List.{take-append-drop, drop-append-le, drop-drop}
 use Rattle.refusals.specs.declared.RefusalNumber.TheVariants as refusal
 use Rattle.service_profile.specs.Answers.{answer, line_of, with_line, applied, is_worn_out, count_up_to, lines_up_to, after_roll, rolled_up_to, held_lines}
-use Rattle.service_profile.specs.Events.{EntryData, History}
+use Rattle.service_profile.specs.Events.{EntryData, Rolled, History}
 use Rattle.service_profile.specs.Histories.{past_of}
 use Rattle.service_profile.specs.Machine.{is_entered}
 use Rattle.book.specs.Rolling.{Ask, gives, looks, reads, pages, rolls_up_to, after_ask, history_after, piece_of, pieces}
@@ -45,31 +45,31 @@ split_at lines more r c le few =
     ∙ sym (drop-append-le r lines more (omega (arith, le, few)))
 
 abbrev Whole : History → List Ask → Type 0
-Whole h rest = pieces h rest ++ held_lines (history_after h rest) ≡ drop h.rolled (history_after h rest).lines
+Whole h rest = pieces h rest ++ held_lines (history_after h rest) ≡ drop h.rolled.lines (history_after h rest).lines
 
-roll_whole : (worn : Bool) (h : History) (last : ℕ) (rest : List Ask) → h.rolled ≤ length h.lines → ((k : History) → k.rolled ≤ length k.lines → Whole k rest)
+roll_whole : (worn : Bool) (h : History) (last : ℕ) (rest : List Ask) → h.rolled.lines ≤ length h.lines → ((k : History) → k.rolled.lines ≤ length k.lines → Whole k rest)
     → (piece_of (if worn then Err refusal.JournalFull else Ok (lines_up_to h last)) ++ pieces (after_roll h last (if worn then Err refusal.JournalFull else Ok (lines_up_to h last))) rest)
     ++ held_lines (history_after (after_roll h last (if worn then Err refusal.JournalFull else Ok (lines_up_to h last))) rest)
-    ≡ drop h.rolled (history_after (after_roll h last (if worn then Err refusal.JournalFull else Ok (lines_up_to h last))) rest).lines
+    ≡ drop h.rolled.lines (history_after (after_roll h last (if worn then Err refusal.JournalFull else Ok (lines_up_to h last))) rest).lines
 roll_whole true h last rest there whole = whole h there
 roll_whole false h last rest there whole =
     let c : ℕ = count_up_to h last in
     let next : History = rolled_up_to h last in
     let few : c ≤ length h.lines = omega (arith, there) in
-    let le : h.rolled ≤ c = omega arith in
+    let le : h.rolled.lines ≤ c = omega arith in
     let grown = run_grown next rest in
     append_assoc (lines_up_to h last) (pieces next rest) (held_lines (history_after next rest))
     ∙ ap (λ (ls : List EntryData). lines_up_to h last ++ ls) (whole next few ∙ ap (drop c) grown.1)
-    ∙ split_at h.lines grown.0 h.rolled c le few
-    ∙ ap (drop h.rolled) (sym grown.1)
+    ∙ split_at h.lines grown.0 h.rolled.lines c le few
+    ∙ ap (drop h.rolled.lines) (sym grown.1)
 
-pub whole : (h : History) (rest : List Ask) → h.rolled ≤ length h.lines → Whole h rest
+pub whole : (h : History) (rest : List Ask) → h.rolled.lines ≤ length h.lines → Whole h rest
 whole h [] there = refl
 whole h (gives seat moment event ∷ rest) there =
     let next : History = applied h seat moment event in
     let grown = step_grown h (gives seat moment event) in
-    whole next rest (omega (arith, there, applied_keeps h seat moment event, ap length grown.1, length-append h.lines grown.0))
-    ∙ ap (λ (n : ℕ). drop n (history_after next rest).lines) (applied_keeps h seat moment event)
+    whole next rest (omega (arith, there, ap (λ (r : Rolled). r.lines) (applied_keeps h seat moment event), ap length grown.1, length-append h.lines grown.0))
+    ∙ ap (λ (r : Rolled). drop r.lines (history_after next rest).lines) (applied_keeps h seat moment event)
 whole h (looks ticket ∷ rest) there = whole h rest there
 whole h (reads moment ∷ rest) there = whole h rest there
 whole h (pages from ∷ rest) there = whole h rest there

@@ -1,5 +1,5 @@
 -- What is planned where an event is refused, and under a ticket that is found.
-use Rattle.std.proofs.Common.{◌≡◌, ◌≢◌, ℕ, ◌+◌, ◌<◌, ◌≤◌, ◌==◌, nat_le, arith, length, ◌++◌, not, Bool, true, false, if◌then◌else◌, List, [], ◌∷◌, Option, Some, None, refl, ap, sym, ◌∙◌}
+use Rattle.std.proofs.Common.{◌≡◌, ◌-◌, ◌≢◌, ℕ, ◌+◌, ◌<◌, ◌≤◌, ◌==◌, nat_le, arith, length, ◌++◌, not, Bool, true, false, if◌then◌else◌, List, [], ◌∷◌, Option, Some, None, refl, ap, sym, ◌∙◌}
 use Rattle.std.proofs.lemmas.Bool.Decides.{Decides-eqb}
 use Rattle.std.proofs.lemmas.Bool.{le-leb, lt-leb}
 use Rattle.std.specs.Option.{is_some}
@@ -55,6 +55,10 @@ finished_under_plan s moment work number ticket plan issued found e =
 pub unnegated : (b : Bool) → not b ≡ false → b ≡ true
 unnegated true e = refl
 unnegated false e = let bad : ◌≡◌ {A = Bool} true false = e in cc
+
+pub negated : (b : Bool) → not b ≡ true → b ≡ false
+negated true e = let bad : ◌≡◌ {A = Bool} false true = e in cc
+negated false e = refl
 
 abbrev permission_at : Situation → ℕ → Permission
 permission_at s moment = permission_in s.standing.state s.config s.standing (length s.notes) (permissions_held s.standing.period s.open_tickets) moment
@@ -148,16 +152,16 @@ release_of_open s moment number (Some ticket) standing issued is there same =
 
 -- ---- what is planned of a program
 
-pub no_version_left : (s : Situation) (moment : ℕ) (program : VerifiedProgram) (count : ℕ) (plan : Plan) → count ≡ length s.programs → most_versions ≤ count → plan ≡ refused_plan s.standing refusal.VersionsFull
+pub no_version_left : (s : Situation) (moment : ℕ) (program : VerifiedProgram) (count : ℕ) (plan : Plan) → count ≡ length s.programs - s.dropped → most_versions ≤ count → plan ≡ refused_plan s.standing refusal.VersionsFull
     → plan ≡ planned s.config moment (installs program) (installed s program)
 no_version_left s moment program count plan is full e =
-    let d : installed s program ≡ refused s.standing refusal.VersionsFull = rw (le-leb most_versions (length s.programs) (omega (arith, is, full))) refl in
+    let d : installed s program ≡ refused s.standing refusal.VersionsFull = rw (le-leb most_versions (length s.programs - s.dropped) (omega (arith, is, full))) refl in
     e ∙ ap (planned s.config moment (installs program)) (sym d)
 
-pub version_given : (s : Situation) (moment : ℕ) (program : VerifiedProgram) (count version budget : ℕ) (standing : Standing) → count ≡ length s.programs → count < most_versions → version ≡ s.first_version + length s.programs → budget ≡ program.budget → standing ≡ s.standing
+pub version_given : (s : Situation) (moment : ℕ) (program : VerifiedProgram) (count version budget : ℕ) (standing : Standing) → count ≡ length s.programs - s.dropped → count < most_versions → version ≡ s.first_version + length s.programs → budget ≡ program.budget → standing ≡ s.standing
     → planned s.config moment (installs program) (record { reply = reply.Installed version budget; next = standing }) ≡ planned s.config moment (installs program) (installed s program)
 version_given s moment program count version budget standing is few v b same =
-    let d : installed s program ≡ record { reply = reply.Installed (s.first_version + length s.programs) program.budget; next = s.standing } = rw (lt-leb most_versions (length s.programs) (omega (arith, is, few))) refl in
+    let d : installed s program ≡ record { reply = reply.Installed (s.first_version + length s.programs) program.budget; next = s.standing } = rw (lt-leb most_versions (length s.programs - s.dropped) (omega (arith, is, few))) refl in
     rw (v, b, same) refl ∙ ap (planned s.config moment (installs program)) (sym d)
 
 -- ---- what is planned of any event

@@ -4,17 +4,21 @@ use Rattle.std.specs.declared.alloc.Global.{Global}
 use Rattle.std.proofs.lemmas.Bool.{ltb-false}
 use Rattle.std.proofs.lemmas.List.{take-append-drop, length-take-le}
 use Rattle.refusals.specs.declared.RefusalNumber.TheVariants as refusal
-use Rattle.service_profile.specs.Events.{EntryData, Opening, History, rolled_to}
+use Rattle.service_profile.specs.declared.configuration.ConfigParts.{ConfigParts}
+use Rattle.service_profile.specs.Events.{EntryData, Opening, Rolled, History, rolled_to}
 use Rattle.service_profile.specs.Histories.{Past, past_of, situation_of, next_line, greatest, refused_of}
 use Rattle.service_profile.specs.Machine.{Situation, current_version}
-use Rattle.service_profile.specs.Answers.{is_past_the_limit, is_worn_out, held_lines, count_up_to, lines_up_to, roll, after_roll, IsRolled, rolls, no_room}
+use Rattle.service_profile.specs.Answers.{count_unneeded, is_past_the_limit, is_worn_out, held_lines, count_up_to, lines_up_to, roll, after_roll, IsRolled, rolls, no_room}
+use Rattle.book.specs.declared.books.Start.{Start}
 use Rattle.book.specs.declared.service.Service.{Service}
-use Rattle.book.specs.Books.{IsBook, all_lines, lines_handed, journal}
-use Rattle.book.specs.Rolling.{with_rolled}
+use Rattle.book.specs.Books.{IsBook, all_lines, lines_handed, journal, opening_of, rolled_of}
+use Rattle.book.specs.Following.{without_unneeded}
+use Rattle.book.specs.Rolling.{IsFurther, with_rolled}
 use Rattle.book.specs.Situations.{StandsFor}
 use Rattle.book.specs.Sound.{IsSound, LeavesRoom}
-use Rattle.book.proofs.Applying.{stage_count, same_rolled}
+use Rattle.book.proofs.Applying.{stage_count, same_opening, same_rolled}
 use Rattle.book.proofs.Rolled.{holding, rolled_legal}
+use Rattle.book.proofs.Versions.{dropped_told}
 use Rattle.book.proofs.Worlds.{none_of, sound_rolled}
 
 -- ---- the lines stay
@@ -40,40 +44,68 @@ stands_holding service held n s stands = record {
   configured = stands.configured;
   stands = stands.stands;
   places = stands.places;
-  registered = record { first = stands.registered.first; versions = stands.registered.versions; tickets = stands.registered.tickets; next = stands.registered.next };
+  registered = record { first = stands.registered.first; some = stands.registered.some; versions = stands.registered.versions; needed = stands.registered.needed; tickets = stands.registered.tickets; next = stands.registered.next };
   entered = refl;
 }
 
 -- where no number is past its limit there is room
-room_there : (past : Past) (count : ℕ) → is_worn_out past ≡ false → LeavesRoom (with_rolled count past)
-room_there past count e =
+room_there : (past : Past) (rolled : Rolled) → is_worn_out past ≡ false → LeavesRoom (with_rolled rolled past)
+room_there past rolled e =
     let a = none_of (is_past_the_limit (next_line past)) _ e in
     let b = none_of (is_past_the_limit (situation_of past).next_ticket) _ a.1 in
     let c = none_of (is_past_the_limit (suc past.standing.period)) (is_past_the_limit (suc (current_version (situation_of past)))) b.1 in
     let line = ltb-false (2 ^ 63) (next_line past) a.0 in
     let ticket = ltb-false (2 ^ 63) (situation_of past).next_ticket b.0 in
     let period = ltb-false (2 ^ 63) (suc past.standing.period) c.0 in
-    record { line = omega (arith, line); ticket = omega (arith, ticket); period = omega (arith, period) }
+    let version = ltb-false (2 ^ 63) (suc (current_version (situation_of past))) c.1 in
+    record { line = omega (arith, line); ticket = omega (arith, ticket); period = omega (arith, period); version = omega (arith, version) }
 
-pub book_rolled : (opening : Opening) (service : Service) (moment : ℕ) (lines : List EntryData) (rolled count : ℕ) → IsBook opening service moment lines rolled → is_worn_out (past_of (journal opening lines rolled)) ≡ false → rolled + count ≤ length lines
-    → IsBook opening service moment lines (rolled + count)
-book_rolled opening service moment lines rolled count book fresh few =
+abbrev pub more_taken : Opening → List EntryData → Rolled → ℕ → Rolled
+more_taken opening lines rolled count = record { lines = rolled.lines + count; programs = count_unneeded (situation_of (past_of (journal opening lines rolled))) }
+
+pub book_rolled : (opening : Opening) (service after : Service) (moment : ℕ) (lines : List EntryData) (rolled : Rolled) (count : ℕ) → IsBook opening service moment lines rolled → is_worn_out (past_of (journal opening lines rolled)) ≡ false → rolled.lines + count ≤ length lines
+    → ((held : ℕ) (s : Situation) → StandsFor service held s → StandsFor after held (without_unneeded s)) → after.refused ≡ service.refused → IsBook opening after moment lines (more_taken opening lines rolled count)
+book_rolled opening service after moment lines rolled count book fresh few dropped refused =
     let past : Past = past_of (journal opening lines rolled) in
-    let more : ℕ = rolled + count in
-    let legal = rolled_legal (journal opening lines rolled) more book.legal (omega arith) in
+    let more : Rolled = more_taken opening lines rolled count in
+    let kept = ap (λ (r : Rolled). r.programs) (same_rolled opening lines rolled) in
+    let further : IsFurther rolled more = record { lines = omega arith; programs = omega (arith, kept) } in
+    let legal = rolled_legal (journal opening lines rolled) more book.legal further in
     let same : past_of (journal opening lines more) ≡ with_rolled more past = legal.1 in
-    let le : past.rolled ≤ more = omega (arith, same_rolled opening lines rolled) in
-    let held : length past.stages - more ≡ length lines - more = ap (λ (n : ℕ). n - more) (stage_count opening lines rolled) in
-    let there : StandsFor service (length past.stages - more) (holding (length past.stages - more) (situation_of past)) = stands_holding service _ _ (situation_of past) book.situated in
+    let held : length past.stages - more.lines ≡ length lines - more.lines = ap (λ (n : ℕ). n - more.lines) (stage_count opening lines rolled) in
+    let there : StandsFor after (length past.stages - more.lines) (holding (length past.stages - more.lines) (without_unneeded (situation_of past))) =
+    stands_holding after _ _ (without_unneeded (situation_of past)) (dropped _ _ book.situated) in
     record {
       there = few;
       room = subst (λ (p : Past). LeavesRoom p) (sym same) (room_there past more fresh);
       legal = legal.0;
-      sound = subst (λ (p : Past). IsSound p) (sym same) (sound_rolled past more book.sound le);
-      situated = subst (λ (p : Past). StandsFor service (length lines - more) (situation_of p)) (sym same) (subst (λ (n : ℕ). StandsFor service n (situation_of (with_rolled more past))) held there);
-      refused_calls = book.refused_calls ∙ ap refused_of (sym same);
+      sound = subst (λ (p : Past). IsSound p) (sym same) (sound_rolled past more book.sound (subst (λ (r : Rolled). IsFurther r more) (sym (same_rolled opening lines rolled)) further));
+      situated = subst (λ (p : Past). StandsFor after (length lines - more.lines) (situation_of p)) (sym same) (subst (λ (n : ℕ). StandsFor after n (situation_of (with_rolled more past))) held there);
+      refused_calls = refused ∙ book.refused_calls ∙ ap refused_of (sym same);
       greatest_moment = book.greatest_moment ∙ ap greatest (sym same);
     }
+
+-- the first version that is held then says how many programs were dropped
+pub rolled_told : (start : Start) (service after : Service) (lines : List EntryData) (rolled : Rolled) (held count : ℕ) → StandsFor service held (situation_of (past_of (journal (opening_of service.config start) lines rolled)))
+    → ((h : ℕ) (s : Situation) → StandsFor service h s → StandsFor after h (without_unneeded s)) → rolled_of (rolled.lines + count) after start ≡ more_taken (opening_of service.config start) lines rolled count
+rolled_told start service after lines rolled held count stands dropped =
+    let s : Situation = situation_of (past_of (journal (opening_of service.config start) lines rolled)) in
+    let told = dropped_told after.registry (without_unneeded s) start.version (dropped held s stands).registered (ap (λ (o : Opening). o.version) (same_opening (opening_of service.config start) lines rolled)) in
+    ap (λ (n : ℕ). record { lines = rolled.lines + count; programs = n }) told
+
+-- the parts after a roll are those of the book with so much more taken out
+pub rolled_there : (start : Start) (service after : Service) (moment : ℕ) (lines all : List EntryData) (first count : ℕ) → IsBook (opening_of service.config start) service moment lines (rolled_of first service start)
+    → is_worn_out (past_of (journal (opening_of service.config start) lines (rolled_of first service start))) ≡ false → first + count ≤ length lines
+    → ((held : ℕ) (s : Situation) → StandsFor service held s → StandsFor after held (without_unneeded s)) → after.refused ≡ service.refused → after.config ≡ service.config → all ≡ lines
+    → IsBook (opening_of after.config start) after moment all (rolled_of (first + count) after start)
+rolled_there start service after moment lines all first count book fresh few dropped refused config same =
+    let opening : Opening = opening_of service.config start in
+    let rolled : Rolled = rolled_of first service start in
+    let there = book_rolled opening service after moment lines rolled count book fresh few dropped refused in
+    let told = rolled_told start service after lines rolled (length lines - first) count book.situated dropped in
+    subst (λ (parts : ConfigParts). IsBook (opening_of parts start) after moment all (rolled_of (first + count) after start)) (sym config)
+    (subst (λ (ls : List EntryData). IsBook opening after moment ls (rolled_of (first + count) after start)) (sym same)
+    (subst (λ (r : Rolled). IsBook opening after moment lines r) (sym told) there))
 
 -- ---- the documented roll
 
@@ -83,19 +115,23 @@ counts line rolled held lines last passed count some all is e = omega (arith, so
 pub roll_there : (history : History) (last : ℕ) → is_worn_out (past_of history) ≡ false → roll history last ≡ Ok (lines_up_to history last)
 roll_there history last fresh = ap (λ (b : Bool). if b then Err refusal.JournalFull else Ok (lines_up_to history last)) fresh
 
-up_to : (history : History) (last count : ℕ) (entries : List EntryData) → count_up_to history last ≡ history.rolled + count → held_lines history ≡ entries → lines_up_to history last ≡ take count entries
+up_to : (history : History) (last count : ℕ) (entries : List EntryData) → count_up_to history last ≡ history.rolled.lines + count → held_lines history ≡ entries → lines_up_to history last ≡ take count entries
 up_to history last count entries e held =
-    let same : count_up_to history last - history.rolled ≡ count = omega (arith, e) in
+    let same : count_up_to history last - history.rolled.lines ≡ count = omega (arith, e) in
     ap (λ (n : ℕ). take n (held_lines history)) same ∙ ap (take count) held
 
-pub rolled_well : (history after : History) (last count : ℕ) (piece entries : List EntryData) → is_worn_out (past_of history) ≡ false → count_up_to history last ≡ history.rolled + count → held_lines history ≡ entries
-    → piece ≡ take count entries → after ≡ rolled_to (history.rolled + count) history → IsRolled history last (Ok piece) after
+-- the history after a roll of so many lines
+abbrev pub rolled_by : ℕ → History → History
+rolled_by count history = rolled_to (more_taken history.opening history.lines history.rolled count) history
+
+pub rolled_well : (history after : History) (last count : ℕ) (piece entries : List EntryData) → is_worn_out (past_of history) ≡ false → count_up_to history last ≡ history.rolled.lines + count → held_lines history ≡ entries
+    → piece ≡ take count entries → after ≡ rolled_by count history → IsRolled history last (Ok piece) after
 rolled_well history after last count piece entries fresh e held is then_ =
     let done = roll_there history last fresh in
     rolls (ap Ok (is ∙ sym (up_to history last count entries e held)) ∙ sym done)
-    (then_ ∙ ap (λ (n : ℕ). rolled_to n history) (sym e) ∙ ap (after_roll history last) (sym done))
+    (then_ ∙ ap (λ (n : ℕ). rolled_to (record { lines = n; programs = count_unneeded (situation_of (past_of history)) }) history) (sym e) ∙ ap (after_roll history last) (sym done))
 
-pub no_room_there : (history after : History) (last count : ℕ) (entries : List EntryData) → is_worn_out (past_of history) ≡ false → count_up_to history last ≡ history.rolled + count → held_lines history ≡ entries → count < length entries → after ≡ history
+pub no_room_there : (history after : History) (last count : ℕ) (entries : List EntryData) → is_worn_out (past_of history) ≡ false → count_up_to history last ≡ history.rolled.lines + count → held_lines history ≡ entries → count < length entries → after ≡ history
     → IsRolled history last (Err refusal.ServiceOutOfMemory) after
 no_room_there history after last count entries fresh e held less same =
     no_room (lines_up_to history last) (roll_there history last fresh) (omega (arith, ap length (up_to history last count entries e held), length-take-le count entries (omega (arith, less)), ap length held, less)) refl same

@@ -1,6 +1,6 @@
 -- After a roll of all entries no event meets a full journal.
-use Rattle.std.proofs.Common.{◌≡◌, ℕ, ◌+◌, ◌-◌, ◌^◌, ◌≤◌, nat_le, ◌&&◌, not, Bool, true, false, if◌then◌else◌, Option, Some, None, length, arith, refl, ap, sym, ◌∙◌, subst}
-use Rattle.std.proofs.lemmas.Bool.{le-ltb}
+use Rattle.std.proofs.Common.{◌≡◌, ℕ, suc, ◌+◌, ◌-◌, ◌^◌, ◌≤◌, ◌<◌, nat_le, ◌&&◌, not, Bool, true, false, if◌then◌else◌, Option, Some, None, [], length, arith, refl, ap, sym, ◌∙◌, subst}
+use Rattle.std.proofs.lemmas.Bool.{le-ltb, lt-leb}
 use Rattle.bpf_profile.specs.JudgedWork.{JudgedData}
 use Rattle.bpf_profile.specs.Programs.{VerifiedProgram}
 use Rattle.refusals.specs.declared.RefusalNumber.TheVariants as refusal
@@ -11,16 +11,17 @@ use Rattle.service_profile.specs.declared.replies.Reply.TheVariants as reply
 use Rattle.service_profile.specs.declared.standings.Standing.{Standing}
 use Rattle.service_profile.specs.declared.tickets.OpenTicket.{OpenTicket}
 use Rattle.service_profile.specs.Limits.{most_entries, most_versions}
-use Rattle.service_profile.specs.Answers.{answer}
-use Rattle.service_profile.specs.Events.{EventData, acquires, finishes, releases, installs, moves, resets, History}
-use Rattle.service_profile.specs.Histories.{Past, past_of, situation_of, raised, IsLegal}
-use Rattle.service_profile.specs.Machine.{Situation, refused, at_moment, is_full, is_open, used, is_issued, open_ticket, program_from, same_program, placed, admitted, permission_in, permissions_held, concluded, finished_by, finished_under, released_under, current_version, decided, decision}
+use Rattle.service_profile.specs.declared.states.State.TheVariants as state
+use Rattle.service_profile.specs.Answers.{answer, least_version, least_needed, count_unneeded, taken_up_to, rolled_up_to}
+use Rattle.service_profile.specs.Events.{EventData, acquires, finishes, releases, installs, moves, resets, Rolled, History}
+use Rattle.service_profile.specs.Histories.{Past, past_of, situation_of, programs_of, raised, IsLegal}
+use Rattle.service_profile.specs.Machine.{Situation, refused, in_state, overstays, at_moment, is_full, is_open, used, is_issued, open_ticket, program_from, same_program, placed, admitted, permission_in, permissions_held, concluded, finished_by, finished_under, released_under, current_version, decided, decision}
 use Rattle.service_profile.specs.Verdicts.{judgement}
-use Rattle.book.specs.Rolling.{with_rolled, rolled_whole}
+use Rattle.book.specs.Rolling.{with_rolled, rolled_whole, versions_needed}
 use Rattle.book.specs.Sound.{IsSound}
-use Rattle.book.proofs.Applying.{stage_count}
+use Rattle.book.proofs.Applying.{stage_count, same_rolled}
 use Rattle.book.proofs.Configured.{few_places}
-use Rattle.book.proofs.Rolled.{rolled_legal}
+use Rattle.book.proofs.Rolled.{rolled_legal, roll_goes_further}
 
 -- ---- there is room
 
@@ -79,7 +80,7 @@ decided_other s moment (releases ticket) =
     either (is_issued s ticket) (released_under s (open_ticket s.open_tickets ticket)) (refused s.standing refusal.NoTicket)
     (released_under_other s (open_ticket s.open_tickets ticket)) refl
 decided_other s moment (installs program) =
-    either (nat_le most_versions (length s.programs)) (refused s.standing refusal.VersionsFull)
+    either (nat_le most_versions (length s.programs - s.dropped)) (refused s.standing refusal.VersionsFull)
     (record { reply = reply.Installed (s.first_version + length s.programs) program.budget; next = s.standing }) refl refl
 decided_other s moment (moves to) = refl
 decided_other s moment resets = refl
@@ -95,17 +96,56 @@ not_full r other e = let bad : ◌≡◌ {A = Bool} false true = sym other ∙ a
 
 -- ---- a history
 
-roomy_after : (history : History) (event : EventData) → IsLegal history → IsSound (past_of history) → history.rolled ≤ length history.lines → is_full (situation_of (past_of (rolled_whole history))) event ≡ false
+roomy_after : (history : History) (event : EventData) → IsLegal history → IsSound (past_of history) → history.rolled.lines ≤ length history.lines → is_full (situation_of (past_of (rolled_whole history))) event ≡ false
 roomy_after history event legal sound there =
     let past : Past = past_of history in
-    let count : ℕ = length history.lines in
+    let all : Rolled = record { lines = length history.lines; programs = history.rolled.programs } in
     let few = few_places (2 ^ 40) past.opening.config sound.opening.config in
-    ap (λ (p : Past). is_full (situation_of p) event) (rolled_legal history count legal there).1
-    ∙ roomy (situation_of (with_rolled count past)) event (omega (arith, few, sound.places, stage_count history.opening history.lines history.rolled))
+    ap (λ (p : Past). is_full (situation_of p) event) (rolled_legal history all legal (record { lines = there; programs = omega arith })).1
+    ∙ roomy (situation_of (with_rolled all past)) event (omega (arith, few, sound.places, stage_count history.opening history.lines history.rolled))
 
-pub rolled_roomy : (history : History) (moment : ℕ) (event : EventData) → IsLegal history → IsSound (past_of history) → history.rolled ≤ length history.lines
+pub rolled_roomy : (history : History) (moment : ℕ) (event : EventData) → IsLegal history → IsSound (past_of history) → history.rolled.lines ≤ length history.lines
     → (answer (rolled_whole history) moment event).reply ≡ reply.Refused refusal.JournalFull → ⊥
 rolled_roomy history moment event legal sound there =
     let past : Past = past_of (rolled_whole history) in
     not_full (answer (rolled_whole history) moment event).reply
     (decision_other (situation_of past) (raised past moment) event (roomy_after history event legal sound there))
+
+-- ---- versions
+
+installed_other : (full : Bool) (standing : Standing) (version budget : ℕ) → full ≡ false → (if full then refused standing refusal.VersionsFull else record { reply = reply.Installed version budget; next = standing }).reply ≡ reply.Refused refusal.VersionsFull → ⊥
+installed_other true standing version budget room e = let bad : ◌≡◌ {A = Bool} true false = room in cc
+installed_other false standing version budget room e = let bad : ◌≡◌ {A = Reply} (reply.Installed version budget) (reply.Refused refusal.VersionsFull) = e in cc
+
+late_or_not : (test : Bool) (s : Situation) (moment : ℕ) (program : VerifiedProgram) → length s.programs - s.dropped < most_versions
+    → (decided (if test then in_state state.Open moment s else s) moment (installs program)).reply ≡ reply.Refused refusal.VersionsFull → ⊥
+late_or_not true s moment program few e =
+    installed_other (nat_le most_versions (length s.programs - s.dropped)) (in_state state.Open moment s).standing (s.first_version + length s.programs) program.budget (lt-leb most_versions (length s.programs - s.dropped) few) e
+late_or_not false s moment program few e =
+    installed_other (nat_le most_versions (length s.programs - s.dropped)) s.standing (s.first_version + length s.programs) program.budget (lt-leb most_versions (length s.programs - s.dropped) few) e
+
+full_or_not : (test : Bool) (standing : Standing) (d : Decision) → (d.reply ≡ reply.Refused refusal.VersionsFull → ⊥) → (if test then refused standing refusal.JournalFull else d).reply ≡ reply.Refused refusal.VersionsFull → ⊥
+full_or_not true standing d other e = let bad : ◌≡◌ {A = Reply} (reply.Refused refusal.JournalFull) (reply.Refused refusal.VersionsFull) = e in cc
+full_or_not false standing d other e = other e
+
+few_install : (s : Situation) (moment : ℕ) (program : VerifiedProgram) → length s.programs - s.dropped < most_versions → (decision s moment (installs program)).reply ≡ reply.Refused refusal.VersionsFull → ⊥
+unfolding decision
+few_install s moment program few e =
+    full_or_not (is_full s (installs program)) s.standing (decided (at_moment s moment) moment (installs program)) (late_or_not (overstays s moment) s moment program few) e
+
+pub versions_roomy : (history : History) (last moment : ℕ) (program : VerifiedProgram) → IsLegal history → versions_needed (situation_of (past_of history)) < most_versions
+    → (answer (rolled_up_to history last) moment (installs program)).reply ≡ reply.Refused refusal.VersionsFull → ⊥
+versions_roomy history last moment program legal few =
+    let past : Past = past_of (rolled_up_to history last) in
+    let same = (rolled_legal history (taken_up_to history last) legal (roll_goes_further history last)).1 in
+    let versions : length (situation_of past).programs - (situation_of past).dropped ≡ length (situation_of (past_of history)).programs - count_unneeded (situation_of (past_of history)) = ap (λ (p : Past). length (situation_of p).programs - (situation_of p).dropped) same in
+    few_install (situation_of past) (raised past moment) program (omega (arith, versions, few))
+
+pub one_version_left : (history : History) (last : ℕ) → IsLegal history → (situation_of (past_of history)).open_tickets ≡ [] → history.rolled.programs < length (programs_of (past_of history))
+    → length (programs_of (past_of (rolled_up_to history last))) ≡ suc (rolled_up_to history last).rolled.programs
+one_version_left history last legal quiet some =
+    let s : Situation = situation_of (past_of history) in
+    let same = ap (λ (p : Past). length (programs_of p)) (rolled_legal history (taken_up_to history last) legal (roll_goes_further history last)).1 in
+    let least : least_needed s ≡ current_version s = ap (least_version (current_version s)) quiet in
+    let dropped = ap (λ (r : Rolled). r.programs) (same_rolled history.opening history.lines history.rolled) in
+    omega (arith, same, least, dropped, some)

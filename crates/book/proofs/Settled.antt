@@ -19,13 +19,14 @@ use Rattle.service_profile.specs.declared.notes.Note.{Note}
 use Rattle.service_profile.specs.declared.standings.Standing.{Standing}
 use Rattle.service_profile.specs.declared.tickets.OpenTicket.{OpenTicket}
 use Rattle.service_profile.specs.Answers.{looked, looked_under, looked_up}
-use Rattle.service_profile.specs.Machine.{Situation, open_ticket, permissions_held, program_from}
+use Rattle.service_profile.specs.Machine.{Situation, open_ticket, permissions_held}
 use Rattle.book.specs.declared.plans.Effects.{Effects}
 use Rattle.book.specs.Following.{admitted, changed_by, followed, installed_in, is_number, one_where_some, standing_so, tickets_after, with_ticket, without}
 use Rattle.book.specs.Situations.{AreEffects, IsLater, IsOrderly, IsRegistered, next_open, breaker_of}
 use Rattle.book.proofs.Held.{held_ended, held_issued, none_held}
-use Rattle.book.proofs.Lists.{all_kept, all_kept_by, length_filter_le}
+use Rattle.book.proofs.Lists.{all_append, all_kept, all_kept_by, length_filter_le}
 use Rattle.book.proofs.Passing.{strictly}
+use Rattle.book.proofs.Versions.{current_same, current_held, program_same, found_keeps}
 
 -- ---- the breaker
 
@@ -92,11 +93,14 @@ ended_open r number t e = found_by (is_issued r number) (open_ticket r.open_tick
 
 pub registered_with : (before after : RegistryData) (s : Situation) (next : Standing) → after ≡ registries.with_ticket before next.period → IsRegistered before s → IsRegistered after (admitted s next)
 registered_with before after s next e is =
-    let ticket : next_open s next.period ≡ registries.next_open before next.period = rw (is.next, is.first, is.versions) refl in
+    let current = current_same before s is in
+    let ticket : next_open s next.period ≡ registries.next_open before next.period = rw (is.next, current) refl in
     subst (λ (r : RegistryData). IsRegistered r (admitted s next)) (sym e)
     (record {
       first = is.first;
+      some = is.some;
       versions = is.versions;
+      needed = all_append (λ ticket. s.first_version + s.dropped ≤ ticket.version) s.open_tickets (next_open s next.period ∷ []) is.needed (current_held s is.some, tt);
       tickets = ap (λ (ts : List OpenTicket). ts ++ next_open s next.period ∷ []) is.tickets ∙ ap (λ (t : OpenTicket). before.open_tickets ++ t ∷ []) ticket;
       next = ap (λ (n : ℕ). n + 1) is.next;
     })
@@ -106,7 +110,9 @@ registered_without before after s number e is =
     subst (λ (r : RegistryData). IsRegistered r (without s (Some number))) (sym e)
     (record {
       first = is.first;
+      some = is.some;
       versions = is.versions;
+      needed = all_kept_by (λ ticket. s.first_version + s.dropped ≤ ticket.version) (λ (t : OpenTicket). not (t.number == number)) s.open_tickets is.needed;
       tickets = ap (filter (λ (t : OpenTicket). not (t.number == number))) is.tickets;
       next = is.next;
     })
@@ -186,12 +192,13 @@ installs_some f (Some a) installs e g = g (f a) (sym e)
 
 -- ---- the program that judges under a ticket
 
-same_look : (r : RegistryData) (s : Situation) (found : Option OpenTicket) → IsRegistered r s → registries.looked_with r found ≡ looked_under s found
-same_look r s None is = refl
-same_look r s (Some t) is = ap (λ (first : ℕ). looked_up (program_from first r.programs t.version)) (sym is.first) ∙ ap (λ (programs : List VerifiedProgram). looked_up (program_from s.first_version programs t.version)) (sym is.versions)
+same_look : (r : RegistryData) (s : Situation) (number : ℕ) (found : Option OpenTicket) → open_ticket s.open_tickets number ≡ found → IsRegistered r s → registries.looked_with r found ≡ looked_under s found
+same_look r s number None e is = refl
+same_look r s number (Some t) e is =
+    ap looked_up (program_same r s t.version is (found_keeps (λ (ticket : OpenTicket). s.first_version + s.dropped ≤ ticket.version) s.open_tickets number t is.needed e))
 
 pub looked_same : (r : RegistryData) (s : Situation) (number : ℕ) → IsRegistered r s → registries.looked_in r number ≡ looked s number
 looked_same r s number is =
     ap (λ (ts : List OpenTicket). if is_issued r number then registries.looked_with r (open_ticket ts number) else Err refusal.NoTicket) (sym is.tickets)
     ∙ ap (λ (next : ℕ). if nat_le 1 number && nat_lt number next then registries.looked_with r (open_ticket s.open_tickets number) else Err refusal.NoTicket) (sym is.next)
-    ∙ ap (λ (x : Result VerifiedProgram RefusalNumber). if nat_le 1 number && nat_lt number s.next_ticket then x else Err refusal.NoTicket) (same_look r s (open_ticket s.open_tickets number) is)
+    ∙ ap (λ (x : Result VerifiedProgram RefusalNumber). if nat_le 1 number && nat_lt number s.next_ticket then x else Err refusal.NoTicket) (same_look r s number (open_ticket s.open_tickets number) refl is)

@@ -13,8 +13,8 @@ use Rattle.bpf_profile.specs.Programs.{VerifiedProgram}
 use Rattle.service_profile.specs.declared.decisions.Decision.{Decision}
 use Rattle.service_profile.specs.declared.tickets.OpenTicket.{OpenTicket}
 use Rattle.service_profile.specs.declared.states.State.TheVariants as state
-use Rattle.service_profile.specs.Answers.{looked_up, looked_under, looked, last_of, current_program, is_past_the_limit, is_worn_out, is_some_open, reopened, cut, roll, count_up_to}
-use Rattle.service_profile.specs.Events.{EventData, acquires, finishes, releases, installs, moves, resets, EntryData, Opening}
+use Rattle.service_profile.specs.Answers.{looked_up, looked_under, looked, last_of, current_program, is_past_the_limit, is_worn_out, is_some_open, reopened, cut, roll, taken_up_to}
+use Rattle.service_profile.specs.Events.{EventData, acquires, finishes, releases, installs, moves, resets, EntryData, Opening, Rolled, nothing_rolled}
 use Rattle.service_profile.specs.Histories.{Past, past_of, situation_of, machine, raised, greatest, next_line, install_at, Follows}
 use Rattle.book.specs.Interleavings.{carried_by, carried_under, carried_finish, carried, Hands, World, Step, acquire, look, judge, finish, release, install, move, reset, read, cut_off, roll_up_to, Turn, Memory, ample, wanting, starved, turned_with, turned, written, entered_by, answered, happens, holding, with_program, with_work, looking, work_of, judging, finishing, cutting, rolling, taken, Act, preceded, course, begun, IsStep, AreSteps, AreHands, IsWorld}
 use Rattle.service_profile.specs.Machine.{Situation, decision, refused, is_full, in_state, overstays, at_moment, is_issued, open_ticket, program_from, same_program, bytes_of, judged_as, concluded, finished_by, finished_under, finished, is_entered, current_version}
@@ -22,9 +22,9 @@ use Rattle.book.specs.Safe.{IsSafeProgram, AreSafePrograms, IsJudged, IsSafeEven
 use Rattle.service_profile.specs.Openings.{IsOpening}
 use Rattle.book.specs.Sound.{IsSound}
 use Rattle.service_profile.specs.Verdicts.{judgement}
-use Rattle.book.specs.Rolling.{with_rolled}
+use Rattle.book.specs.Rolling.{IsFurther, with_rolled}
 use Rattle.book.proofs.Applying.{legal_step, past_with, same_rolled}
-use Rattle.book.proofs.Rolled.{rolled_legal}
+use Rattle.book.proofs.Rolled.{rolled_legal, roll_goes_further}
 use Rattle.book.proofs.Judging.{slots_by_bytes, judgement_by_slots, judgement_judges, program_safe}
 use Rattle.book.proofs.Keeping.{sound_step}
 use Rattle.book.proofs.Lists.{all_append, got}
@@ -198,13 +198,13 @@ pub cut_program : (past : Past) (opening : Opening) → IsSound past → cut pas
 cut_program past opening sound e = program_by_cut past (is_worn_out past) (is_some_open (situation_of past).open_tickets) opening sound e
 
 cutting_world : (w : World) (r : Result Opening RefusalNumber) → ((o : Opening) → r ≡ Ok o → IsOpening o) → ((o : Opening) → r ≡ Ok o → IsSafeProgram o.program) → IsWorld w → IsWorld (cutting w r).world
-cutting_world w (Ok opening) good safe_ whole = record { legal = legal_opened opening; sound = sound_opened opening 0 (good opening refl) (safe_ opening refl); hands = whole.hands }
+cutting_world w (Ok opening) good safe_ whole = record { legal = legal_opened opening; sound = sound_opened opening nothing_rolled (good opening refl) (safe_ opening refl); hands = whole.hands }
 cutting_world w (Err number) good safe_ whole = whole
 
 -- ---- rolls
 
-pub sound_rolled : (past : Past) (count : ℕ) → IsSound past → past.rolled ≤ count → IsSound (with_rolled count past)
-sound_rolled past count sound le = record {
+pub sound_rolled : (past : Past) (rolled : Rolled) → IsSound past → IsFurther past.rolled rolled → IsSound (with_rolled rolled past)
+sound_rolled past rolled sound further = record {
   opening = sound.opening;
   periods = sound.periods;
   period = sound.period;
@@ -214,8 +214,8 @@ sound_rolled past count sound le = record {
   ticket_periods = sound.ticket_periods;
   places = sound.places;
   permissions = sound.permissions;
-  used = omega (arith, le, sound.used);
-  versions = sound.versions;
+  used = omega (arith, further.lines, sound.used);
+  versions = omega (arith, further.programs, sound.versions);
   programs = sound.programs;
   lines = sound.lines;
   verdicts = sound.verdicts;
@@ -225,10 +225,11 @@ sound_rolled past count sound le = record {
 rolling_world : (w : World) (last : ℕ) (r : Result (List EntryData) RefusalNumber) → IsWorld w → IsWorld (rolling w last r).world
 rolling_world w last (Err number) whole = whole
 rolling_world w last (Ok lines) whole =
-    let count : ℕ = count_up_to w.history last in
-    let legal = rolled_legal w.history count whole.legal (omega arith) in
-    let kept : (past_of w.history).rolled ≤ count = omega (arith, same_rolled w.history.opening w.history.lines w.history.rolled) in
-    record { legal = legal.0; sound = subst (λ (p : Past). IsSound p) (sym legal.1) (sound_rolled (past_of w.history) count whole.sound kept); hands = whole.hands }
+    let taken_ : Rolled = taken_up_to w.history last in
+    let further = roll_goes_further w.history last in
+    let legal = rolled_legal w.history taken_ whole.legal further in
+    let kept : IsFurther (past_of w.history).rolled taken_ = subst (λ (r : Rolled). IsFurther r taken_) (sym (same_rolled w.history.opening w.history.lines w.history.rolled)) further in
+    record { legal = legal.0; sound = subst (λ (p : Past). IsSound p) (sym legal.1) (sound_rolled (past_of w.history) taken_ whole.sound kept); hands = whole.hands }
 
 -- ---- steps
 
@@ -306,4 +307,4 @@ course_world safely w [] whole good = whole
 course_world safely w (act ∷ acts) whole good = course_world safely (turned decision w act).world acts (turned_world safely act.memory w act.actor act.step whole good.0.0 good.0.1) good.1
 
 pub begun_world : (opening : Opening) → IsOpening opening → IsSafeProgram opening.program → IsWorld (begun opening)
-begun_world opening good program = record { legal = legal_opened opening; sound = sound_opened opening 0 good program; hands = λ actor. record { programs = tt; works = tt } }
+begun_world opening good program = record { legal = legal_opened opening; sound = sound_opened opening nothing_rolled good program; hands = λ actor. record { programs = tt; works = tt } }

@@ -6,7 +6,7 @@ use Rattle.std.specs.Arc.{arc_value}
 use Rattle.book.specs.declared.books.Start.{Start}
 use Rattle.book.specs.declared.service.Service.{Service}
 use Rattle.service_profile.specs.declared.configuration.ConfigParts.{ConfigParts}
-use Rattle.service_profile.specs.Events.{EntryData, Opening, History}
+use Rattle.service_profile.specs.Events.{EntryData, Opening, Rolled, History}
 use Rattle.service_profile.specs.Histories.{past_of, situation_of, refused_of, greatest, IsLegal}
 use Rattle.book.specs.Situations.{StandsFor}
 use Rattle.book.specs.Sound.{IsSound, LeavesRoom}
@@ -29,15 +29,19 @@ lines_handed pieces = flat_map (λ piece. piece.items) pieces
 abbrev pub all_lines : List (Vec EntryData Global) → List EntryData → List EntryData
 all_lines pieces held = lines_handed pieces ++ held
 
--- a history of which so many lines were handed out
-abbrev pub journal : Opening → List EntryData → ℕ → History
+-- so many lines were handed out, and the programs of all versions before the first that is held were dropped
+abbrev pub rolled_of : ℕ → Service → Start → Rolled
+rolled_of lines service start = record { lines = lines; programs = service.registry.first_version - start.version }
+
+-- a history of which so much was taken out
+abbrev pub journal : Opening → List EntryData → Rolled → History
 journal opening lines rolled = record { opening = opening; lines = lines; rolled = rolled }
 
-pub record IsBook (opening : Opening) (service : Service) (moment : ℕ) (lines : List EntryData) (rolled : ℕ) : Type 0 where
-  pub there : rolled ≤ length lines
+pub record IsBook (opening : Opening) (service : Service) (moment : ℕ) (lines : List EntryData) (rolled : Rolled) : Type 0 where
+  pub there : rolled.lines ≤ length lines
   pub room : LeavesRoom (past_of (journal opening lines rolled))
   pub legal : IsLegal (journal opening lines rolled)
   pub sound : IsSound (past_of (journal opening lines rolled))
-  pub situated : StandsFor service (length lines - rolled) (situation_of (past_of (journal opening lines rolled)))
+  pub situated : StandsFor service (length lines - rolled.lines) (situation_of (past_of (journal opening lines rolled)))
   pub refused_calls : service.refused ≡ refused_of (past_of (journal opening lines rolled))
   pub greatest_moment : moment ≡ greatest (past_of (journal opening lines rolled))

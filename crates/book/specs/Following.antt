@@ -8,6 +8,7 @@ use Rattle.service_profile.specs.declared.tickets.OpenTicket.{OpenTicket}
 use Rattle.service_profile.specs.declared.notes.Note.{Note}
 use Rattle.service_profile.specs.Events.{EntryData}
 use Rattle.service_profile.specs.Histories.{note_by, end_by, issue_by, install_by}
+use Rattle.service_profile.specs.Answers.{count_unneeded}
 use Rattle.service_profile.specs.Machine.{Situation}
 use Rattle.book.specs.Situations.{next_open}
 
@@ -39,6 +40,7 @@ situation_after s line next = record {
   notes = notes_after s.standing next s.notes (note_by s.config line.moment line.event line.reply);
   first_version = s.first_version;
   programs = s.programs ++ option_to_list (install_by line.event line.reply);
+  dropped = s.dropped;
   open_tickets = tickets_after s.open_tickets (end_by line.event line.reply) (issue_by line.reply next.period);
   next_ticket = s.next_ticket + one_where_some (issue_by line.reply next.period);
   held = s.held + 1;
@@ -74,6 +76,10 @@ changed_by (Some ticket) s next effects = admitted s next
 abbrev pub installed_in : Situation → Option VerifiedProgram → Situation
 installed_in s installs = record s { programs = s.programs ++ option_to_list installs }
 
+-- the programs that nobody needs any more are dropped
+abbrev pub without_unneeded : Situation → Situation
+without_unneeded s = record s { dropped = count_unneeded s }
+
 -- all of it, with one entry more
 abbrev pub followed : Situation → Standing → Effects → Option VerifiedProgram → Situation
 followed s next effects installs = record {
@@ -82,6 +88,7 @@ followed s next effects installs = record {
   notes = notes_after s.standing next s.notes effects.note;
   first_version = s.first_version;
   programs = s.programs ++ option_to_list installs;
+  dropped = s.dropped;
   open_tickets = tickets_after s.open_tickets effects.ended effects.issued;
   next_ticket = s.next_ticket + one_where_some effects.issued;
   held = s.held + 1;

@@ -1,5 +1,5 @@
 -- What rolls leave of a history, and what is asked of a service with rolls among it.
-use Rattle.std.specs.Prelude.{◌≡◌, ℕ, ◌+◌, ◌≤◌, List, [], ◌∷◌, ◌++◌, length, Result, Ok, Err}
+use Rattle.std.specs.Prelude.{◌≡◌, ℕ, suc, ◌+◌, ◌-◌, ◌≤◌, List, [], ◌∷◌, ◌++◌, length, Result, Ok, Err}
 use Rattle.std.specs.List.{fold}
 use Rattle.bpf_profile.specs.Programs.{VerifiedProgram}
 use Rattle.refusals.specs.declared.RefusalNumber.{RefusalNumber}
@@ -8,18 +8,27 @@ use Rattle.service_profile.specs.declared.decisions.Decision.{Decision}
 use Rattle.service_profile.specs.declared.readings.Reading.{Reading}
 use Rattle.service_profile.specs.declared.replies.Reply.{Reply}
 use Rattle.service_profile.specs.declared.replies.Reply.TheVariants as reply
-use Rattle.service_profile.specs.Answers.{answer, applied, looked, reading, page_from, roll, after_roll}
-use Rattle.service_profile.specs.Events.{EventData, EntryData, History, rolled_to}
+use Rattle.service_profile.specs.Answers.{answer, applied, looked, reading, page_from, least_needed, roll, after_roll}
+use Rattle.service_profile.specs.Events.{EventData, EntryData, Rolled, History, rolled_to}
 use Rattle.service_profile.specs.Histories.{Past, past_of, situation_of, raised}
-use Rattle.service_profile.specs.Machine.{decision}
+use Rattle.service_profile.specs.Machine.{Situation, current_version, decision}
 
--- the same past with so many lines handed out
-abbrev pub with_rolled : ℕ → Past → Past
-with_rolled count past = record { opening = past.opening; rolled = count; stages = past.stages; standing = past.standing }
+-- as much was taken out, or more
+pub record IsFurther (before after : Rolled) : Type 0 where
+  pub lines : before.lines ≤ after.lines
+  pub programs : before.programs ≤ after.programs
+
+-- the same past with so much taken out
+abbrev pub with_rolled : Rolled → Past → Past
+with_rolled rolled past = record { opening = past.opening; rolled = rolled; stages = past.stages; standing = past.standing }
 
 -- the same history with all its lines handed out
 abbrev pub rolled_whole : History → History
-rolled_whole history = rolled_to (length history.lines) history
+rolled_whole history = rolled_to (record { lines = length history.lines; programs = history.rolled.programs }) history
+
+-- how many versions there are from the least that an open ticket or a new one has up to the last
+abbrev pub versions_needed : Situation → ℕ
+versions_needed s = suc (current_version s) - least_needed s
 
 -- what a journal without end answers to an event: the machine's decision where no line is held
 abbrev pub endless_answer : History → ℕ → EventData → Decision
@@ -71,15 +80,18 @@ without_rolls [] = []
 without_rolls (rolls_up_to last ∷ rest) = without_rolls rest
 without_rolls (ask ∷ rest) = ask ∷ without_rolls rest
 
--- no event meets a full journal
+-- no event meets a full journal or a full list of versions
 abbrev pub NeverFull : History → List Ask → Type 0
 NeverFull history [] = Unit {0}
-NeverFull history (ask ∷ rest) = (told history ask ≡ replied (reply.Refused refusal.JournalFull) → ⊥) × NeverFull (after_ask history ask) rest
+NeverFull history (ask ∷ rest) =
+    (told history ask ≡ replied (reply.Refused refusal.JournalFull) → ⊥)
+    × ((told history ask ≡ replied (reply.Refused refusal.VersionsFull) → ⊥)
+    × NeverFull (after_ask history ask) rest)
 
 -- each page begins with an entry that is held, or behind all of them
 abbrev pub PagesAreHeld : History → List Ask → Type 0
 PagesAreHeld history [] = Unit {0}
-PagesAreHeld history (pages from ∷ rest) = (history.opening.line + history.rolled ≤ from) × PagesAreHeld history rest
+PagesAreHeld history (pages from ∷ rest) = (history.opening.line + history.rolled.lines ≤ from) × PagesAreHeld history rest
 PagesAreHeld history (ask ∷ rest) = PagesAreHeld (after_ask history ask) rest
 
 -- ---- what rolls hand out

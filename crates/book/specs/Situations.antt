@@ -1,5 +1,5 @@
 -- What a service's parts stand for, and what is known of it.
-use Rattle.std.specs.Prelude.{◌≡◌, ℕ, ◌+◌, ◌-◌, ◌<◌, ◌≤◌, ◌^◌, Option, Some, None, length}
+use Rattle.std.specs.Prelude.{◌≡◌, ℕ, ◌+◌, ◌-◌, ◌<◌, ◌≤◌, ◌^◌, Option, Some, None, length, drop}
 use Rattle.std.specs.List.{AllByRecursion}
 use Rattle.book.specs.declared.plans.Effects.{Effects}
 use Rattle.book.specs.declared.service.Service.{Service}
@@ -18,10 +18,12 @@ use Rattle.windows.specs.Notes.{AreNotAfter}
 abbrev pub breaker_of : Situation → BreakerSituation
 breaker_of s = record { config = s.config; standing = s.standing; notes = s.notes; held = permissions_held s.standing.period s.open_tickets }
 
--- a registry has the versions and the tickets of a situation
+-- a registry has the versions that a situation holds, and its tickets; no open ticket is of a version that was dropped
 pub record IsRegistered (registry : RegistryData) (s : Situation) : Type 0 where
-  pub first : s.first_version ≡ registry.first_version
-  pub versions : s.programs ≡ registry.programs
+  pub first : s.first_version + s.dropped ≡ registry.first_version
+  pub some : s.dropped < length s.programs
+  pub versions : drop s.dropped s.programs ≡ registry.programs
+  pub needed : AllByRecursion (λ ticket. s.first_version + s.dropped ≤ ticket.version) s.open_tickets
   pub tickets : s.open_tickets ≡ registry.open_tickets
   pub next : s.next_ticket ≡ registry.next_ticket
 
@@ -85,4 +87,4 @@ pub record CanFollow (service : Service) (next : Standing) (effects : Effects) (
   pub stands : StandsFor service held situation
   pub orderly : IsOrderly situation
   pub changes : AreEffects situation next effects
-  pub few : (program : VerifiedProgram) → installs ≡ Some program → length situation.programs < most_versions
+  pub few : (program : VerifiedProgram) → installs ≡ Some program → length situation.programs - situation.dropped < most_versions

@@ -29,8 +29,9 @@ pub record IsSound (past : Past) : Type 0 where
   pub permissions : is_half_open past.standing.state ≡ true
       → permissions_held past.standing.period (open_of past.stages) + length (notes_of past) ≤ past.opening.config.permitted_number_of_calls_in_half_open_state
   -- the journal has a line left for the end of each open ticket
-  pub used : (length past.stages - past.rolled) + length (open_of past.stages) ≤ most_entries
-  pub versions : length (programs_of past) ≤ most_versions
+  pub used : (length past.stages - past.rolled.lines) + length (open_of past.stages) ≤ most_entries
+  -- the versions that are held
+  pub versions : length (programs_of past) - past.rolled.programs ≤ most_versions
   -- every program that was installed is safe
   pub programs : AreSafePrograms (programs_of past)
   -- all work that came in was judged, and each verdict is the meaning's for the version that its ticket names
@@ -38,8 +39,9 @@ pub record IsSound (past : Past) : Type 0 where
   pub verdicts : AllByRecursion (λ stage. IsMeantLine past.opening.version (programs_of past) (issued past.stages) stage.line) past.stages
   pub moment : greatest past < 2 ^ 64
 
--- when entries were last handed out, and when the book opened, no number was past its limit: since then each held line took at most one number, and two periods
+-- when entries were last handed out, and when the book opened, no number was past its limit: since then each held line took at most one number, one version, and two periods
 pub record LeavesRoom (past : Past) : Type 0 where
-  pub line : next_line past ≤ greatest_number + (length past.stages - past.rolled)
-  pub ticket : next_ticket past ≤ greatest_number + (length past.stages - past.rolled)
-  pub period : past.standing.period ≤ greatest_number + 2 * (length past.stages - past.rolled)
+  pub line : next_line past ≤ greatest_number + (length past.stages - past.rolled.lines)
+  pub ticket : next_ticket past ≤ greatest_number + (length past.stages - past.rolled.lines)
+  pub period : past.standing.period ≤ greatest_number + 2 * (length past.stages - past.rolled.lines)
+  pub version : past.opening.version + length (programs_of past) ≤ greatest_number + 1 + (length past.stages - past.rolled.lines)

@@ -55,11 +55,11 @@ impl Model for Book {
 
     ghost Value = { History };
 
-    ghost use Rattle.book.specs.Books.{opening_of, all_lines, lines_handed, journal, IsBook};
+    ghost use Rattle.book.specs.Books.{opening_of, all_lines, lines_handed, journal, rolled_of, IsBook};
 
-    ghost view = { λ b. journal (opening_of b.service.config b.start) (all_lines b.handed.items b.entries.items) b.rolled };
+    ghost view = { λ b. journal (opening_of b.service.config b.start) (all_lines b.handed.items b.entries.items) (rolled_of b.rolled b.service b.start) };
 
-    ghost invariant = { λ b. IsBook (opening_of b.service.config b.start) b.service b.moment (all_lines b.handed.items b.entries.items) b.rolled × (b.rolled ≡ length (lines_handed b.handed.items)) };
+    ghost invariant = { λ b. IsBook (opening_of b.service.config b.start) b.service b.moment (all_lines b.handed.items b.entries.items) (rolled_of b.rolled b.service b.start) × (b.rolled ≡ length (lines_handed b.handed.items)) };
 }
 
 impl Book {

@@ -1,6 +1,6 @@
 //! Laws of the documented machine, of its histories, and of all that workers and operators may do in
 //! any order.
-ghost use Rattle.std.specs.Prelude.{◌≡◌, ◌≢◌, ◌≤◌, ◌+◌, ◌⊎◌, ◌++◌, ℕ, List, length, drop, Some, None, Ok, true, false, slice_get};
+ghost use Rattle.std.specs.Prelude.{◌≡◌, ◌≢◌, ◌≤◌, ◌<◌, ◌+◌, ◌⊎◌, ◌++◌, ℕ, suc, List, [], length, drop, Some, None, Ok, true, false, slice_get};
 ghost use Rattle.std.specs.List.{AllByRecursion};
 ghost use Rattle.bpf_profile.specs.declared.machine.Verdict.TheVariants as verdict;
 ghost use Rattle.bpf_profile.specs.Limits.{context_size};
@@ -11,13 +11,14 @@ ghost use Rattle.refusals.specs.declared.RefusalNumber.TheVariants as refusal;
 ghost use Rattle.service_profile.specs.declared.replies.Fate.{Fate};
 ghost use Rattle.service_profile.specs.declared.replies.Reply.TheVariants as reply;
 ghost use Rattle.service_profile.specs.declared.states.State.{State};
-ghost use Rattle.service_profile.specs.Events.{EntryData, EventData, Opening, History, rolled_to};
-ghost use Rattle.service_profile.specs.Histories.{Stage, past_of, programs_of, issued, open_of, ended, notes_of, is_listed, note_by, Follows, IsLegal};
+ghost use Rattle.service_profile.specs.Events.{EntryData, EventData, Opening, Rolled, History, installs, rolled_to};
+ghost use Rattle.service_profile.specs.Histories.{Stage, past_of, situation_of, programs_of, issued, open_of, ended, notes_of, is_listed, note_by, Follows, IsLegal};
 ghost use Rattle.book.specs.Interleavings.{Act, AreSteps, IsWorld, carried, course, begun};
 ghost use Rattle.book.specs.Laws.{IsService, HasMeantNote};
-ghost use Rattle.book.specs.Rolling.{with_rolled, rolled_whole, endless_answer, Ask, heard, history_after, without_rolls, NeverFull, PagesAreHeld, pieces};
+ghost use Rattle.book.specs.Rolling.{IsFurther, with_rolled, rolled_whole, versions_needed, endless_answer, Ask, heard, history_after, without_rolls, NeverFull, PagesAreHeld, pieces};
+ghost use Rattle.service_profile.specs.Limits.{most_versions};
 ghost use Rattle.service_profile.specs.Machine.{decision, refused, is_open, permissions_held};
-ghost use Rattle.service_profile.specs.Answers.{answer, held_lines, cut};
+ghost use Rattle.service_profile.specs.Answers.{answer, held_lines, cut, rolled_up_to};
 ghost use Rattle.book.specs.Safe.{IsVerifiedProgram, AreSafePrograms};
 ghost use Rattle.service_profile.specs.Openings.{IsOpening};
 ghost use Rattle.service_profile.specs.MeantVerdicts.{IsMeantLine};
@@ -124,21 +125,22 @@ pub fn cuts_leave_good_openings()
     accepted_programs_are_safe();
 }
 
-/// A roll leaves a history legal, and leaves all that it says but how many of its lines were handed out.
+/// A roll leaves a history legal, and leaves all that it says but how much was taken out of it.
 pub fn rolls_leave_histories_legal()
-    ensures { (history : History) (count : ℕ) → IsLegal history → history.rolled ≤ count → IsLegal (rolled_to count history) × (past_of (rolled_to count history) ≡ with_rolled count (past_of history)) }
+    ensures { (history : History) (rolled : Rolled) → IsLegal history → IsFurther history.rolled rolled → IsLegal (rolled_to rolled history) × (past_of (rolled_to rolled history) ≡ with_rolled rolled (past_of history)) }
 {}
 
 /// Rolling is invisible: whatever is asked after a legal history, with rolls anywhere in the list, each
 /// reply, look, reading and page is what it is without the rolls, and so are all lines in the end. The
-/// premises are that without the rolls no event meets a full journal, and that each page begins with an
-/// entry that is held, or behind all of them.
+/// premises are that without the rolls no event meets a full journal or a full list of versions, and that each
+/// page begins with an entry that is held, or behind all of them.
 pub fn rolling_is_invisible()
     ensures { (history : History) (asked : List Ask) → IsLegal history → NeverFull history (without_rolls asked) → PagesAreHeld history asked → (heard history asked ≡ heard history (without_rolls asked)) × ((history_after history asked).lines ≡ (history_after history (without_rolls asked)).lines) }
 {}
 
 /// The same without a premise on full journals: each reply is `JournalFull`, or what a journal without end
-/// answers.
+/// answers. How many versions are held is that of the history, for which `rolls_leave_room_for_versions` says
+/// when there is room.
 pub fn replies_are_full_or_those_of_an_endless_journal()
     ensures { (history : History) (moment : ℕ) (event : EventData) → (answer history moment event ≡ refused (past_of history).standing refusal.JournalFull) ⊎ (answer history moment event ≡ endless_answer history moment event) }
 {}
@@ -146,10 +148,21 @@ pub fn replies_are_full_or_those_of_an_endless_journal()
 /// The pieces that rolls hand out, one behind another, and what is held in the end are the journal: all
 /// lines that had not been handed out before, each once and in order.
 pub fn pieces_are_the_journal()
-    ensures { (history : History) (asked : List Ask) → history.rolled ≤ length history.lines → pieces history asked ++ held_lines (history_after history asked) ≡ drop history.rolled (history_after history asked).lines }
+    ensures { (history : History) (asked : List Ask) → history.rolled.lines ≤ length history.lines → pieces history asked ++ held_lines (history_after history asked) ≡ drop history.rolled.lines (history_after history asked).lines }
 {}
 
 /// Once all entries are handed out, no event is answered `JournalFull`, however many tickets are open.
 pub fn rolled_journals_have_room()
-    ensures { (history : History) (moment : ℕ) (event : EventData) → IsLegal history → IsSound (past_of history) → history.rolled ≤ length history.lines → (answer (rolled_whole history) moment event).reply ≢ reply.Refused refusal.JournalFull }
+    ensures { (history : History) (moment : ℕ) (event : EventData) → IsLegal history → IsSound (past_of history) → history.rolled.lines ≤ length history.lines → (answer (rolled_whole history) moment event).reply ≢ reply.Refused refusal.JournalFull }
+{}
+
+/// After a roll an install is not answered `VersionsFull`, however many programs were installed before, unless
+/// there are 256 versions from the least that an open ticket has up to the last.
+pub fn rolls_leave_room_for_versions()
+    ensures { (history : History) (last moment : ℕ) (program : VerifiedProgram) → IsLegal history → versions_needed (situation_of (past_of history)) < most_versions → (answer (rolled_up_to history last) moment (installs program)).reply ≢ reply.Refused refusal.VersionsFull }
+{}
+
+/// Where no ticket is open, a roll leaves one program, that of new tickets.
+pub fn quiet_rolls_leave_one_version()
+    ensures { (history : History) (last : ℕ) → IsLegal history → (situation_of (past_of history)).open_tickets ≡ [] → history.rolled.programs < length (programs_of (past_of history)) → length (programs_of (past_of (rolled_up_to history last))) ≡ suc (rolled_up_to history last).rolled.programs }
 {}

@@ -1,6 +1,6 @@
 //! What is decided of an event before anything changes: the reply, where the breaker stands then, and the
 //! effects. Each step is the documented machine's, in any situation that the service's parts stand for.
-ghost use Rattle.std.specs.Prelude.{◌≡◌, ◌<◌, ◌^◌, ℕ, true, Some};
+ghost use Rattle.std.specs.Prelude.{◌≡◌, ◌+◌, ◌<◌, ◌≤◌, ◌^◌, ℕ, true, Some};
 ghost use Rattle.service_profile.specs.Events.{EventData, acquires, finishes, releases, installs, moves, resets};
 ghost use Rattle.service_profile.specs.Machine.{Situation, judged_as, acquired, same_program, fate_of, note_of, concluded, finished, finished_by, finished_under, released, installed, moved_to, is_full, decided, decision, is_entered, is_entered_refusal};
 ghost use Rattle.windows.specs.Notes.{AreNotAfter};
@@ -165,10 +165,10 @@ fn finished_by(
     concluded(service, moment, ticket, judged)
 }
 
-/// The answer under an open ticket.
+/// The answer under an open ticket, whose version was not dropped.
 fn finished_under(service: &Service, moment: u64, judged: &Judged, ticket: OpenTicket) -> Plan
     requires { HasSituation service.now }
-    ensures { (held : ℕ) (s : Situation) → StandsFor service.now held s → AreNotAfter moment s.notes → result ≡ planned s.config moment (finishes judged.now ticket.number) (finished_under s moment judged.now (Some ticket)) }
+    ensures { (held : ℕ) (s : Situation) → StandsFor service.now held s → AreNotAfter moment s.notes → s.first_version + s.dropped ≤ ticket.version → result ≡ planned s.config moment (finishes judged.now ticket.number) (finished_under s moment judged.now (Some ticket)) }
 {
     match service.program(ticket.version) {
         Some(program) => finished_by(service, moment, ticket, judged, program),

@@ -1,4 +1,5 @@
-//! A roll of a book: entries are handed out, and all else goes on as it is.
+//! A roll of a book: entries are handed out, programs that nobody needs any more are dropped, and all else goes
+//! on as it is.
 ghost use Rattle.std.specs.Prelude.{◌≡◌, ◌-◌, ◌<◌, ◌≤◌, length, min, suc, take, drop, OnErr, IfOk, OnOk};
 ghost use Rattle.service_profile.specs.Answers.{IsRolled, map_ok};
 ghost use Rattle.service_profile.specs.Histories.{IsLegal, past_of};
@@ -28,10 +29,12 @@ fn split(entries: &mut Vec<Entry>, count: usize) -> Result<Vec<Entry>, AllocErro
 }
 
 impl Book {
-    /// Hands out the entries up to a number that are held. All else goes on as it is: state, period,
-    /// notes, tickets, versions and numbers. The refusal is `JournalFull` where a number that would go on
-    /// is past 2^63, `ServiceOutOfMemory` where there is no memory for a list of the entries that stay; it
-    /// changes nothing. A number that was passed before hands out nothing.
+    /// Hands out the entries up to a number that are held, and drops the programs of versions before the
+    /// least that an open ticket or a new one has, so that there is room for others. All else goes on as it
+    /// is: state, period, notes, tickets, and all numbers, those of versions too. The refusal is
+    /// `JournalFull` where a number that would go on is past 2^63, `ServiceOutOfMemory` where there is no
+    /// memory for a list of the entries that stay; it changes nothing. A number that was passed before hands
+    /// out nothing.
     pub fn roll(&mut self, last: u64) -> Result<Vec<Entry>, RefusalNumber>
         ensures rolled { IsRolled self.old last (map_ok (λ entries. entries.items) result) self.new }
         ensures legal_before { IsLegal self.old }
@@ -48,6 +51,7 @@ impl Book {
             Ok(handed) => {
                 self.handed = self.handed.and(&handed);
                 self.rolled += count;
+                self.service.drop_unneeded();
                 Ok(handed)
             }
             Err(_) => Err(RefusalNumber::ServiceOutOfMemory),

@@ -1,16 +1,18 @@
 //! The parts of a service, and what the book asks of them. Contracts speak of a situation that the parts stand
 //! for.
-ghost use Rattle.std.specs.Prelude.{◌≡◌, ◌+◌, ◌-◌, ◌++◌, ◌∷◌, [], ℕ, length, nat_le, Some, IfOk};
+ghost use Rattle.std.specs.Prelude.{◌≡◌, ◌+◌, ◌-◌, ◌≤◌, ◌++◌, ◌∷◌, [], ℕ, length, nat_le, Some, IfOk};
 ghost use Rattle.std.specs.Arc.{arc_value};
 ghost use Rattle.std.specs.Option.{option_map};
 ghost use Rattle.breaker.specs.Calls.{metrics_of};
 ghost use Rattle.service_profile.specs.Answers.{looked, map_ok};
+ghost use Rattle.service_profile.specs.Events.{nothing_rolled};
 ghost use Rattle.service_profile.specs.Histories.{opened, situation_of};
 ghost use Rattle.service_profile.specs.Machine.{Situation, current_version, is_issued, is_open, open_ticket, permission_in, permissions_held, program_from};
 ghost use Rattle.service_profile.specs.Openings.{IsOpening};
 ghost use Rattle.service_profile.specs.Rates.{after_notes};
 ghost use Rattle.windows.specs.Notes.{AreNotAfter};
 ghost use Rattle.book.specs.Books.{opening_of};
+ghost use Rattle.book.specs.Following.{without_unneeded};
 ghost use Rattle.book.specs.Situations.{HasSituation, StandsFor, breaker_of};
 
 use crate::books::Start;
@@ -47,7 +49,7 @@ impl Service {
     pub(crate) fn new(alloc: Global, config: Config, start: &Start) -> Result<Service, AllocError>
         requires { IsOpening (opening_of config start.now) }
         ensures config { IfOk result (λ service. service.config ≡ config) }
-        ensures stands { IfOk result (λ service. StandsFor service 0 (situation_of (opened 0 (opening_of config start.now)))) }
+        ensures stands { IfOk result (λ service. StandsFor service 0 (situation_of (opened nothing_rolled (opening_of config start.now)))) }
         ensures refused { IfOk result (λ service. service.refused ≡ 0) }
     {
         let program = Arc::try_clone(&start.program)?;
@@ -149,16 +151,16 @@ impl Service {
         self.registry.look(ticket)
     }
 
-    /// The program of a version.
+    /// The program of a version that was not dropped.
     pub(crate) fn program(&self, version: u64) -> Option<&Arc<Verified>>
-        ensures { (held : ℕ) (s : Situation) → StandsFor self.now held s → option_map (λ p. arc_value p.now) result ≡ program_from s.first_version s.programs version }
+        ensures { (held : ℕ) (s : Situation) → StandsFor self.now held s → s.first_version + s.dropped ≤ version → option_map (λ p. arc_value p.now) result ≡ program_from s.first_version s.programs version }
     {
         self.registry.program(version)
     }
 
     /// How many versions are held.
     pub(crate) fn version_count(&self) -> usize
-        ensures { (held : ℕ) (s : Situation) → StandsFor self.now held s → result ≡ length s.programs }
+        ensures { (held : ℕ) (s : Situation) → StandsFor self.now held s → result ≡ length s.programs - s.dropped }
     {
         self.registry.version_count()
     }
@@ -182,5 +184,14 @@ impl Service {
         ensures { (held : ℕ) (s : Situation) → StandsFor self.now held s → Some (arc_value result.now) ≡ program_from s.first_version s.programs (current_version s) }
     {
         self.registry.current_program()
+    }
+
+    /// Drops the programs of versions before the least that an open ticket or a new one has.
+    pub(crate) fn drop_unneeded(&mut self)
+        ensures config { self.new.config ≡ self.old.config }
+        ensures refused { self.new.refused ≡ self.old.refused }
+        ensures stands { (held : ℕ) (s : Situation) → StandsFor self.old held s → StandsFor self.new held (without_unneeded s) }
+    {
+        self.registry.drop_unneeded();
     }
 }

@@ -215,6 +215,25 @@ fn a_cut_keeps_the_last_version(rt: HostRuntime) {
 }
 
 #[test]
+fn a_roll_leaves_room_for_versions(rt: HostRuntime) {
+    let alloc = rt.alloc();
+    let installs = installs(&rt, alloc, 256);
+    let roll = "{\"at\":0,\"do\":\"roll\",\"to\":0}\n";
+    let input = joined_text(&rt, alloc, &[&installs, roll, INSTALL]);
+    prints(
+        &rt,
+        alloc,
+        &input,
+        &[
+            &installed(&rt, alloc, 256),
+            "503 {\"error\":36,\"name\":\"VersionsFull\"}\n",
+            "200 {\"entries\":0}\n",
+            "200 {\"budget\":2,\"version\":257}\n",
+        ],
+    );
+}
+
+#[test]
 fn a_release_ends_its_ticket(rt: HostRuntime) {
     let input = "{}\n\
         {\"at\":0,\"do\":\"acquire\"}\n\

@@ -1,6 +1,6 @@
 -- What a map's entries say of the tickets that they stand for. The map has the greatest number first, and the
 -- tickets are in the order of their numbers.
-use Rattle.std.proofs.Common.{◌≡◌, ℕ, ◌<◌, ◌==◌, ◌||◌, not, Bool, true, false, cond, map, length, Option, Some, None, List, [], ◌∷◌, ◌++◌, arith, refl, sym, ap, subst, ◌∙◌, Ordering, Less}
+use Rattle.std.proofs.Common.{◌≡◌, ℕ, min, ◌<◌, ◌==◌, ◌||◌, not, Bool, true, false, cond, map, length, Option, Some, None, List, [], ◌∷◌, ◌++◌, arith, refl, sym, ap, subst, ◌∙◌, Ordering, Less}
 use Rattle.std.proofs.lemmas.Bool.Decides.{nat_tests}
 use Rattle.std.proofs.lemmas.List.{length-append}
 use Rattle.std.proofs.lemmas.List.Elements.{filter-append}
@@ -8,15 +8,17 @@ use Rattle.std.specs.declared.cmp.Reverse.{Reverse}
 use Rattle.std.specs.BTreeMap.{is_at, insert_entry}
 use Rattle.std.specs.Cmp.{nat_cmp_is}
 use Rattle.std.specs.List.{AllByRecursion, filter}
+use Rattle.std.proofs.lemmas.List.Sums.{fold-append}
 use Rattle.std.specs.List.Sorted.{IsStrictlySortedBy}
 use Rattle.std.proofs.lemmas.Map.Keys.{IsStrictlyIncreasing-from_sorted}
-use Rattle.std.specs.Map.{keys_of, lookup, remove_entry}
+use Rattle.std.specs.Map.{keys_of, values_of, lookup, remove_entry}
 use Rattle.std.specs.Option.{is_some, option_map}
 use Rattle.std.specs.Ordering.{nat_cmp, match_ordering}
+use Rattle.service_profile.specs.Answers.{least_version}
 use Rattle.service_profile.specs.Machine.{open_ticket, is_open}
 use Rattle.service_profile.specs.declared.tickets.OpenTicket.{OpenTicket}
 use Rattle.registry.specs.Registries.{Ascend}
-use Rattle.registry.specs.Terms.{ticket_of, tickets_of}
+use Rattle.registry.specs.Terms.{least_of, ticket_of, tickets_of}
 use Rattle.registry.specs.declared.tickets.Terms.{Terms}
 
 -- ---- numbers
@@ -192,3 +194,19 @@ in_order es sorted = IsStrictlyIncreasing-from_sorted (numbers_of (tickets_of es
 pub as_many : (es : List (Reverse ℕ × Terms)) → length (tickets_of es) ≡ length es
 as_many [] = refl
 as_many (e ∷ es) = let rest = as_many es in let joined = length-append (tickets_of es) (ticket_of e.0.0 e.1 ∷ []) in omega (arith, rest, joined)
+
+-- ---- the least version
+
+least_later : (current version : ℕ) (terms : List Terms) → least_of (min current version) terms ≡ min (least_of current terms) version
+least_later current version [] = refl
+least_later current version (t ∷ terms) =
+    let turned : min (min current version) t.version ≡ min (min current t.version) version = omega arith in
+    ap (λ (n : ℕ). least_of n terms) turned ∙ least_later (min current t.version) version terms
+
+-- the order of the tickets says nothing
+pub least_over : (current : ℕ) (es : List (Reverse ℕ × Terms)) → least_version current (tickets_of es) ≡ least_of current (values_of es)
+least_over current [] = refl
+least_over current (e ∷ es) =
+    fold-append (λ (least : ℕ) (ticket : OpenTicket). min least ticket.version) current (tickets_of es) (ticket_of e.0.0 e.1 ∷ [])
+    ∙ ap (λ (n : ℕ). min n e.1.version) (least_over current es)
+    ∙ sym (least_later current e.1.version (values_of es))

@@ -1,14 +1,15 @@
 -- What a registry keeps of its open tickets.
-use Rattle.std.proofs.Common.{◌≡◌, ℕ, ◌+◌, ◌-◌, ◌<◌, ◌≤◌, ◌==◌, nat_le, nat_lt, ◌&&◌, ◌||◌, not, Bool, true, false, cond, Option, Some, None, IfSome, List, [], ◌∷◌, ◌++◌, length, map, slice_get, if◌then◌else◌, arith, refl, sym, ap, ◌∙◌}
+use Rattle.std.proofs.Common.{◌≡◌, ℕ, min, drop, ◌+◌, ◌-◌, ◌<◌, ◌≤◌, ◌==◌, nat_le, nat_lt, ◌&&◌, ◌||◌, not, Bool, true, false, cond, Option, Some, None, IfSome, List, [], ◌∷◌, ◌++◌, length, map, slice_get, if◌then◌else◌, arith, refl, sym, ap, ◌∙◌}
 use Rattle.std.proofs.lemmas.Bool.Decides.{nat_tests}
-use Rattle.std.proofs.lemmas.List.{length-map}
+use Rattle.std.proofs.lemmas.List.{length-map, length-drop}
 use Rattle.std.proofs.lemmas.Option.{slice_get-map}
 use Rattle.std.specs.List.{AllByRecursion, filter}
 use Rattle.std.specs.Option.{is_some, option_map}
 use Rattle.bpf_profile.specs.Programs.{VerifiedProgram}
+use Rattle.service_profile.specs.Answers.{least_version}
 use Rattle.service_profile.specs.Machine.{open_ticket, is_open, program_from}
 use Rattle.service_profile.specs.declared.tickets.OpenTicket.{OpenTicket}
-use Rattle.registry.specs.Registries.{RegistryData, IsTicketOf, IsRegistry, without_ticket}
+use Rattle.registry.specs.Registries.{RegistryData, IsTicketOf, IsRegistry, current_version, least_needed, without_ticket, without_unneeded}
 
 -- ---- a ticket more, and a ticket less
 
@@ -96,3 +97,36 @@ last_is_current f first xs x h =
     ∙ ap (slice_get (map f xs)) place
     ∙ slice_get-map f xs (length xs - 1)
     ∙ ap (option_map f) h
+
+-- ---- programs that nobody needs any more
+
+pub least_falls : (current : ℕ) (tickets : List OpenTicket) → least_version current tickets ≤ current
+least_falls current [] = omega arith
+least_falls current (t ∷ ts) = let rest = least_falls (min current t.version) ts in omega (arith, rest)
+
+-- the least version is held, as each open ticket's is
+pub least_held : (first versions next current : ℕ) (tickets : List OpenTicket) → first ≤ current → AllByRecursion (IsTicketOf first versions next) tickets → first ≤ least_version current tickets
+least_held first versions next current [] held all = held
+least_held first versions next current (t ∷ ts) held all = least_held first versions next (min current t.version) ts (omega (arith, held, all.0.not_older)) all.1
+
+-- every open ticket's version is held from there on
+pub still_held : (first versions next less current : ℕ) (tickets : List OpenTicket) → AllByRecursion (IsTicketOf first versions next) tickets → least_version current tickets + less ≡ first + versions
+    → AllByRecursion (IsTicketOf (least_version current tickets) less next) tickets
+still_held first versions next less current [] all e = tt
+still_held first versions next less current (t ∷ ts) all e =
+    let least = least_falls (min current t.version) ts in
+    (record { given = all.0.given; before = all.0.before; not_older = omega (arith, least); not_newer = omega (arith, all.0.not_newer, e) }, still_held first versions next less (min current t.version) ts all.1 e)
+
+-- a registry keeps its promises when programs that nobody needs are dropped
+pub kept_needed : (r : RegistryData) → IsRegistry r → IsRegistry (without_unneeded r)
+kept_needed r kept =
+    let falls = least_falls (current_version r) r.open_tickets in
+    let held = least_held r.first_version (length r.programs) r.next_ticket (current_version r) r.open_tickets (omega arith) kept.tickets in
+    let left : length (drop (least_needed r - r.first_version) r.programs) ≡ length r.programs - (least_needed r - r.first_version) = length-drop (least_needed r - r.first_version) r.programs in
+    record {
+      some = omega (arith, left, falls, held, kept.some);
+      few = omega (arith, left, kept.few);
+      numbered = omega (arith, left, falls, held, kept.some, kept.numbered);
+      begun = kept.begun;
+      tickets = still_held r.first_version (length r.programs) r.next_ticket (length (drop (least_needed r - r.first_version) r.programs)) (current_version r) r.open_tickets kept.tickets (omega (arith, left, falls, held, kept.some));
+    }

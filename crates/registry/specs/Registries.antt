@@ -6,7 +6,7 @@ use Rattle.refusals.specs.declared.RefusalNumber.{RefusalNumber}
 use Rattle.refusals.specs.declared.RefusalNumber.TheVariants as refusal
 use Rattle.bpf_profile.specs.Programs.{VerifiedProgram}
 use Rattle.service_profile.specs.declared.tickets.OpenTicket.{OpenTicket}
-use Rattle.service_profile.specs.Answers.{looked_up}
+use Rattle.service_profile.specs.Answers.{least_version, looked_up}
 use Rattle.service_profile.specs.Limits.{most_versions}
 use Rattle.service_profile.specs.Machine.{open_ticket, program_from}
 
@@ -52,6 +52,18 @@ with_current r = record r {
   first_version = current_version r;
   programs = drop (length r.programs - 1) r.programs;
   program_room = r.program_room + (length r.programs - 1);
+}
+
+-- the least version of an open ticket, or else that of new tickets
+abbrev pub least_needed : RegistryData → ℕ
+least_needed r = least_version (current_version r) r.open_tickets
+
+-- the programs from that version on
+abbrev pub without_unneeded : RegistryData → RegistryData
+without_unneeded r = record r {
+  first_version = least_needed r;
+  programs = drop (least_needed r - r.first_version) r.programs;
+  program_room = r.program_room + (least_needed r - r.first_version);
 }
 
 -- ---- tickets

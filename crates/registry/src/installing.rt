@@ -2,10 +2,10 @@
 ghost use Rattle.std.specs.Prelude.{◌≡◌, ◌<◌, ◌≤◌, ◌+◌, ◌-◌, ◌^◌, length, [], Err, OnOk, OnErr, IfOk, IfErr};
 ghost use Rattle.std.specs.Arc.{arc_value};
 ghost use Rattle.service_profile.specs.Limits.{most_versions};
-ghost use Rattle.registry.specs.Registries.{next_version, with_room, with_program, with_current};
+ghost use Rattle.registry.specs.Registries.{current_version, least_needed, next_version, with_room, with_program, with_current, without_unneeded};
 
 use crate::holdings::Registry;
-use crate::programs::{add, keep_last, make_room};
+use crate::programs::{add, drop_first, keep_last, make_room};
 use refusals::RefusalNumber;
 use service_profile::MOST_VERSIONS;
 use std::alloc::AllocError;
@@ -63,5 +63,19 @@ impl Registry {
     {
         self.first_version = self.current_version();
         keep_last(&mut self.programs);
+    }
+
+    /// Drops the programs of versions that no open ticket has and no new one will have: those before the least
+    /// version that is needed. The others keep their versions. It takes no memory, and time that grows with the
+    /// number of open tickets.
+    pub fn drop_unneeded(&mut self)
+        ensures programs { self.new ≡ without_unneeded self.old }
+        ensures held { self.old.first_version ≤ least_needed self.old }
+        ensures needed { least_needed self.old ≤ current_version self.old }
+    {
+        let least = self.open_tickets.least_version(self.current_version());
+        let count = (least - self.first_version) as usize;
+        drop_first(&mut self.programs, count);
+        self.first_version = least;
     }
 }

@@ -52,6 +52,18 @@ pub(crate) fn add(programs: &mut Vec<Arc<Verified>>, program: Arc<Verified>)
     programs.push_reserved(program);
 }
 
+/// Drops the first programs, so many, and keeps at least one.
+pub(crate) fn drop_first(programs: &mut Vec<Arc<Verified>>, count: usize)
+    requires { count < vec_len programs.old }
+    ensures programs { map arc_value programs.new.items ≡ drop count (map arc_value programs.old.items) }
+    ensures len { vec_len programs.new ≡ vec_len programs.old - count }
+    ensures capacity { vec_capacity programs.new ≡ vec_capacity programs.old }
+{
+    let staying = programs.len() - count;
+    programs.rotate_left(count);
+    programs.truncate(staying);
+}
+
 /// Keeps the last program alone.
 pub(crate) fn keep_last(programs: &mut Vec<Arc<Verified>>)
     requires { 1 ≤ vec_len programs.old }

@@ -1,10 +1,12 @@
 //! Open tickets, by their numbers.
 ghost use Rattle.std.specs.Prelude.{◌≡◌, ◌==◌, ◌<◌, not, length, [], ◌∷◌, ◌++◌, OnOk, OnErr};
+ghost use Rattle.std.specs.BTreeMap.{values};
 ghost use Rattle.std.specs.List.{AllByRecursion, filter};
 ghost use Rattle.std.specs.Option.{option_map};
+ghost use Rattle.service_profile.specs.Answers.{least_version};
 ghost use Rattle.service_profile.specs.Machine.{open_ticket, is_open};
 ghost use Rattle.registry.specs.Registries.{Ascend};
-ghost use Rattle.registry.specs.Terms.{ticket_of};
+ghost use Rattle.registry.specs.Terms.{least_of, ticket_of};
 
 use service_profile::OpenTicket;
 use std::alloc::{AllocError, Global};
@@ -56,6 +58,17 @@ fn ticket_of(number: u64, terms: Option<Terms>) -> Option<OpenTicket>
     }
 }
 
+/// The least version of some terms, or else this one.
+fn least_of(terms: &BTreeMap<Reverse<u64>, Terms>, current: u64) -> u64
+    ensures { result ≡ least_of current (values terms.now) }
+{
+    let mut least = current;
+    for one in terms.values() {
+        least = least.min(one.version);
+    }
+    least
+}
+
 impl OpenTickets {
     /// No ticket.
     pub(crate) fn new(alloc: Global) -> OpenTickets
@@ -86,6 +99,13 @@ impl OpenTickets {
         ensures { result ≡ is_open self.now number }
     {
         self.terms.contains_key(&Reverse(number))
+    }
+
+    /// The least version of an open ticket, or else this one, that of new tickets. It goes over all tickets.
+    pub(crate) fn least_version(&self, current: u64) -> u64
+        ensures { result ≡ least_version current self.now }
+    {
+        least_of(&self.terms, current)
     }
 
     /// Opens a ticket with a number above all others. Without memory nothing changes.

@@ -4,7 +4,6 @@ use Rattle.bpf_profile.specs.Limits.{context_size}
 use Rattle.bpf_profile.specs.Safety.{IsSafe}
 use Rattle.bpf_profile.specs.JudgedWork.{JudgedData, IsTied}
 use Rattle.refusals.specs.declared.RefusalNumber.{RefusalNumber}
-use Rattle.refusals.specs.declared.RefusalNumber.TheVariants as refusal
 use Rattle.verifier.specs.declared.refusal.Refusal.{Refusal}
 use Rattle.bpf_profile.specs.Programs.{VerifiedProgram}
 use Rattle.verifier.specs.Verifying.{IsVerification, IsRefused, fault_of, out_of_memory}
@@ -28,15 +27,15 @@ abbrev pub IsReported : History → ℕ → ℕ → Report → Reply → History
 IsReported history seat moment reported r after =
     (found : Result VerifiedProgram RefusalNumber) × IsLooked history reported.ticket found × IsFinished history seat moment reported found r after
 
--- why bytes are not installed: memory ran out, or their first fault; nothing changes
+-- why the book isn't asked: memory ran out for verifying the bytes or owning their program, or their first fault; nothing changes
 abbrev pub IsProgramRefused : History → List ℕ → Refusal → History → Type 0
 IsProgramRefused history bytes refused after = ((refused ≡ out_of_memory) ⊎ IsRefused bytes (fault_of refused)) × (after ≡ history)
 
--- the bytes spell a program, which flow and analysis accept, and which is safe. It is installed; or there is no memory to own it, and nothing changed
+-- the bytes spell a program, which flow and analysis accept, and which is safe. The book is asked to install it
 abbrev pub IsProgramTaken : History → ℕ → ℕ → List ℕ → Reply → History → Type 0
 IsProgramTaken history seat moment bytes r after =
     (program : VerifiedProgram) × IsVerification bytes program × IsSafe context_size program.slots program.budget
-    × (IsApplied history seat moment (installs program) r after ⊎ ((r ≡ reply.Refused refusal.ServiceOutOfMemory) × (after ≡ history)))
+    × IsApplied history seat moment (installs program) r after
 
 abbrev pub IsInstalled : History → ℕ → ℕ → List ℕ → ResponseData → History → Type 0
 IsInstalled history seat moment bytes (refuses_program refused) after = IsProgramRefused history bytes refused after

@@ -9,9 +9,9 @@ use crate::response::Response;
 use book::{Book, Entry, Event, Reply};
 use bpf_run::judge;
 use refusals::RefusalNumber;
-use std::alloc::Global;
+use std::alloc::{AllocError, Global};
 use std::sync::Arc;
-use verifier::verify;
+use verifier::{Refusal, verify};
 
 /// Judges an outcome by the program of its ticket, and finishes it.
 fn report(book: &mut Book, seat: u32, moment: u64, report: Report) -> Reply
@@ -26,7 +26,8 @@ fn report(book: &mut Book, seat: u32, moment: u64, report: Report) -> Reply
     }
 }
 
-/// Verifies a program, and installs it.
+/// Verifies a program, and installs it. Memory is taken before the book is asked: where there is none, the
+/// program is refused with `ProgramOutOfMemory`.
 fn install(alloc: Global, book: &mut Book, seat: u32, moment: u64, bytes: &[u8]) -> Response
     ensures { IsInstalled book.old seat moment bytes.now (response_data result) book.new }
 {
@@ -36,7 +37,7 @@ fn install(alloc: Global, book: &mut Book, seat: u32, moment: u64, bytes: &[u8])
     };
     match Arc::new(alloc, program) {
         Ok(program) => Response::Reply(book.apply(seat, moment, Event::Install(program))),
-        Err(_) => Response::Reply(Reply::Refused(RefusalNumber::ServiceOutOfMemory)),
+        Err(error) => Response::ProgramRefused(Refusal::from(AllocError::from(error))),
     }
 }
 

@@ -1,6 +1,6 @@
 -- What a book answers to calls, by its history.
 use Rattle.std.specs.Prelude.{◌≡◌, ℕ, suc, max, min, ◌-◌, ◌<◌, nat_lt, ◌||◌, Bool, true, false, if◌then◌else◌, List, [], ◌∷◌, ◌++◌, length, take, drop, Option, Some, None, Result, Ok, Err}
-use Rattle.std.specs.List.{filter_map}
+use Rattle.std.specs.List.{filter_map, fold}
 use Rattle.refusals.specs.declared.RefusalNumber.{RefusalNumber}
 use Rattle.refusals.specs.declared.RefusalNumber.TheVariants as refusal
 use Rattle.bpf_profile.specs.Programs.{VerifiedProgram}
@@ -11,7 +11,7 @@ use Rattle.service_profile.specs.declared.replies.Reply.{Reply}
 use Rattle.service_profile.specs.declared.replies.Reply.TheVariants as reply
 use Rattle.service_profile.specs.declared.notes.Totals.{Totals}
 use Rattle.service_profile.specs.Limits.{most_page_entries, greatest_number}
-use Rattle.service_profile.specs.Events.{EventData, EntryData, line, Opening, History, history_of, rolled_to}
+use Rattle.service_profile.specs.Events.{EventData, EntryData, line, Opening, Rolled, History, history_of, rolled_to}
 use Rattle.service_profile.specs.Histories.{Past, past_of, machine, raised, greatest, next_line, install_at, situation_of, refused_of}
 use Rattle.service_profile.specs.Machine.{Situation, is_entered, is_issued, open_ticket, program_from, current_version}
 use Rattle.service_profile.specs.Rates.{minimum, shown_rate}
@@ -97,11 +97,11 @@ reading past moment =
 
 -- the lines that the book holds: all but those that were handed out
 abbrev pub held_lines : History → List EntryData
-held_lines history = drop history.rolled history.lines
+held_lines history = drop history.rolled.lines history.lines
 
 -- of these the ones from a number on
 abbrev pub lines_from : History → ℕ → List EntryData
-lines_from history from = drop (max history.rolled (from - history.opening.line)) history.lines
+lines_from history from = drop (max history.rolled.lines (from - history.opening.line)) history.lines
 
 -- ---- a page: at most 100 lines, from a number on
 
@@ -172,24 +172,38 @@ pub data IsCut (history : History) (result : Result (List EntryData) RefusalNumb
   cuts : result ≡ handed_out history (cut (past_of history)) → after ≡ after_cut history (cut (past_of history)) → IsCut history result after
   no_room : (opening : Opening) → cut (past_of history) ≡ Ok opening → result ≡ Err refusal.ServiceOutOfMemory → after ≡ history → IsCut history result after
 
--- ---- a roll: the entries up to a number are handed out, and all else goes on as it is
+-- ---- a roll: the entries up to a number are handed out, the programs that nobody needs any more are dropped, and all else goes on as it is
 
 -- how many lines are handed out after it: those with numbers up to this one, and never fewer than before
 abbrev pub count_up_to : History → ℕ → ℕ
-count_up_to history last = max history.rolled (min (length history.lines) (suc last - history.opening.line))
+count_up_to history last = max history.rolled.lines (min (length history.lines) (suc last - history.opening.line))
+
+-- the least version of an open ticket, or else that of new tickets
+abbrev pub least_version : ℕ → List OpenTicket → ℕ
+least_version current tickets = fold (λ least ticket. min least ticket.version) current tickets
+
+abbrev pub least_needed : Situation → ℕ
+least_needed s = least_version (current_version s) s.open_tickets
+
+-- how many programs are dropped after it: those of earlier versions than any open ticket and any new one has, and never fewer than before
+abbrev pub count_unneeded : Situation → ℕ
+count_unneeded s = max s.dropped (least_needed s - s.first_version)
+
+abbrev pub taken_up_to : History → ℕ → Rolled
+taken_up_to history last = record { lines = count_up_to history last; programs = count_unneeded (situation_of (past_of history)) }
 
 abbrev pub rolled_up_to : History → ℕ → History
-rolled_up_to history last = rolled_to (count_up_to history last) history
+rolled_up_to history last = rolled_to (taken_up_to history last) history
 
 -- what is handed out: the lines up to that number that are still held
 abbrev pub lines_up_to : History → ℕ → List EntryData
-lines_up_to history last = take (count_up_to history last - history.rolled) (held_lines history)
+lines_up_to history last = take (count_up_to history last - history.rolled.lines) (held_lines history)
 
 -- what is handed out, or why nothing is: a number that would go on is past its limit
 abbrev pub roll : History → ℕ → Result (List EntryData) RefusalNumber
 roll history last = if is_worn_out (past_of history) then Err refusal.JournalFull else Ok (lines_up_to history last)
 
--- the history after a roll: more of its lines are handed out, or it is as it was
+-- the history after a roll: more is taken out of it, or it is as it was
 abbrev pub after_roll : History → ℕ → Result (List EntryData) RefusalNumber → History
 after_roll history last (Ok lines) = rolled_up_to history last
 after_roll history last (Err number) = history

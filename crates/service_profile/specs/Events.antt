@@ -37,17 +37,26 @@ pub record Opening : Type 0 where
   -- the greatest moment before
   pub moment : ℕ
 
--- what contracts see of a book: all lines since its opening. Of these the first ones may have been handed out, so that the book holds the last ones
+-- what rolls have taken out of a book since its opening
+pub record Rolled : Type 0 where
+  -- how many of the first lines were handed out
+  pub lines : ℕ
+  -- how many of the first programs were dropped
+  pub programs : ℕ
+
+abbrev pub nothing_rolled : Rolled
+nothing_rolled = record { lines = 0; programs = 0 }
+
+-- what contracts see of a book: all lines since its opening. Of these the first ones may have been handed out, so that the book holds the last ones, and the first programs may have been dropped
 pub record History : Type 0 where
   pub opening : Opening
   pub lines : List EntryData
-  -- how many of these lines were handed out
-  pub rolled : ℕ
+  pub rolled : Rolled
 
--- a history of which nothing was handed out
+-- a history that was never rolled
 abbrev pub history_of : Opening → List EntryData → History
-history_of opening lines = record { opening = opening; lines = lines; rolled = 0 }
+history_of opening lines = record { opening = opening; lines = lines; rolled = nothing_rolled }
 
--- the same history with so many lines handed out
-abbrev pub rolled_to : ℕ → History → History
-rolled_to count history = record { opening = history.opening; lines = history.lines; rolled = count }
+-- the same history with so much taken out
+abbrev pub rolled_to : Rolled → History → History
+rolled_to rolled history = record { opening = history.opening; lines = history.lines; rolled = rolled }

@@ -11,7 +11,7 @@ use Rattle.service_profile.specs.declared.replies.Reply.{Reply}
 use Rattle.service_profile.specs.declared.replies.Reply.TheVariants as reply
 use Rattle.service_profile.specs.declared.states.State.TheVariants as state
 use Rattle.service_profile.specs.declared.notes.Note.{Note}
-use Rattle.service_profile.specs.Events.{EventData, finishes, releases, installs, EntryData, Opening, History}
+use Rattle.service_profile.specs.Events.{EventData, finishes, releases, installs, EntryData, Opening, Rolled, History}
 use Rattle.service_profile.specs.Machine.{Situation, decision, note_of, is_entered, is_refused_call}
 
 -- a line, and where the breaker stood before it and after it
@@ -23,8 +23,7 @@ pub record Stage : Type 0 where
 -- an opening, and all lines since, the oldest first
 pub record Past : Type 0 where
   pub opening : Opening
-  -- how many lines were handed out
-  pub rolled : ℕ
+  pub rolled : Rolled
   pub stages : List Stage
   pub standing : Standing
 
@@ -106,9 +105,10 @@ situation_of past = record {
   notes = notes_of past;
   first_version = past.opening.version;
   programs = programs_of past;
+  dropped = past.rolled.programs;
   open_tickets = open_of past.stages;
   next_ticket = past.opening.ticket + length (issued past.stages);
-  held = length past.stages - past.rolled;
+  held = length past.stages - past.rolled.lines;
 }
 
 abbrev pub machine : Past → ℕ → EventData → Decision
@@ -116,8 +116,8 @@ machine past moment event = decision (situation_of past) moment event
 
 -- ---- lines, one after another
 
--- an opening and no line, in a history of which so many lines were handed out
-abbrev pub opened : ℕ → Opening → Past
+-- an opening and no line, in a history of which so much was taken out
+abbrev pub opened : Rolled → Opening → Past
 opened rolled opening = record {
   opening = opening;
   rolled = rolled;
@@ -161,6 +161,6 @@ abbrev pub AreLegal : Past → List EntryData → Type 0
 AreLegal past [] = Unit {0}
 AreLegal past (line ∷ lines) = Follows past line × AreLegal (passed past line) lines
 
--- each line has the next number, a raised moment, and the machine's reply after the lines before it. The machine is asked with as many lines handed out as there are in the end: that decides whether a journal is full, and a reply that says so makes no line
+-- each line has the next number, a raised moment, and the machine's reply after the lines before it. The machine is asked with as much taken out as there is in the end: that decides whether a journal or the list of versions is full, and a reply that says so makes no line
 unfoldable pub IsLegal : History → Type 0
 IsLegal history = AreLegal (opened history.rolled history.opening) history.lines

@@ -35,9 +35,11 @@ pub record Situation : Type 0 where
   pub standing : Standing
   -- the notes of the present period, the oldest first
   pub notes : List Note
-  -- the programs of the versions that are held, from the first of these versions on
+  -- the programs of all versions since the opening, from the first of these versions on
   pub first_version : ℕ
   pub programs : List VerifiedProgram
+  -- how many of the first of these programs were dropped, so that the others are held
+  pub dropped : ℕ
   pub open_tickets : List OpenTicket
   pub next_ticket : ℕ
   -- how many lines the journal holds
@@ -204,7 +206,7 @@ released s ticket = if is_issued s ticket then released_under s (open_ticket s.o
 -- at most 256 versions are held
 abbrev pub installed : Situation → VerifiedProgram → Decision
 installed s program =
-    if nat_le most_versions (length s.programs)
+    if nat_le most_versions (length s.programs - s.dropped)
     then refused s.standing refusal.VersionsFull
     else record { reply = reply.Installed (s.first_version + length s.programs) program.budget; next = s.standing }
 

@@ -121,7 +121,7 @@ fn two_hundred_and_fifty_six_versions_are_held(rt: HostRuntime) {
         rt.alloc(),
         ConfigParts::DEFAULT,
         &[
-            Step::Versions(256),
+            Step::Versions(2, 256),
             Step::Call(
                 9,
                 Wish::InstallIgnoring,

@@ -23,8 +23,8 @@ pub(crate) enum Step {
     CallsFrom(u64, u64),
     /// At a moment, what another program made of a response is reported under this ticket.
     Strange(u64, u64, Answer),
-    /// The program that ignores every outcome is installed as each version from 2 to this one.
-    Versions(u64),
+    /// The program that ignores every outcome is installed as each version from one number to another.
+    Versions(u64, u64),
     /// How the service stands at a moment.
     Stands(u64, Reading),
     /// The number of the last entry.
@@ -86,7 +86,7 @@ fn take(rt: &impl Abort, alloc: Global, book: &mut Book, step: Step, index: usiz
             let found = report_of_stranger(rt, alloc, book, moment, ticket);
             same_at(rt, found, reply(answer), index);
         }
-        Step::Versions(last) => install_versions(rt, alloc, book, last),
+        Step::Versions(first, last) => install_versions(rt, alloc, book, first, last),
         Step::Stands(moment, reading) => same_at(rt, read(book, moment), reading, index),
         Step::LastNumber(number) => same_at(rt, last_number(book), number, index),
         Step::Entries(from, count) => same_at(rt, count_from(book, from), count, index),
@@ -198,10 +198,10 @@ fn make_calls(rt: &impl Abort, alloc: Global, book: &mut Book, first: u64, last:
     }
 }
 
-/// Installs the program that ignores every outcome as each version from 2 to the last.
-fn install_versions(rt: &impl Abort, alloc: Global, book: &mut Book, last: u64) {
+/// Installs the program that ignores every outcome as each version from the first to the last.
+fn install_versions(rt: &impl Abort, alloc: Global, book: &mut Book, first: u64, last: u64) {
     let program = shared_program(rt, alloc, true);
-    for version in 2..=last {
+    for version in first..=last {
         let owner = Arc::try_clone(&program).expect(rt, "few owners");
         let installed = reply(Answer::Installed(version, 2));
         same_at(

@@ -36,6 +36,8 @@ enum Step {
     Hold(Program, u64),
     /// The current program alone is kept, where no ticket is open.
     Keep,
+    /// The programs that nobody needs any more are dropped.
+    DropUnneeded,
     /// The budget of the program that judges under a ticket, which one more owner of it has, too.
     Looked(u64, Result<u32, RefusalNumber>),
     /// The budget of the program of a version, where that is held.
@@ -100,6 +102,7 @@ fn take(rt: &impl Abort, alloc: Global, registry: &mut Registry, step: Step, ind
             same_at(rt, hold(rt, registry, program), version, index);
         }
         Step::Keep => keep(rt, registry),
+        Step::DropUnneeded => registry.drop_unneeded(),
         Step::Looked(number, budget) => {
             same_at(rt, looked(registry, number), budget, index);
             same_at(rt, owned(registry, number), budget, index);
@@ -372,5 +375,62 @@ fn tickets_end_in_another_order(rt: HostRuntime) {
         rt.alloc(),
         &mut registry,
         &[Step::Tickets(0, 10_001), Step::Issue(9, (10_001, 1, 9))],
+    );
+}
+
+#[test]
+fn programs_that_nobody_needs_are_dropped(rt: HostRuntime) {
+    play(
+        &rt,
+        rt.alloc(),
+        &[
+            Step::DropUnneeded,
+            Step::Versions(1, 1, 2, 6),
+            Step::Issue(1, (1, 1, 1)),
+            Step::Install(Program::Constant(1), Ok(2)),
+            Step::Issue(1, (2, 2, 1)),
+            Step::Install(Program::Constant(1), Ok(3)),
+            Step::DropUnneeded,
+            Step::Versions(3, 3, 4, 2),
+            Step::Looked(1, Ok(6)),
+            Step::End(1, Ok((1, 1, 1))),
+            Step::DropUnneeded,
+            Step::Versions(2, 3, 4, 2),
+            Step::Budget(1, None),
+            Step::Budget(2, Some(2)),
+            Step::Looked(2, Ok(2)),
+            Step::Issue(1, (3, 3, 1)),
+            Step::End(2, Ok((2, 2, 1))),
+            Step::DropUnneeded,
+            Step::Versions(1, 3, 4, 2),
+            Step::Looked(3, Ok(2)),
+            Step::End(3, Ok((3, 3, 1))),
+            Step::DropUnneeded,
+            Step::Versions(1, 3, 4, 2),
+            Step::Tickets(0, 4),
+            Step::Install(Program::Default, Ok(4)),
+            Step::Versions(2, 4, 5, 6),
+            Step::Budget(3, Some(2)),
+        ],
+    );
+}
+
+/// A ticket keeps the versions from its own on, which come between it and the last one too.
+#[test]
+fn an_open_ticket_keeps_all_later_versions(rt: HostRuntime) {
+    play(
+        &rt,
+        rt.alloc(),
+        &[
+            Step::Issue(1, (1, 1, 1)),
+            Step::InstallUpTo(256, Program::Constant(1)),
+            Step::DropUnneeded,
+            Step::Versions(256, 256, 257, 2),
+            Step::Install(Program::Constant(1), Err(RefusalNumber::VersionsFull)),
+            Step::End(1, Ok((1, 1, 1))),
+            Step::DropUnneeded,
+            Step::Versions(1, 256, 257, 2),
+            Step::Install(Program::Constant(1), Ok(257)),
+        ],
     );
 }

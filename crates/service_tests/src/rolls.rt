@@ -2,12 +2,21 @@
 use crate::checks::{is_true, same_at};
 use crate::histories::{Step, ask, book, play, read};
 use crate::wishes::{Answer, FAILURE, FRESH, SPENT, SUCCESS, Wish, small_window};
-use book::{Book, ConfigParts, Entry, Reading, State};
+use book::{Book, ConfigParts, Entry, Fate, Reading, State};
+use bpf_run::Verdict;
 use refusals::RefusalNumber;
 use std::alloc::Global;
 use std::process::Abort;
 
 const FULL: Answer = Answer::Refused(RefusalNumber::JournalFull);
+
+/// The default classifier, as version 257, saw a failure in CLOSED.
+const FAILURE_BY_257: Answer = Answer::FinishedBy(
+    257,
+    Fate::Recorded,
+    Verdict::Failure,
+    State::Closed,
+);
 
 #[test]
 fn a_roll_leaves_all_but_its_entries(rt: HostRuntime) {
@@ -87,6 +96,54 @@ fn a_journal_goes_on_past_200000_entries(rt: HostRuntime) {
                 },
             ),
             Step::Cut(6_001, 200_000, 100_001),
+        ],
+    );
+}
+
+/// Programs that no open ticket needs are dropped by a roll, also by one that hands out no entry.
+#[test]
+fn versions_go_on_past_256(rt: HostRuntime) {
+    let full = Answer::Refused(RefusalNumber::VersionsFull);
+    play(
+        &rt,
+        rt.alloc(),
+        ConfigParts::DEFAULT,
+        &[
+            Step::Call(0, Wish::Acquire, Answer::Permitted(1, 1, State::Closed)),
+            Step::Versions(2, 256),
+            Step::Call(0, Wish::InstallIgnoring, full),
+            Step::Call(0, Wish::Acquire, Answer::Permitted(2, 256, State::Closed)),
+            Step::Roll(u64::MAX, 257, 257, 0),
+            Step::Call(0, Wish::InstallIgnoring, full),
+            Step::Call(0, Wish::Report(1, 500), FAILURE),
+            Step::Call(0, Wish::InstallIgnoring, full),
+            Step::Roll(0, 0, 0, 0),
+            Step::Call(0, Wish::InstallDefault, Answer::Installed(257, 6)),
+            Step::Call(0, Wish::Acquire, Answer::Permitted(3, 257, State::Closed)),
+            Step::Call(
+                0,
+                Wish::Report(2, 500),
+                Answer::IgnoredBy(256, State::Closed),
+            ),
+            Step::Call(0, Wish::Report(3, 500), FAILURE_BY_257),
+            Step::Versions(258, 511),
+            Step::Call(0, Wish::InstallIgnoring, full),
+            Step::Roll(0, 0, 0, 0),
+            Step::Versions(512, 766),
+            Step::Call(0, Wish::InstallIgnoring, full),
+            Step::Stands(
+                0,
+                Reading {
+                    version: 766,
+                    budget: 2,
+                    total: 2,
+                    failed: 2,
+                    entries: 771,
+                    ..FRESH
+                },
+            ),
+            Step::Cut(514, 771, 0),
+            Step::Call(0, Wish::InstallIgnoring, Answer::Installed(767, 2)),
         ],
     );
 }

@@ -1,9 +1,11 @@
-use Rattle.std.proofs.Common.{◌≡◌, ◌∙◌, Some, ap, sym}
+use Rattle.std.proofs.Common.{◌≡◌, ◌+◌, ◌≤◌, ◌∙◌, Some, ap, sym}
 use Rattle.refusals.specs.declared.RefusalNumber.TheVariants as refusal
 use Rattle.service_profile.specs.declared.standings.Standing.{Standing}
 use Rattle.book.specs.Effects.{refused_plan}
 use Rattle.service_profile.specs.Machine.{open_ticket}
 use Rattle.book.proofs.Planned.{no_ticket, ticket_spent, finished_under_plan}
+use Rattle.service_profile.specs.declared.tickets.OpenTicket.{OpenTicket}
+use Rattle.book.proofs.Versions.{found_keeps}
 use Rattle.book.proofs.machine.finished.Goals as goal
 
 pub returns-then-not-is_issued : goal.returns-then-not-is_issued
@@ -13,7 +15,8 @@ returns-then-not-is_issued c = λ held s stands before.
 pub returns-in-Some : goal.returns-in-Some
 returns-in-Some c = λ held s stands before.
     let found : open_ticket s.open_tickets c.args.ticket ≡ Some c.in-Some.open = sym (c.open_ticket.ensures held s stands) ∙ c.in-Some.is in
-    finished_under_plan s c.args.moment c.args.judged.now c.args.ticket c.in-Some.open _ (sym (c.if-not-is_issued.ensures held s stands)) found (c.finished_under.ensures held s stands before)
+    let held_ = found_keeps (λ (ticket : OpenTicket). s.first_version + s.dropped ≤ ticket.version) s.open_tickets c.args.ticket c.in-Some.open stands.registered.needed found in
+    finished_under_plan s c.args.moment c.args.judged.now c.args.ticket c.in-Some.open _ (sym (c.if-not-is_issued.ensures held s stands)) found (c.finished_under.ensures held s stands before held_)
 
 pub returns-in-None : goal.returns-in-None
 returns-in-None c = λ held s stands before.

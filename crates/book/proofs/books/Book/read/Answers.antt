@@ -5,7 +5,7 @@ use Rattle.service_profile.specs.Events.{History}
 use Rattle.service_profile.specs.Histories.{Past, past_of, situation_of, next_line, raised}
 use Rattle.service_profile.specs.Machine.{Situation, current_version, program_from}
 use Rattle.breaker.specs.Calls.{metrics_of}
-use Rattle.book.specs.Books.{opening_of, journal, all_lines}
+use Rattle.book.specs.Books.{rolled_of, opening_of, journal, all_lines}
 use Rattle.book.specs.Situations.{breaker_of}
 use Rattle.book.proofs.Applying.{notes_there}
 use Rattle.book.proofs.Openings.{reads_so}
@@ -13,7 +13,7 @@ use Rattle.book.proofs.books.Book.read.Goals as goal
 
 pub returns-clause-reading : goal.returns-clause-reading
 returns-clause-reading c =
-    let past : Past = past_of (journal (opening_of c.self.inside.service.config c.self.inside.start) (all_lines c.self.inside.handed.items c.self.inside.entries.items) c.self.inside.rolled) in
+    let past : Past = past_of (journal (opening_of c.self.inside.service.config c.self.inside.start) (all_lines c.self.inside.handed.items c.self.inside.entries.items) (rolled_of c.self.inside.rolled c.self.inside.service c.self.inside.start)) in
     let s : Situation = situation_of past in
     let stands = c.self.invariant.0.situated in
     let when : c.max.result ≡ raised past c.args.moment = c.max.ensures ∙ ap (λ (m : ℕ). max c.args.moment m) c.self.invariant.0.greatest_moment in

@@ -5,7 +5,7 @@ use Rattle.service_profile.specs.Answers.{current_program, is_worn_out, reopened
 use Rattle.service_profile.specs.Events.{History, Opening, history_of}
 use Rattle.service_profile.specs.Histories.{Past, past_of, situation_of}
 use Rattle.service_profile.specs.Openings.{IsOpening}
-use Rattle.book.specs.Books.{opening_of, journal, all_lines}
+use Rattle.book.specs.Books.{rolled_of, opening_of, journal, all_lines}
 use Rattle.book.specs.Safe.{IsSafeProgram}
 use Rattle.book.proofs.Applying.{line_fits, situated}
 use Rattle.book.proofs.Cuts.{current_is, made_so, reopened_is, reopens_well}
@@ -26,7 +26,7 @@ overflow_add-start-3 c = omega (arith, line_fits _ _ _ _ _ c.self.invariant.0, a
 
 pub begin-requires-clause-opening : goal.begin-requires-clause-opening
 begin-requires-clause-opening c =
-    let past : Past = past_of (journal (opening_of c.self.inside.service.config c.self.inside.start) (all_lines c.self.inside.handed.items c.self.inside.entries.items) c.self.inside.rolled) in
+    let past : Past = past_of (journal (opening_of c.self.inside.service.config c.self.inside.start) (all_lines c.self.inside.handed.items c.self.inside.entries.items) (rolled_of c.self.inside.rolled c.self.inside.service c.self.inside.start)) in
     let stands = c.self.invariant.0.situated in
     let program : arc_value c.in_ok-try_clone.field-0 ≡ current_program past = c.in_ok-try_clone.ensures ∙ current_is past (arc_value c.current_program.result.now) (c.current_program.ensures _ _ stands) in
     let period : c.standing.result.period + 1 ≡ suc (situation_of past).standing.period = omega (arith, ap (λ (n : Standing). n.period) (c.standing.ensures _ _ stands)) in
@@ -38,13 +38,13 @@ begin-requires-clause-opening c =
 
 pub begin-requires-clause-program : goal.begin-requires-clause-program
 begin-requires-clause-program c =
-    let past : Past = past_of (journal (opening_of c.self.inside.service.config c.self.inside.start) (all_lines c.self.inside.handed.items c.self.inside.entries.items) c.self.inside.rolled) in
+    let past : Past = past_of (journal (opening_of c.self.inside.service.config c.self.inside.start) (all_lines c.self.inside.handed.items c.self.inside.entries.items) (rolled_of c.self.inside.rolled c.self.inside.service c.self.inside.start)) in
     let program : arc_value c.in_ok-try_clone.field-0 ≡ current_program past = c.in_ok-try_clone.ensures ∙ current_is past (arc_value c.current_program.result.now) (c.current_program.ensures _ _ c.self.invariant.0.situated) in
     subst IsSafeProgram (sym program) (current_safe past c.self.invariant.0.sound)
 
 pub returns-clause-opened : goal.returns-clause-opened
 returns-clause-opened c =
-    let past : Past = past_of (journal (opening_of c.self.inside.service.config c.self.inside.start) (all_lines c.self.inside.handed.items c.self.inside.entries.items) c.self.inside.rolled) in
+    let past : Past = past_of (journal (opening_of c.self.inside.service.config c.self.inside.start) (all_lines c.self.inside.handed.items c.self.inside.entries.items) (rolled_of c.self.inside.rolled c.self.inside.service c.self.inside.start)) in
     let stands = c.self.invariant.0.situated in
     let program : arc_value c.in_ok-try_clone.field-0 ≡ current_program past = c.in_ok-try_clone.ensures ∙ current_is past (arc_value c.current_program.result.now) (c.current_program.ensures _ _ stands) in
     let period : c.standing.result.period + 1 ≡ suc (situation_of past).standing.period = omega (arith, ap (λ (n : Standing). n.period) (c.standing.ensures _ _ stands)) in

@@ -5,6 +5,7 @@ use Rattle.service_profile.specs.Machine.{Situation}
 use Rattle.book.specs.declared.service.Service.{Service}
 use Rattle.book.specs.Situations.{StandsFor}
 use Rattle.book.proofs.Settled.{any_err, followed_so, installs_some}
+use Rattle.book.proofs.Versions.{held_count}
 use Rattle.book.proofs.service.Service.follow.Goals as goal
 
 pub returns-in_err-change-clause-unchanged : goal.returns-in_err-change-clause-unchanged
@@ -15,7 +16,7 @@ returns-in_err-change-clause-unchanged c =
 pub hold-requires-clause-few : goal.hold-requires-clause-few
 hold-requires-clause-few c =
     installs_some arc_value c.args.installed _ refl (λ program e.
-    omega (arith, c.requires.situation.few program e, ap length c.change.ensures.kept.programs, ap length (c.make_room.ensures.stands _ _ c.requires.situation.stands).registered.versions))
+    omega (arith, c.requires.situation.few program e, ap length c.change.ensures.kept.programs, held_count c.make_room.new.self.registry c.requires.situation.situation (c.make_room.ensures.stands _ _ c.requires.situation.stands).registered))
 
 pub returns-clause-stands : goal.returns-clause-stands
 returns-clause-stands c = λ held s stands orderly changes.
@@ -27,6 +28,6 @@ returns-clause-stands c = λ held s stands orderly changes.
       configured = there.configured;
       stands = there.stands;
       places = there.places;
-      registered = record { first = there.registered.first; versions = there.registered.versions; tickets = there.registered.tickets; next = there.registered.next };
+      registered = record { first = there.registered.first; some = there.registered.some; versions = there.registered.versions; needed = there.registered.needed; tickets = there.registered.tickets; next = there.registered.next };
       entered = ap (λ (n : ℕ). n + 1) stands.entered;
     })
