@@ -31,11 +31,11 @@ IsMade seat moment event r after = IsTurnedAway seat r after ⊎ (IsReplied seat
 abbrev pub IsReported : SeatData → ℕ → Report → Reply → SeatData → Type 0
 IsReported seat moment reported r after = IsTurnedAway seat r after ⊎ IsReportedAtDesk seat moment reported.ticket reported.outcome r after
 
--- the bytes spell a program, which flow and analysis accept, and which is safe. It is installed; or there is no memory to own it, and nothing changed
+-- the bytes spell a program, which flow and analysis accept, and which is safe. A service is asked to install it
 abbrev pub IsProgramTaken : SeatData → ℕ → List ℕ → Reply → SeatData → Type 0
 IsProgramTaken seat moment bytes r after =
     (program : VerifiedProgram) × IsVerification bytes program × IsSafe context_size program.slots program.budget
-    × (IsMade seat moment (installs program) r after ⊎ ((r ≡ reply.Refused refusal.ServiceOutOfMemory) × (after ≡ seat)))
+    × IsMade seat moment (installs program) r after
 
 -- what is answered to what a seat asks for at a moment, and the seat after it
 abbrev pub IsAskedBy : SeatData → ℕ → RequestData → ResponseData → SeatData → Type 0

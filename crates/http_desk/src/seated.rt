@@ -9,11 +9,11 @@ use desk::{Desk, Gate, Seat, ServiceId};
 use http_front::Answerer;
 use refusals::RefusalNumber;
 use service::{Report, Response};
-use std::alloc::Global;
+use std::alloc::{AllocError, Global};
 use std::marker::Model;
 use std::sync::ledger::Ledger;
 use std::sync::{Arc, Wait};
-use verifier::verify;
+use verifier::{Refusal, verify};
 
 /// A seat asks for what may make an entry only while its count is below this.
 const MOST_ENTRIES: u64 = u64::MAX - 7;
@@ -138,8 +138,9 @@ impl<'a, L: Ledger, M: Ledger, G: Gate, R: Wait> Answerer for SeatedAnswerer<'a,
             Ok(program) => program,
             Err(refusal) => return Response::ProgramRefused(refusal),
         };
-        let Ok(program) = Arc::new(self.alloc, program) else {
-            return Response::Reply(Reply::Refused(RefusalNumber::ServiceOutOfMemory));
+        let program = match Arc::new(self.alloc, program) {
+            Ok(program) => program,
+            Err(error) => return Response::ProgramRefused(Refusal::from(AllocError::from(error))),
         };
         if self.is_full() {
             return Response::Reply(TURNED_AWAY);
