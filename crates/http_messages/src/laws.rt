@@ -25,7 +25,7 @@ pub fn inputs_have_one_reading()
 {}
 
 /// A message that is refused is refused whatever follows, and one that ends the connection ends it: an ending behind
-/// which nothing is read is the ending of each longer input too, behind the same messages.
+/// which no further read is made is the ending of each longer input too, behind the same messages.
 pub fn endings_stay()
     ensures refused { (input more : List ℕ) (messages : List Message) (fault : Fault)
         → IsInput input messages (refused fault) → IsInput (input ++ more) messages (refused fault) }
