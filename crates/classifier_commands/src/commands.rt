@@ -1,6 +1,7 @@
 //! The commands that the program's words name.
 ghost use Rattle.std.specs.Prelude.{◌≡◌, IsNone, IfOk, IfErr, IfSome};
 ghost use Rattle.std.specs.Io.KnownBytes.{Appends};
+ghost use Rattle.counted_io.specs.Counting.{AtMostOneMore};
 ghost use Rattle.classifier_commands.specs.Causes.{IsCause, IsWriteCause};
 ghost use Rattle.classifier_commands.specs.Answers.{IsAccepted};
 ghost use Rattle.classifier_commands.specs.Commands.{NamesNone, AsksForInput, WantsInput, IsRequest, IsDone, HasJudged, HasAssembled, HasDisassembled, usage, code_of, status_of_error, IsSettled, HasAnswered};
@@ -56,6 +57,7 @@ impl<'a> Request<'a> {
         ensures part { IfErr result (λ error. IsCut error out.old out.new (IsInPart (IsDone self.now (R.remaining reader.old.inner)) (O.contents out.old.inner) (O.contents out.new.inner))) }
         ensures unread { (WantsInput self.now → ⊥) → reader.new ≡ reader.old }
         ensures cause { IsCause result reader.old.failures reader.new.failures out.old.failures out.new.failures }
+        ensures ends { AtMostOneMore reader.old.ends reader.new.ends }
     {
         match self {
             Request::Judge(program) => judge_outcome(alloc, program, reader, out),
@@ -143,6 +145,7 @@ fn judge_outcome<R: Read, O: Write>(
     ensures part { IfErr result (λ error. IsCut error out.old out.new (IsInPart (HasJudged program.now (R.remaining reader.old.inner)) (O.contents out.old.inner) (O.contents out.new.inner))) }
     ensures unread { (IsAccepted program.now → ⊥) → reader.new ≡ reader.old }
     ensures cause { IsCause result reader.old.failures reader.new.failures out.old.failures out.new.failures }
+    ensures ends { AtMostOneMore reader.old.ends reader.new.ends }
 {
     let answer = judge(alloc, program, reader)?;
     print(alloc, answer, out)
@@ -158,6 +161,7 @@ fn assemble_text<R: Read, O: Write>(
     ensures settled { IfOk result IsSettled }
     ensures part { IfErr result (λ error. IsCut error out.old out.new (IsInPart (HasAssembled (R.remaining reader.old.inner)) (O.contents out.old.inner) (O.contents out.new.inner))) }
     ensures cause { IsCause result reader.old.failures reader.new.failures out.old.failures out.new.failures }
+    ensures ends { AtMostOneMore reader.old.ends reader.new.ends }
 {
     let text = read_all(alloc, reader)?;
     match assembled(alloc, &text) {
@@ -226,6 +230,8 @@ pub fn command<R: Read, O: Write, E: Write>(
     ensures quiet { (NamesNone words.now → ⊥) → err.new ≡ err.old }
     // A failed read or write is answered where that count went up by one, and in no other case.
     ensures cause { IsEnded result reader.old.failures reader.new.failures out.old.failures out.new.failures }
+    // The end of the input is met once at most: no read is made behind it.
+    ensures ends { AtMostOneMore reader.old.ends reader.new.ends }
 {
     let Some(request) = Request::from_words(words) else {
         return show_usage(err);

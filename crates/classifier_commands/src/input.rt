@@ -1,5 +1,6 @@
 //! Reading the whole input.
-ghost use Rattle.std.specs.Prelude.{IfOk};
+ghost use Rattle.std.specs.Prelude.{◌≡◌, IfOk, OnErr};
+ghost use Rattle.counted_io.specs.Counting.{one_more};
 ghost use Rattle.classifier_commands.specs.Answers.{IsAllOf};
 ghost use Rattle.classifier_commands.specs.Causes.{IsReadCause};
 
@@ -15,6 +16,9 @@ pub(crate) fn read_all<R: Read>(
 ) -> Result<Vec<u8>, CommandError>
     ensures all { IfOk result (λ text. IsAllOf (R.remaining reader.old.inner) text.items) }
     ensures cause { IsReadCause result reader.old.failures reader.new.failures }
+    // The end of the input was met once, and no read is made behind it.
+    ensures end { IfOk result (λ text. reader.new.ends ≡ one_more reader.old.ends) }
+    ensures none { OnErr result (reader.new.ends ≡ reader.old.ends) }
 {
     let mut text = Vec::new(alloc);
     'bytes: loop {

@@ -1,5 +1,6 @@
 //! The answers of the commands.
 ghost use Rattle.std.specs.Prelude.{◌≡◌, Some, None, IfOk, IfErr};
+ghost use Rattle.counted_io.specs.Counting.{AtMostOneMore};
 ghost use Rattle.helpers.specs.Json.{outcome_of};
 ghost use Rattle.serde_json.specs.View.{view};
 ghost use Rattle.classifier_commands.specs.Answers.{IsAdmitted, IsAccepted, IsTextRefused, IsOutcomeRead, IsOutcomeRefused, IsVerifyAnswer, IsJudgement, IsReadJudgement, IsJudgeAnswer};
@@ -89,6 +90,7 @@ fn judge_read<R: Read>(
 ) -> Result<Answer, CommandError>
     ensures judged { IfOk result (λ answer. IsReadJudgement program.now (R.remaining reader.old.inner) answer) }
     ensures cause { IsReadCause result reader.old.failures reader.new.failures }
+    ensures ends { AtMostOneMore reader.old.ends reader.new.ends }
 {
     let text = read_all(alloc, reader)?;
     Ok(judge_outcome(alloc, program, &text)?)
@@ -105,6 +107,7 @@ pub(crate) fn judge<R: Read>(
     ensures judged { IfOk result (λ answer. IsJudgeAnswer text.now (R.remaining reader.old.inner) answer) }
     ensures unread { (IsAccepted text.now → ⊥) → reader.new ≡ reader.old }
     ensures cause { IsReadCause result reader.old.failures reader.new.failures }
+    ensures ends { AtMostOneMore reader.old.ends reader.new.ends }
 {
     match admitted(alloc, text) {
         Ok(program) => judge_read(alloc, &program, reader),

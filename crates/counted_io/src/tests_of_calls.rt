@@ -80,7 +80,11 @@ fn bytes_pass_through(rt: HostRuntime) -> Result<(), Fail> {
     let mut piece = [0; 4];
     same(&rt, reader.next_byte()?, Some(b'a'));
     same(&rt, reader.read(&mut piece)?, 1);
+    same(&rt, reader.ends(), 0);
     same(&rt, reader.next_byte()?, None);
+    same(&rt, reader.read(&mut piece)?, 0);
+    same(&rt, reader.read(&mut piece[..0])?, 0);
+    same(&rt, reader.ends(), 2);
     same(&rt, reader.failures(), 0);
     let mut writer = Counted::new(Vec::new(rt.alloc()));
     writer.send(b"abc")?;

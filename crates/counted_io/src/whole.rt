@@ -1,7 +1,7 @@
 //! Reading byte by byte, and writing whole texts. One failed call ends each.
-ghost use Rattle.std.specs.Prelude.{◌≡◌, is_err, IfOk, OnOk};
-ghost use Rattle.std.specs.Io.KnownBytes.{Appends};
-ghost use Rattle.counted_io.specs.Counting.{counted, TakesByte, AppendsPart};
+ghost use Rattle.std.specs.Prelude.{◌≡◌, Ok, None, is_err, IfOk, OnOk};
+ghost use Rattle.std.specs.Io.KnownBytes.{Appends, IsAtEnd};
+ghost use Rattle.counted_io.specs.Counting.{counted, is_end_found, TakesByte, AppendsPart};
 
 use crate::Counted;
 use std::io;
@@ -13,6 +13,9 @@ impl<R: Read> Counted<R> {
     pub fn next_byte(&mut self) -> io::Result<Option<u8>>
         ensures byte { IfOk result (λ found. TakesByte (R.remaining self.old.inner) (R.remaining self.new.inner) found) }
         ensures failures { self.new.failures ≡ counted (is_err result) self.old.failures }
+        // None is an end that was met, which counted. Nothing is left then.
+        ensures end { result ≡ Ok None → IsAtEnd (R.remaining self.new.inner) }
+        ensures ends { self.new.ends ≡ counted (is_end_found result) self.old.ends }
     {
         let mut byte = [0; 1];
         let count = self.read(&mut byte)?;
@@ -30,6 +33,7 @@ impl<W: Write> Counted<W> {
         ensures whole { OnOk result (Appends (W.contents self.old.inner) (W.contents self.new.inner) text.now) }
         ensures part { AppendsPart (W.contents self.old.inner) (W.contents self.new.inner) text.now }
         ensures failures { self.new.failures ≡ counted (is_err result) self.old.failures }
+        ensures ends { self.new.ends ≡ self.old.ends }
     {
         let mut sent = 0;
         'pieces: while sent < text.len() {

@@ -1,5 +1,5 @@
 //! Which calls a replay makes of its reader: one for each byte and one for the end, and none behind a first line that is
-//! refused. No clause says so.
+//! refused. Clauses say how often the end is met; that each byte has a call of its own none says.
 use crate::checks::same_at;
 use counted_io::Counted;
 use replay::{Ended, replay};
@@ -60,7 +60,7 @@ fn are_read(rt: &impl Abort, alloc: Global, rows: &[Reading]) {
 }
 
 #[test]
-fn the_end_behind_a_whole_line_is_read_once(rt: HostRuntime) {
+fn the_end_is_read_once(rt: HostRuntime) {
     are_read(
         &rt,
         rt.alloc(),
@@ -70,6 +70,11 @@ fn the_end_behind_a_whole_line_is_read_once(rt: HostRuntime) {
             ("[]", Ended::BadConfig, 2, 1),
             ("{}\n", Ended::Done, 3, 1),
             ("{}\n{\"at\":1,\"do\":\"reset\"}\n\n", Ended::Done, 26, 1),
+            // The last line has no line feed.
+            ("{}", Ended::Done, 2, 1),
+            ("{}\n{\"at\":1,\"do\":\"reset\"}", Ended::Done, 24, 1),
+            ("{}\n  ", Ended::Done, 5, 1),
+            (" ", Ended::BadConfig, 1, 1),
         ],
     );
 }

@@ -1,8 +1,9 @@
 //! Serving services over HTTP.
 ghost use Rattle.std.specs.Prelude.{◌≡◌, ℕ, List};
 ghost use Rattle.std.specs.Io.KnownBytes.{Consumes, IsAtEnd};
+ghost use Rattle.counted_io.specs.Counting.{counted};
 ghost use Rattle.http_serving.specs.Serving.{IsServed};
-ghost use Rattle.http_serving.specs.Writing.{IsCause};
+ghost use Rattle.http_serving.specs.Writing.{ends_input, IsCause};
 ghost use Rattle.http_front.specs.Answered.{fault_text, IsAnswered};
 
 use crate::answerer::Answerer;
@@ -33,6 +34,9 @@ pub fn serve<R: Read, W: Write, A: Answerer, C: Clock>(
     ensures truncated { result ≡ Ended.Truncated → IsAtEnd (R.remaining reader.new.inner) }
     // `ReadFailed` and `WriteFailed` come only where that count went up by one, and no other call failed.
     ensures cause { IsCause result reader.old.failures reader.new.failures writer.old.failures writer.new.failures }
+    // `Closed` and `Truncated` come where one read met the end of the input; in each other case none did. So no read is
+    // made behind a message that ends the connection: it could meet the end, or fail.
+    ensures ends { reader.new.ends ≡ counted (ends_input result) reader.old.ends }
 {
     let Ok(front) = Front::new(alloc) else {
         return Ended::OutOfMemory;

@@ -3,3 +3,4 @@ pub mod Found
 pub mod OneReading
 pub mod Decimals
 pub mod LengthTexts
+pub mod Longer

@@ -28,7 +28,7 @@ is_transfer_coding field = is_named (codes "transfer-encoding") field.0
 abbrev pub is_close : List ℕ × List ℕ → Bool
 is_close field = is_named (codes "connection") field.0 && is_named (codes "close") field.1
 
--- nothing is read behind the message: it is one of HTTP/1.0, or a field asks for it
+-- no further read is made behind the message: it is one of HTTP/1.0, or a field asks for it
 abbrev pub ends_connection : RequestHead → Bool
 ends_connection head = head.minor == 0 || list_any is_close (fields_of head)
 

@@ -1,5 +1,5 @@
 -- Where bytes may be read in two ways, and what a front says with no offsets.
-use Rattle.std.specs.Prelude.{◌≡◌, ◌⊎◌, ◌<◌, ◌≤◌, ℕ, List, length, Bool}
+use Rattle.std.specs.Prelude.{◌≡◌, ◌⊎◌, ◌<◌, ◌≤◌, ℕ, List, [], length, Bool, ⊤}
 use Rattle.httparse.specs.Grammar.{EndsInTarget}
 use Rattle.httparse.specs.Spans.{span_bytes}
 use Rattle.refusals.specs.declared.RefusalNumber.TheVariants as refusal
@@ -7,7 +7,7 @@ use Rattle.http_messages.specs.declared.front.Fault.{Fault}
 use Rattle.http_messages.specs.declared.front.Front.{Front}
 use Rattle.http_messages.specs.declared.front.Front.TheVariants as front
 use Rattle.http_messages.specs.Heads.{head_limit, searched, IsHopeless}
-use Rattle.http_messages.specs.Messages.{Ending, truncated, refused, no_head}
+use Rattle.http_messages.specs.Messages.{Ending, closed, truncated, refused, final, no_head}
 
 -- no continuation of the bytes is a head, and those that are searched end within a request target: that a target is no UTF-8 need not be seen before its end
 abbrev pub IsUndecided : List ℕ → Type 0
@@ -27,6 +27,13 @@ AreBothAllowed rest one other =
     IsUndecided rest
     × (((one ≡ refused (no_head refusal.BadHead)) × IsOtherEnding rest other)
     ⊎ ((other ≡ refused (no_head refusal.BadHead)) × IsOtherEnding rest one))
+
+-- the input was read up to this ending, with what is left behind it: nothing is, where the input itself is at its end, or is cut short there
+abbrev pub IsReadTo : Ending → List ℕ → Type 0
+IsReadTo closed left = left ≡ []
+IsReadTo truncated left = left ≡ []
+IsReadTo (refused fault) left = ⊤
+IsReadTo (final message) left = ⊤
 
 -- ---- of the first bytes
 

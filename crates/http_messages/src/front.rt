@@ -29,12 +29,12 @@ pub struct Head {
     pub size: usize,
     /// How many bytes the body has, right behind the head: at most 65,536.
     pub body: usize,
-    /// Whether nothing is read behind the message: it is one of HTTP/1.0, or has the field
+    /// Whether no further read is made behind the message: it is one of HTTP/1.0, or has the field
     /// `Connection: close`.
     pub closes: bool,
 }
 
-/// Why a message is refused. Nothing is read behind it.
+/// Why a message is refused. No further read is made behind it.
 #[derive(Clone, Copy, Debug, PartialEq, Eq)]
 pub struct Fault {
     /// `BadHead`, `HeadTooLarge`, `TransferCoding`, `BadContentLength` or `BodyTooLarge`, the first of them.

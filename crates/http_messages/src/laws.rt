@@ -1,11 +1,12 @@
 //! What follows from the definitions alone.
-ghost use Rattle.std.specs.Prelude.{◌≡◌, ◌⊎◌, ℕ, List, Option, None};
+ghost use Rattle.std.specs.Prelude.{◌≡◌, ◌⊎◌, ◌++◌, ℕ, List, Option, None};
 ghost use Rattle.refusals.specs.declared.RefusalNumber.{RefusalNumber};
+ghost use Rattle.http_messages.specs.declared.front.Fault.{Fault};
 ghost use Rattle.http_messages.specs.declared.front.Front.{Front};
 ghost use Rattle.http_messages.specs.Fronts.{IsFront};
 ghost use Rattle.http_messages.specs.Lengths.{length_from, length_texts, IsLengthOf};
-ghost use Rattle.http_messages.specs.Messages.{Message, AreMessages, IsInput, Ending, IsEnding, refused, no_head};
-ghost use Rattle.http_messages.specs.Readings.{said, AreBothSaid, IsUndecided, IsOtherEnding, AreBothAllowed};
+ghost use Rattle.http_messages.specs.Messages.{Message, AreMessages, IsInput, Ending, IsEnding, refused, final, no_head};
+ghost use Rattle.http_messages.specs.Readings.{said, AreBothSaid, IsUndecided, IsOtherEnding, IsReadTo, AreBothAllowed};
 
 /// The first bytes of an input say one thing. Only where those that are searched end within a request
 /// target, and no continuation of them is a head, may this be said, or that more bytes are wanted.
@@ -21,6 +22,25 @@ pub fn inputs_have_one_reading()
     ensures { (input : List ℕ) (messages others : List Message) (one other : Ending)
         → IsInput input messages one → IsInput input others other
         → (messages ≡ others) × ((one ≡ other) ⊎ ((rest : List ℕ) × AreMessages input messages rest × AreBothAllowed rest one other)) }
+{}
+
+/// A message that is refused is refused whatever follows, and one that ends the connection ends it: an ending behind
+/// which no further read is made is the ending of each longer input too, behind the same messages.
+pub fn endings_stay()
+    ensures refused { (input more : List ℕ) (messages : List Message) (fault : Fault)
+        → IsInput input messages (refused fault) → IsInput (input ++ more) messages (refused fault) }
+    ensures last { (input more : List ℕ) (messages : List Message) (message : Message)
+        → IsInput input messages (final message) → IsInput (input ++ more) messages (final message) }
+{}
+
+/// How the bytes of an input come, and how much of it is read, changes nothing: two parts of it that were each read up
+/// to an ending have the same messages and end alike. Only where what is left behind the messages ends within a request
+/// target, and no continuation of it is a head, are two endings allowed.
+pub fn parts_have_one_reading()
+    ensures { (input part left piece rest : List ℕ) (messages others : List Message) (one other : Ending)
+        → input ≡ part ++ left → IsInput part messages one → IsReadTo one left
+        → input ≡ piece ++ rest → IsInput piece others other → IsReadTo other rest
+        → (messages ≡ others) × ((one ≡ other) ⊎ ((behind : List ℕ) × AreMessages input messages behind × AreBothAllowed behind one other)) }
 {}
 
 /// Where the rest of an input ends within a request target, and no continuation of it is a head, both

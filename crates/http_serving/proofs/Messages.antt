@@ -1,25 +1,13 @@
 -- One message after another, and what was read behind them.
-use Rattle.std.proofs.Common.{◌≡◌, ℕ, ◌+◌, ◌≤◌, List, [], ◌∷◌, ◌++◌, length, drop, slice_range, false, Ok, ap, sym, ◌∙◌, refl, append_assoc, arith}
+use Rattle.std.proofs.Common.{◌≡◌, ℕ, ◌+◌, ◌≤◌, List, [], ◌∷◌, ◌++◌, length, drop, slice_range, false, Ok, ap, sym, ◌∙◌, refl, arith}
 use Rattle.std.proofs.lemmas.Grind.{common_steps}
 use Rattle.std.proofs.lemmas.List.{take-append-drop}
 use Rattle.httparse.specs.Grammar.{RequestHead}
-use Rattle.httparse.proofs.GrammarLemmas.{ReadsRequest-append}
 use Rattle.http_messages.specs.declared.front.Head.{Head}
 use Rattle.http_messages.specs.Fields.{ends_connection}
 use Rattle.http_messages.specs.Fronts.{IsHeadAt}
 use Rattle.http_messages.specs.Messages.{Message, BeginsWith, AreMessages}
 use Rattle.http_serving.specs.Reading.{message_of}
-
-begins_more : (input : List ℕ) (message : Message) (rest more : List ℕ) → BeginsWith input message rest → BeginsWith (input ++ more) message (rest ++ more)
-begins_more input message rest more begins =
-    let reads = ReadsRequest-append input message.head (message.body ++ rest) more begins.0.0 in
-    ((rw (append_assoc message.body rest more) at reads, begins.0.1), begins.1)
-
--- more bytes behind messages
-pub messages_more : (messages : List Message) (input rest more : List ℕ) → AreMessages input messages rest → AreMessages (input ++ more) messages (rest ++ more)
-messages_more [] input rest more same = ap (λ z. z ++ more) same
-messages_more (message ∷ later) input rest more (behind, begins, goes_on, are) =
-    (behind ++ more, begins_more input message behind more begins, goes_on, messages_more later behind rest more are)
 
 -- one message more
 pub messages_next : (messages : List Message) (input rest behind : List ℕ) (message : Message) → AreMessages input messages rest → BeginsWith rest message behind → ends_connection message.head ≡ false

@@ -16,7 +16,8 @@ use Rattle.http_serving.specs.Reading.{ReadsMore, IsReadEnd, message_of}
 use Rattle.http_serving.specs.Requests.{RequestData, request_of}
 use Rattle.http_serving.specs.Serving.{AreAnswered, IsServed, IsText, IsTurn, IsUnderway}
 use Rattle.http_serving.specs.Writing.{IsRefusal}
-use Rattle.http_serving.proofs.Messages.{begins_with, messages_more, messages_next}
+use Rattle.http_messages.proofs.Longer.{messages_stay}
+use Rattle.http_serving.proofs.Messages.{begins_with, messages_next}
 use Rattle.http_serving.proofs.Pieces.{consumes_more}
 
 part_after : (a b c : Option (List ℕ)) (x y : List ℕ) → Appends a b x → AppendsPart b c y → AppendsPart a c (x ++ y)
@@ -49,7 +50,7 @@ module _ {S C : Type 0} (refusal : Fault → List ℕ) (responds : S → ℕ →
   pub underway_more : (had has left : Option (List ℕ)) (unread new : List ℕ) (s : S) (c : C) (t : S) (d : C) (w v : Option (List ℕ))
       → IsUnderway refusal responds ticks had has unread s c t d w v → ReadsMore has left unread new → IsUnderway refusal responds ticks had left new s c t d w v
   underway_more had has left unread new s c t d w v (bytes, messages, text, taken, are, answered, sent) (more, again, is) =
-      (bytes ++ more, messages, text, consumes_more had has left bytes more taken again, rw is (messages_more messages bytes unread more are), answered, sent)
+      (bytes ++ more, messages, text, consumes_more had has left bytes more taken again, rw is (messages_stay messages bytes unread more are), answered, sent)
 
   -- a message was answered, and does not end the connection
   pub underway_next : (had has : Option (List ℕ)) (unread behind : List ℕ) (s : S) (c : C) (t : S) (d : C) (u : S) (e : C) (w v x : Option (List ℕ)) (message : Message) (moment : ℕ) (answer : List ℕ)

@@ -1,12 +1,13 @@
 -- Bytes that are read ahead of the messages that they make.
-use Rattle.std.specs.Prelude.{◌≡◌, ◌≤◌, ◌+◌, ℕ, List, [], ◌++◌, length, slice_range, Option, Result, Ok, Err}
+use Rattle.std.specs.Prelude.{◌≡◌, ◌≤◌, ◌+◌, ℕ, List, [], ◌++◌, length, slice_range, Bool, true, false, Option, Result, Ok, Err}
 use Rattle.std.specs.Io.KnownBytes.{Consumes, IsAtEnd}
 use Rattle.httparse.specs.Grammar.{RequestHead}
-use Rattle.counted_io.specs.Counting.{one_more}
+use Rattle.counted_io.specs.Counting.{counted, one_more}
 use Rattle.http_messages.specs.declared.front.Head.{Head}
 use Rattle.http_messages.specs.Fronts.{IsHeadAt}
 use Rattle.http_messages.specs.Messages.{Message, HasFault, IsPartOfMessage}
 use Rattle.http_serving.specs.Serving.{IsUnfinished}
+use Rattle.http_serving.specs.Writing.{ends_input}
 use Rattle.http_serving.specs.declared.ended.Ended.{Ended}
 use Rattle.http_serving.specs.declared.ended.Ended.TheVariants as ended
 use Rattle.http_serving.specs.declared.input.Found.{Found}
@@ -28,6 +29,12 @@ abbrev pub IsBodyCause : {X : Type 0} → Result X Ended → ℕ → ℕ → Typ
 IsBodyCause (Err ended.Truncated) before after = after ≡ before
 IsBodyCause other before after = IsReadCause other before after
 
+-- reading some more bytes met the end of the input: there were none
+abbrev pub is_end : Result Bool Ended → Bool
+is_end (Ok false) = true
+is_end (Ok true) = false
+is_end (Err end) = false
+
 -- ---- messages
 
 -- the bytes begin with a message, whose head was found
@@ -46,6 +53,11 @@ IsReadEnd ended.Truncated unread left before after = IsPartOfMessage unread × I
 IsReadEnd ended.ReadFailed unread left before after = IsUnfinished unread × (after ≡ one_more before)
 IsReadEnd ended.OutOfMemory unread left before after = after ≡ before
 IsReadEnd other unread left before after = ⊥
+
+-- the ends that were met, with the reader's count of them before and after: one where the input ended, and else none
+abbrev pub IsEndCount : {X : Type 0} → Result X Ended → ℕ → ℕ → Type 0
+IsEndCount (Ok x) before after = after ≡ before
+IsEndCount (Err end) before after = after ≡ counted (ends_input end) before
 
 -- a message was found, and no read failed, or there is none
 abbrev pub IsNext : Result Found Ended → List ℕ → Option (List ℕ) → ℕ → ℕ → Type 0

@@ -22,7 +22,7 @@ module _ {S C : Type 0} (refusal : Fault → List ℕ) (responds : S → ℕ →
       × ticks clock moment read × responds state moment (request_of message) first next × (text ≡ first ++ rest)
       × AreAnswered next read messages rest after later
 
-  -- the same, and then what is written for the message behind which nothing is read
+  -- the same, and then what is written for the message behind which no further read is made
   abbrev pub AreAnsweredToEnd : S → C → List Message → Ending → List ℕ → S → C → Type 0
   AreAnsweredToEnd state clock messages (refused fault) text after later =
       (first : List ℕ) × AreAnswered state clock messages first after later × (text ≡ first ++ refusal fault)
@@ -38,7 +38,7 @@ module _ {S C : Type 0} (refusal : Fault → List ℕ) (responds : S → ℕ →
       (messages : List Message) × (text : List ℕ)
       × IsInput bytes messages ending × AreAnswered state clock messages text after later × Appends before written text
 
-  -- each message was answered, up to one behind which nothing is read
+  -- each message was answered, up to one behind which no further read is made
   abbrev pub IsFinished : List ℕ → S → C → S → C → Option (List ℕ) → Option (List ℕ) → Type 0
   IsFinished bytes state clock after later before written =
       (messages : List Message) × (ending : Ending) × (text : List ℕ)
@@ -50,7 +50,7 @@ module _ {S C : Type 0} (refusal : Fault → List ℕ) (responds : S → ℕ →
       (messages : List Message) × (rest : List ℕ) × (text : List ℕ)
       × AreMessages bytes messages rest × IsUnfinished rest × AreAnswered state clock messages text after later × Appends before written text
 
-  -- the answers of some first messages, or of all up to one behind which nothing is read
+  -- the answers of some first messages, or of all up to one behind which no further read is made
   abbrev pub IsText : List ℕ → S → C → List ℕ → S → C → Type 0
   IsText bytes state clock text after later =
       ((messages : List Message) × (rest : List ℕ) × AreMessages bytes messages rest × AreAnswered state clock messages text after later)

@@ -1,5 +1,5 @@
 -- Answers that are written.
-use Rattle.std.specs.Prelude.{◌≡◌, ℕ, List, [], Option, Result, Ok, Err}
+use Rattle.std.specs.Prelude.{◌≡◌, ℕ, List, [], Option, Result, Ok, Err, Bool, true, false}
 use Rattle.std.specs.Io.KnownBytes.{Appends}
 use Rattle.counted_io.specs.Counting.{AppendsPart, one_more}
 use Rattle.http_serving.specs.declared.ended.Ended.{Ended}
@@ -11,7 +11,7 @@ IsWriteCause (Ok x) before after = after ≡ before
 IsWriteCause (Err ended.WriteFailed) before after = after ≡ one_more before
 IsWriteCause (Err other) before after = ⊥
 
--- the text of a refusal was written, behind which nothing is read, with what the writer held and its count of failed calls before and after
+-- the text of a refusal was written, behind which no further read is made, with what the writer held and its count of failed calls before and after
 abbrev pub IsRefusal : List ℕ → Ended → Option (List ℕ) → Option (List ℕ) → ℕ → ℕ → Type 0
 IsRefusal text ended.Finished before written failures after = Appends before written text × (after ≡ failures)
 IsRefusal text ended.WriteFailed before written failures after = AppendsPart before written text × (after ≡ one_more failures)
@@ -22,6 +22,12 @@ IsRefusal text other before written failures after = ⊥
 abbrev pub IsTurnCause : {X : Type 0} → Result X Ended → ℕ → ℕ → Type 0
 IsTurnCause (Err ended.OutOfMemory) before after = after ≡ before
 IsTurnCause other before after = IsWriteCause other before after
+
+-- serving ends so where a read met the end of the input
+abbrev pub ends_input : Ended → Bool
+ends_input ended.Closed = true
+ends_input ended.Truncated = true
+ends_input other = false
 
 -- how serving ended, with the counts of failed reads and of failed writes before and after: an end for a failure comes where one more call failed, and no other call failed
 abbrev pub IsCause : Ended → ℕ → ℕ → ℕ → ℕ → Type 0

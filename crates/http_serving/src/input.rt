@@ -1,7 +1,8 @@
 //! Messages from a reader. What is read behind a message stays for the next one.
 ghost use Rattle.std.specs.Prelude.{◌≡◌, ◌≢◌, ◌≤◌, ◌<◌, Ok, Err, IfOk, IfErr, OnOk, OnErr, true, false, drop, length};
 ghost use Rattle.std.specs.Io.KnownBytes.{IsAtEnd};
-ghost use Rattle.http_serving.specs.Reading.{ReadsMore, IsReadCause, IsBodyCause, IsReadEnd, IsNext};
+ghost use Rattle.counted_io.specs.Counting.{counted};
+ghost use Rattle.http_serving.specs.Reading.{ReadsMore, IsReadCause, IsBodyCause, IsReadEnd, IsNext, is_end, IsEndCount};
 ghost use Rattle.http_messages.specs.Fronts.{IsFront};
 
 use crate::ended::Ended;
@@ -28,6 +29,7 @@ fn fill<R: Read>(reader: &mut Counted<R>, unread: &mut Vec<u8>) -> Result<bool, 
     ensures end { result ≡ Ok false → (unread.new.items ≡ unread.old.items) × IsAtEnd (R.remaining reader.new.inner) }
     ensures kept { OnErr result (unread.new.items ≡ unread.old.items) }
     ensures cause { IsReadCause result reader.old.failures reader.new.failures }
+    ensures ends { reader.new.ends ≡ counted (is_end result) reader.old.ends }
 {
     let count = unread.len();
     if unread.resize(count + PIECE, 0).is_err() {
@@ -62,6 +64,7 @@ fn next_head<R: Read>(
     ensures read { ReadsMore (R.remaining reader.old.inner) (R.remaining reader.new.inner) unread.old.items unread.new.items }
     ensures found { IfOk result (λ front. IsFront unread.new.items front × (front ≢ Front.Part) × (reader.new.failures ≡ reader.old.failures)) }
     ensures ended { IfErr result (λ end. IsReadEnd end unread.new.items (R.remaining reader.new.inner) reader.old.failures reader.new.failures) }
+    ensures ends { IsEndCount result reader.old.ends reader.new.ends }
 {
     'reading: loop {
         match parser.front(unread) {
@@ -89,6 +92,7 @@ fn fill_to<R: Read>(reader: &mut Counted<R>, unread: &mut Vec<u8>, size: usize) 
     ensures truncated { result ≡ Err Ended.Truncated → IsAtEnd (R.remaining reader.new.inner) }
     ensures fewer { OnErr result (length unread.new.items < size) }
     ensures cause { IsBodyCause result reader.old.failures reader.new.failures }
+    ensures ends { IsEndCount result reader.old.ends reader.new.ends }
 {
     'reading: while unread.len() < size {
         if !fill(reader, unread)? {
@@ -106,6 +110,7 @@ pub(crate) fn next_message<R: Read>(
 ) -> Result<Found, Ended>
     ensures read { ReadsMore (R.remaining reader.old.inner) (R.remaining reader.new.inner) unread.old.items unread.new.items }
     ensures next { IsNext result unread.new.items (R.remaining reader.new.inner) reader.old.failures reader.new.failures }
+    ensures ends { IsEndCount result reader.old.ends reader.new.ends }
 {
     match next_head(parser, reader, unread)? {
         Front::Whole(head) => {

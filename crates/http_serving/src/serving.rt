@@ -2,11 +2,12 @@
 ghost use Rattle.std.specs.Prelude.{◌≡◌, ◌≤◌, ◌+◌, List, ℕ, length};
 ghost use Rattle.std.specs.Io.KnownBytes.{Consumes, IsAtEnd};
 ghost use Rattle.httparse.specs.Grammar.{RequestHead};
+ghost use Rattle.counted_io.specs.Counting.{counted};
 ghost use Rattle.http_messages.specs.Fronts.{IsHeadAt};
 ghost use Rattle.http_serving.specs.Reading.{message_of, IsFound};
 ghost use Rattle.http_serving.specs.Requests.{request_data, request_of};
 ghost use Rattle.http_serving.specs.Serving.{IsServed, IsTurn};
-ghost use Rattle.http_serving.specs.Writing.{IsCause, IsTurnCause};
+ghost use Rattle.http_serving.specs.Writing.{ends_input, IsCause, IsTurnCause};
 
 use crate::clock::Clock;
 use crate::ended::Ended;
@@ -73,6 +74,9 @@ pub fn serve<S, P: Responder<S>, R: Read, W: Write, C: Clock>(
     ensures truncated { result ≡ Ended.Truncated → IsAtEnd (R.remaining reader.new.inner) }
     // `ReadFailed` and `WriteFailed` come only where that count went up by one, and no other call failed.
     ensures cause { IsCause result reader.old.failures reader.new.failures writer.old.failures writer.new.failures }
+    // `Closed` and `Truncated` come where one read met the end of the input; in each other case none did. So no read is
+    // made behind a message that ends the connection: it could meet the end, or fail.
+    ensures ends { reader.new.ends ≡ counted (ends_input result) reader.old.ends }
 {
     let Ok(mut parser) = HeadParser::new(alloc) else {
         return Ended::OutOfMemory;

@@ -34,6 +34,10 @@ line_part input left w v line history takes (inr (answered, next, is, (part, (re
       (part, (rest, append-nil (answer_line answered) ∙ split), sent),
     )
 
+-- the whole answer to a line is a beginning of it
+pub whole_part : (w v : Option (List ℕ)) (line : List ℕ) (history next : History) → IsLineAnswered history line next w v → IsLinePart history line w v
+whole_part w v line history next (answered, is, sent) = inr (answered, next, is, (answer_line answered, ([], sym (append-nil (answer_line answered))), sent))
+
 pub part_on : (input left w v u : Option (List ℕ)) (line : List ℕ) (history next : History)
     → TakesTold input left true line → IsLineAnswered history line next w v → AreEventsPart left next v u → AreEventsPart input history w u
 part_on input left w v u line history next takes (answered, is, sent) (first, later, whole, last, rest, run, (part, (behind, split), more)) = (

@@ -1,4 +1,5 @@
 pub mod Lines
+pub mod Ends
 pub mod Causes
 pub mod Asking
 pub mod Answering

@@ -1,5 +1,5 @@
 -- What is written for the input of a replay.
-use Rattle.std.specs.Prelude.{◌≡◌, ℕ, List, [], ◌∷◌, Option, Some, None}
+use Rattle.std.specs.Prelude.{◌≡◌, ℕ, Bool, true, false, List, [], ◌∷◌, Option, Some, None}
 use Rattle.std.specs.Io.KnownBytes.{Appends}
 use Rattle.bpf_profile.specs.Limits.{context_size}
 use Rattle.bpf_profile.specs.Safety.{IsSafe}
@@ -39,6 +39,11 @@ abbrev pub IsReplayed : Option (List ℕ) → Ended → Option (List ℕ) → Op
 IsReplayed input end before after = (told : List (List ℕ)) × (text : List ℕ) × AreTold input told × IsReplay told end text × Appends before after text
 
 -- ---- a part of a replay
+
+-- the configuration on a line, where there is one
+abbrev pub config_told : Bool → List ℕ → Option ConfigParts
+config_told true line = config_in line
+config_told false line = None
 
 -- the configuration that the first line gives, and the lines after it
 abbrev pub Begins : List (List ℕ) → Option ConfigParts → List (List ℕ) → Type 0

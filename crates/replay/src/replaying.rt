@@ -1,14 +1,17 @@
 //! A replay: the configuration of a service, and then its events.
-ghost use Rattle.std.specs.Prelude.{◌≡◌, IfOk, IfSome, OnOk};
+ghost use Rattle.std.specs.Prelude.{◌≡◌, Ok, IfOk, IfSome, OnOk, OnErr, false, not};
+ghost use Rattle.std.specs.Io.KnownBytes.{IsAtEnd};
+ghost use Rattle.counted_io.specs.Counting.{AtMostOneMore, counted, one_more};
 ghost use Rattle.replay.specs.Lines.{LosesLines};
 ghost use Rattle.replay.specs.Causes.{IsCause, IsReadCause};
+ghost use Rattle.replay.specs.Ends.{is_there, has_feed, AreEndsOfRest, AreEnds};
 ghost use Rattle.replay.specs.Parts.{AreEventsPart, IsReplayedPart};
-ghost use Rattle.replay.specs.Replaying.{IsOpened, IsReplayed, IsBegun, AreEventsAnswered};
+ghost use Rattle.replay.specs.Replaying.{config_told, IsOpened, IsReplayed, IsBegun, AreEventsAnswered};
 ghost use Rattle.requests.specs.Configurations.{config_in};
 
 use crate::answering::answer_to;
 use crate::error::ReplayError;
-use crate::lines::next_line;
+use crate::lines::{Found, next_line};
 use book::{Book, Config};
 use counted_io::Counted;
 use requests::config;
@@ -36,20 +39,43 @@ fn config_in(alloc: Global, line: &[u8]) -> Result<Option<Config>, AllocError>
     }
 }
 
+/// The configuration on a line that was found.
+fn config_told(alloc: Global, found: Found, line: &[u8]) -> Result<Option<Config>, AllocError>
+    ensures { IfOk result (λ config. config ≡ config_told (is_there found) line.now) }
+{
+    if found.is_there() {
+        config_in(alloc, line)
+    } else {
+        Ok(None)
+    }
+}
+
+/// What the first line says.
+struct Begun {
+    /// The configuration; none where there is no line, or it is no configuration.
+    config: Option<Config>,
+    /// Whether more lines may follow: the end of the input wasn't met.
+    goes_on: bool,
+}
+
 /// The configuration on the first line, which is read into `line`.
 fn first_config<R: Read>(
     alloc: Global,
     reader: &mut Counted<R>,
     line: &mut Vec<u8>,
-) -> Result<Option<Config>, ReplayError>
-    ensures begun { IfOk result (λ found. IsBegun (R.remaining reader.old.inner) (R.remaining reader.new.inner) found) }
-    ensures fewer { IfOk result (λ found. IfSome found (λ config. LosesLines 0 (R.remaining reader.old.inner) (R.remaining reader.new.inner))) }
+) -> Result<Begun, ReplayError>
+    ensures begun { IfOk result (λ begun. IsBegun (R.remaining reader.old.inner) (R.remaining reader.new.inner) begun.config) }
+    ensures last { IfOk result (λ begun. begun.goes_on ≡ false → IsAtEnd (R.remaining reader.new.inner)) }
+    ensures feed { IfOk result (λ begun. has_feed line.new.items ≡ begun.goes_on) }
+    ensures fewer { IfOk result (λ begun. IfSome begun.config (λ config. LosesLines 0 (R.remaining reader.old.inner) (R.remaining reader.new.inner))) }
     ensures cause { IsReadCause result reader.old.failures reader.new.failures (R.remaining reader.old.inner) }
+    ensures ends { IfOk result (λ begun. reader.new.ends ≡ counted (not begun.goes_on) reader.old.ends) }
+    ensures failed { OnErr result (AtMostOneMore reader.old.ends reader.new.ends) }
 {
-    if !next_line(reader, line)? {
-        return Ok(None);
-    }
-    Ok(config_in(alloc, line)?)
+    let found = next_line(reader, line)?;
+    let config = config_told(alloc, found, line)?;
+    let goes_on = found.goes_on();
+    Ok(Begun { config, goes_on })
 }
 
 /// A service with the default classifier.
@@ -73,14 +99,19 @@ fn answer_all<R: Read, W: Write>(
     ensures answered { OnOk result (AreEventsAnswered (R.remaining reader.old.inner) book.old book.new (W.contents out.old.inner) (W.contents out.new.inner)) }
     ensures part { AreEventsPart (R.remaining reader.old.inner) book.old (W.contents out.old.inner) (W.contents out.new.inner) }
     ensures cause { IsCause result reader.old.failures reader.new.failures out.old.failures out.new.failures (R.remaining reader.old.inner) }
+    ensures ends { AreEndsOfRest result reader.old.ends reader.new.ends }
 {
     let mut line = Vec::new(alloc);
     let mut answered = 0;
     'events: while answered < u64::MAX {
-        if !next_line(reader, &mut line)? {
-            return Ok(());
+        match next_line(reader, &mut line)? {
+            Found::Line => answer_to(alloc, book, &line, out)?,
+            Found::Last => {
+                answer_to(alloc, book, &line, out)?;
+                return Ok(());
+            }
+            Found::End => return Ok(()),
         }
-        answer_to(alloc, book, &line, out)?;
         answered += 1;
     }
     Err(ReplayError::TooLong)
@@ -108,6 +139,9 @@ pub fn replay<R: Read, W: Write>(
     // `ReadFailed` and `WriteFailed` come where that count went up by one, and `TooLong` for an input of
     // 2^64 - 1 lines alone; in each other case no call failed.
     ensures cause { IsCause result reader.old.failures reader.new.failures out.old.failures out.new.failures (R.remaining reader.old.inner) }
+    // The end of the input is met once where all was answered, and at most once in each other case.
+    ensures done { result ≡ Ok Ended.Done → reader.new.ends ≡ one_more reader.old.ends }
+    ensures ends { AtMostOneMore reader.old.ends reader.new.ends }
 {
     let mut first = Vec::new(alloc);
     replay_with(alloc, &mut first, reader, out)
@@ -124,11 +158,18 @@ pub fn replay_with<R: Read, W: Write>(
     ensures replayed { IfOk result (λ ended. IsReplayed (R.remaining reader.old.inner) ended (W.contents out.old.inner) (W.contents out.new.inner)) }
     ensures part { IsReplayedPart (R.remaining reader.old.inner) (W.contents out.old.inner) (W.contents out.new.inner) }
     ensures cause { IsCause result reader.old.failures reader.new.failures out.old.failures out.new.failures (R.remaining reader.old.inner) }
+    // The end of the input is met once where all was answered, never behind a first line that is refused and has its
+    // line feed, and at most once in each other case.
+    ensures ends { AreEnds result first.new.items reader.old.ends reader.new.ends }
 {
-    let Some(config) = first_config(alloc, reader, first)? else {
+    let Begun { config, goes_on } = first_config(alloc, reader, first)?;
+    let Some(config) = config else {
         return Ok(Ended::BadConfig);
     };
     let mut book = open(alloc, config)?;
+    if !goes_on {
+        return Ok(Ended::Done);
+    }
     answer_all(alloc, &mut book, reader, out)?;
     Ok(Ended::Done)
 }

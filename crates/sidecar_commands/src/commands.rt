@@ -1,7 +1,7 @@
 //! The commands that the program's words name.
 ghost use Rattle.std.specs.Prelude.{◌≡◌, ◌++◌, [], ◌∷◌, Ok, Decides, IfOk, IfErr};
 ghost use Rattle.std.specs.Io.KnownBytes.{Appends};
-ghost use Rattle.counted_io.specs.Counting.{AppendsPart};
+ghost use Rattle.counted_io.specs.Counting.{AppendsPart, AtMostOneMore};
 ghost use Rattle.classifier_commands.specs.Commands.{IsPrinted, IsSettled, usage};
 ghost use Rattle.classifier_commands.specs.Endings.{IsUsageShown};
 ghost use Rattle.classifier_commands.specs.Text.{answer_text};
@@ -108,6 +108,7 @@ fn replay_events<R: Read, O: Write, E: Write>(
     ensures part { IfErr result (λ error. IsReplayCut error (R.remaining reader.old.inner) (O.contents out.old.inner) (O.contents out.new.inner)) }
     ensures quiet { (result ≡ Ok Status.Refused → ⊥) → err.new ≡ err.old }
     ensures cause { IsCause result reader.old.failures reader.new.failures out.old.failures out.new.failures (R.remaining reader.old.inner) }
+    ensures ends { AtMostOneMore reader.old.ends reader.new.ends }
 {
     let mut first = Vec::new(alloc);
     match replay_with(alloc, &mut first, reader, out)? {
@@ -159,6 +160,8 @@ pub fn command<R: Read, O: Write, E: Write>(
     ensures quiet { (NamesNone words.now → ⊥) → (NamesReplay words.now × (result ≡ Status.Refused) → ⊥) → err.new ≡ err.old }
     // A failed read or write is answered where that count went up by one, and in no other case.
     ensures cause { IsEnded result reader.old.failures reader.new.failures out.old.failures out.new.failures (R.remaining reader.old.inner) }
+    // The end of the input is met once at most: no read is made behind it.
+    ensures ends { AtMostOneMore reader.old.ends reader.new.ends }
 {
     if !is_replay(words) {
         return classifier_commands::command(alloc, words, reader, out, err);

@@ -7,6 +7,7 @@ pub bytes-init : goal.bytes-init
 bytes-init g c = record {
   taken = taken_none (g.R.Read.remaining c.args.reader.now.inner) _ (search rules);
   quiet = refl;
+  ends = refl;
 }
 
 pub returns-in_default-next-clause-all : goal.returns-in_default-next-clause-all
@@ -22,4 +23,5 @@ bytes-preserved g c =
       taken = taken_more (g.R.Read.remaining c.args.reader.now.inner) (g.R.Read.remaining c.bytes.reader.inner) (g.R.Read.remaining c.next_byte.new.self.inner)
           c.bytes.text.items c.push.new.self.items c.in-Some.byte c.bytes.invariant.taken next pushed;
       quiet = search rules;
+      ends = search rules;
     }

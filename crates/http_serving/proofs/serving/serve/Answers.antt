@@ -59,5 +59,6 @@ messages-preserved g c =
           c.messages.unread.items c.next_message.new.unread.items c.args.state.now c.args.clock.now c.messages.state c.messages.clock (g.W.Write.contents c.args.writer.now.inner) (g.W.Write.contents c.messages.writer.inner)
           c.messages.invariant.underway c.next_message.ensures.read) head.1 head.2 same c.if-head.false c.in_default-answer.ensures.turn);
       reads = search rules;
+      ends = search rules;
       writes = search rules;
     }

@@ -1,9 +1,11 @@
 use Rattle.std.proofs.Common.{Some, rules}
+use Rattle.std.specs.Io.KnownBytes.{IsAtEnd}
 use Rattle.replay.specs.Causes.{IsCauseOf}
 use Rattle.replay.specs.Lines.{LosesLines}
 use Rattle.replay.specs.Replaying.{IsBegun, IsOpened}
 use Rattle.replay.proofs.Causing.{cause_on}
-use Rattle.replay.proofs.Parts.{nothing_replayed, replayed_part}
+use Rattle.replay.proofs.Ending.{none_left}
+use Rattle.replay.proofs.Parts.{nothing_part, nothing_replayed, replayed_part}
 use Rattle.replay.proofs.Running.{replayed_bad, replayed_done}
 use Rattle.replay.proofs.replaying.replay_with.Goals as goal
 
@@ -26,6 +28,21 @@ returns-in_err-answer_all-clause-part g c =
     let is : IsOpened c.in-Some.config c.in_ok-book.book = search rules in
     replayed_part (g.R.Read.remaining c.args.reader.now.inner) (g.R.Read.remaining c.first_config.new.reader.inner) (g.W.Write.contents c.args.out.now.inner) (g.W.Write.contents c.answer_all.new.out.inner)
     c.in-Some.config c.in_ok-book.book begun is c.answer_all.ensures.part
+
+pub returns-then-not-goes_on-clause-part : goal.returns-then-not-goes_on-clause-part
+returns-then-not-goes_on-clause-part g c =
+    let begun : IsBegun (g.R.Read.remaining c.args.reader.now.inner) (g.R.Read.remaining c.first_config.new.reader.inner) (Some c.in-Some.config) = rw c.in-Some.is at c.in_ok-config.ensures.begun in
+    let is : IsOpened c.in-Some.config c.in_ok-book.book = search rules in
+    replayed_part (g.R.Read.remaining c.args.reader.now.inner) (g.R.Read.remaining c.first_config.new.reader.inner) (g.W.Write.contents c.args.out.now.inner) (g.W.Write.contents c.args.out.now.inner)
+    c.in-Some.config c.in_ok-book.book begun is (nothing_part (g.R.Read.remaining c.first_config.new.reader.inner) (g.W.Write.contents c.args.out.now.inner) c.in_ok-book.book)
+
+pub returns-then-not-goes_on-clause-replayed : goal.returns-then-not-goes_on-clause-replayed
+returns-then-not-goes_on-clause-replayed g c =
+    let begun : IsBegun (g.R.Read.remaining c.args.reader.now.inner) (g.R.Read.remaining c.first_config.new.reader.inner) (Some c.in-Some.config) = rw c.in-Some.is at c.in_ok-config.ensures.begun in
+    let is : IsOpened c.in-Some.config c.in_ok-book.book = search rules in
+    let end : IsAtEnd (g.R.Read.remaining c.first_config.new.reader.inner) = search rules in
+    replayed_done (g.R.Read.remaining c.args.reader.now.inner) (g.R.Read.remaining c.first_config.new.reader.inner) (g.W.Write.contents c.args.out.now.inner) (g.W.Write.contents c.args.out.now.inner)
+    c.in-Some.config c.in_ok-book.book c.in_ok-book.book begun is (none_left (g.R.Read.remaining c.first_config.new.reader.inner) (g.W.Write.contents c.args.out.now.inner) c.in_ok-book.book end)
 
 pub returns-clause-part : goal.returns-clause-part
 returns-clause-part g c =

@@ -17,4 +17,5 @@ pieces-preserved g c = record {
   within = sent_fits c.args.text.now c.pieces.sent c.in_ok-count.count c.pieces.invariant.within c.in_ok-count.ensures.bound;
   written = appends_next (g.W.Write.contents c.args.self.now.inner) (g.W.Write.contents c.pieces.self.inner) (g.W.Write.contents c.write.new.self.inner) c.args.text.now c.pieces.sent c.in_ok-count.count c.pieces.invariant.written c.in_ok-count.ensures.bytes;
   quiet = no_failure c.in_ok-count.count _ c.pieces.self.failures c.write.new.self.failures c.if-count-eq0.false c.in_ok-count.ensures.failures ∙ c.pieces.invariant.quiet;
+  ends = c.in_ok-count.ensures.ends ∙ c.pieces.invariant.ends;
 }
