@@ -1,4 +1,5 @@
 pub mod Counting
+pub mod Descent
 pub mod FlatSending
 pub mod Places
 pub mod Sending

@@ -7,11 +7,12 @@ use Rattle.std.proofs.Crossing.{crosses}
 use Rattle.desk.specs.contracts.desks.Desk as desk
 use Rattle.desk.specs.contracts.desks.Service as service
 use Rattle.desk.specs.contracts.kept.Kept as kept
-use Rattle.desk.specs.contracts.kept.Tally as tally
 use Rattle.desk.specs.contracts.seats.Seat as seat
+use Rattle.desk.specs.contracts.tokens.Tokens as tokens
 use Rattle.desk.proofs.Sending.{book_field_send}
 use Rattle.std.specs.Sync.Ledger.{chain, row, Rule, share_owns, book_owns}
 use Rattle.std.specs.declared.sync.ledger.Ledger.{Ghosts}
+use Rattle.desk.specs.declared.offered.Offered as offered
 use Rattle.std.specs.contracts.sync.ledger.Share as share
 use Rattle.std.specs.contracts.sync.ledger.Book as ledger
 
@@ -44,28 +45,31 @@ module _ (T : RattleType) (g : Ghosts T.Denot) where
   pub ledger_send : IsSend (ledger.the_row T g)
   ledger_send = record { owned = λ d vs. ((λ vss. (tt, ((λ uss. (tt, tt)), tt))), book_keyless g.name g.parts d.total); leaving = λ k f vs. tt }
 
+  pub ledger_sync : IsSync (ledger.the_row T g)
+  ledger_sync = record { shared = λ d b o ν q. part_keyless (ledger.the_row T g) ledger_send q d b o }
+
+  pub tokens_sync : IsSend T → IsSync T → IsSync (tokens.the_field T g).row
+  tokens_sync s y = search (sendable, crosses, ledger_sync, share_sync) depth 40 fits 20000
+
 -- ---- the types of this crate
-
-module _ (T : RattleType) (g : Ghosts T.Denot) where
-  pub seat_send : IsSend T → IsSend (seat.the_row T g)
-  seat_send s = search (sendable, crosses, share_send) depth 40 fits 20000
-
-  pub seat_field_send : IsSend T → IsSend (seat.the_field T g).row
-  seat_field_send s = search (sendable, crosses, share_send) depth 40 fits 20000
-
-  pub kept_send : IsSend T → IsSend (kept.the_row T g)
-  kept_send s = search (sendable, book_field_send, share_send) depth 40 fits 20000
-
-  pub service_sync : IsSend T → IsSync (service.the_row T g)
-  service_sync s = search (sendable, crosses, kept_send) depth 40 fits 20000
 
 -- a desk may be shared, and a seat moved, by threads that share what names the ledgers
 module _ (S T : RattleType) (g : Ghosts S.Denot) (h : Ghosts T.Denot) where
-  pub tally_send : IsSend S → IsSend T → IsSend (tally.the_row S T g h)
-  tally_send s t = search (sendable, ledger_send) depth 40 fits 20000
+  pub seat_send : IsSend S → IsSend T → IsSend (seat.the_row S T g h)
+  seat_send s t = search (sendable, crosses, share_send) depth 40 fits 20000
 
-  pub desk_sync : IsSend S → IsSync S → IsSend T → IsSync T → IsSync (desk.the_row S T g h)
-  desk_sync s y t z = search (sendable, crosses, service_sync, tally_send, share_sync) depth 40 fits 20000
+  pub seat_field_send : IsSend S → IsSend T → IsSend (seat.the_field S T g h).row
+  seat_field_send s t = search (sendable, crosses, share_send) depth 40 fits 20000
 
-  pub desk_field_sync : IsSend S → IsSync S → IsSend T → IsSync T → IsSync (desk.the_field S T g h).row
-  desk_field_sync s y t z = search (sendable, crosses, service_sync, tally_send, share_sync) depth 40 fits 20000
+module _ (S T : RattleType) (g : Ghosts S.Denot) (h : Ghosts T.Denot) (o : offered.Ghosts T.Denot) where
+  pub kept_send : IsSend S → IsSend T → IsSend (kept.the_row S T g h o)
+  kept_send s t = search (sendable, book_field_send, share_send) depth 40 fits 20000
+
+  pub service_sync : IsSend S → IsSend T → IsSync (service.the_row S T g h o)
+  service_sync s t = search (sendable, crosses, kept_send) depth 40 fits 20000
+
+  pub desk_sync : IsSend S → IsSync S → IsSend T → IsSync T → IsSync (desk.the_row S T g h o)
+  desk_sync s y t z = search (sendable, crosses, service_sync, tokens_sync, ledger_sync, share_sync) depth 40 fits 20000
+
+  pub desk_field_sync : IsSend S → IsSync S → IsSend T → IsSync T → IsSync (desk.the_field S T g h o).row
+  desk_field_sync s y t z = search (sendable, crosses, service_sync, tokens_sync, ledger_sync, share_sync) depth 40 fits 20000

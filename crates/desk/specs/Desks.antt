@@ -1,12 +1,13 @@
 -- What contracts see of a desk, whose books are behind locks.
 use Rattle.std.specs.Prelude.{ℕ, ◌<◌, List, length}
+use Rattle.desk.specs.Services.{ServiceData}
 
--- the names of its services, and how many seats it has given
+-- the services that it has opened, and how many seats it has given
 pub record DeskData : Type 0 where
-  pub services : List (List ℕ)
+  pub services : List ServiceData
   pub seats : ℕ
 
-abbrev pub desk_of : List (List ℕ) → ℕ → DeskData
+abbrev pub desk_of : List ServiceData → ℕ → DeskData
 desk_of services seats = record { services = services; seats = seats }
 
 -- the service at this place is one of the desk's

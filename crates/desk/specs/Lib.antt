@@ -1,3 +1,4 @@
+pub mod Services
 pub mod Seats
 pub mod Desks
 pub mod Kept

@@ -1,16 +1,17 @@
--- A seat, and what calls do to its count.
-use Rattle.std.specs.Prelude.{ℕ, suc, ◌+◌, ◌≤◌, ◌≡◌, if◌then◌else◌}
+-- A seat, and what calls do to its counts.
+use Rattle.std.specs.Prelude.{ℕ, suc, ◌+◌, ◌≤◌, ◌≡◌, if◌then◌else◌, Result, Ok, Err}
 use Rattle.service_profile.specs.declared.replies.Reply.{Reply}
 use Rattle.service_profile.specs.declared.replies.Reply.TheVariants as reply
 use Rattle.service_profile.specs.Machine.{is_entered}
 
--- its number, and how many entries its calls have made
+-- its number, how many entries its calls have made, and how many cuts
 pub record SeatData : Type 0 where
   pub number : ℕ
   pub count : ℕ
+  pub cuts : ℕ
 
-abbrev pub seat_of : ℕ → ℕ → SeatData
-seat_of number count = record { number = number; count = count }
+abbrev pub seat_of : ℕ → ℕ → ℕ → SeatData
+seat_of number count cuts = record { number = number; count = count; cuts = cuts }
 
 -- how many entries a reply makes: one, where it stands in the journal
 abbrev pub entries_made : Reply → ℕ
@@ -18,7 +19,15 @@ entries_made r = if is_entered r then 1 else 0
 
 -- the seat after a call with this reply
 abbrev pub after_call : SeatData → Reply → SeatData
-after_call seat r = record { number = seat.number; count = seat.count + entries_made r }
+after_call seat r = record { number = seat.number; count = seat.count + entries_made r; cuts = seat.cuts }
+
+-- the seat after a cut that handed out entries, or was refused
+abbrev pub cuts_made : {A E : Type 0} → Result A E → ℕ
+cuts_made (Ok entries) = 1
+cuts_made (Err number) = 0
+
+abbrev pub after_cut : {A E : Type 0} → SeatData → Result A E → SeatData
+after_cut seat found = record { number = seat.number; count = seat.count; cuts = seat.cuts + cuts_made found }
 
 -- the count before and after a report: a success counts once, an entered refusal at most once, and another refusal not at all
 abbrev pub IsCounted : ℕ → Reply → ℕ → Type 0

@@ -5,10 +5,11 @@ ghost use Rattle.book.specs.Seen.{seen};
 ghost use Rattle.service_profile.specs.Answers.{map_ok};
 ghost use Rattle.service_profile.specs.Events.{acquires, releases, installs, moves, resets};
 ghost use Rattle.desk.specs.Desks.{IsServiceOf};
-ghost use Rattle.desk.specs.Seats.{after_call};
+ghost use Rattle.desk.specs.Seats.{after_call, after_cut};
 ghost use Rattle.desk.specs.AfterSome.{IsReplied, IsFound, IsShown, IsPageFrom, IsCutOff, IsRolledOff};
 
 use crate::desks::{Desk, ServiceId};
+use crate::offered::Offered;
 use crate::seats::Seat;
 use book::{Entry, Event, Reading, Reply, State};
 use refusals::RefusalNumber;
@@ -16,23 +17,23 @@ use std::sync::ledger::Ledger;
 use std::sync::{Arc, Wait};
 use verifier::Verified;
 
-impl<L: Ledger, M: Ledger> Desk<L, M> {
+impl<L: Ledger, M: Ledger + Offered> Desk<L, M> {
     /// An event of a seat on a service.
     pub(crate) fn apply<R: Wait>(
         &self,
         rt: &R,
-        seat: &mut Seat<L>,
+        seat: &mut Seat<L, M>,
         service: ServiceId,
         moment: u64,
         event: Event,
     ) -> Reply
         requires held { IsServiceOf self.now service }
         requires room { seat.old.count < 2 ^ 64 - 8 }
-        ensures replied { IsReplied seat.old.number moment (seen event) result }
+        ensures replied { IsReplied self.now.services seat.old.number moment (seen event) result }
         ensures counted { seat.new ≡ after_call seat.old result }
     {
         let mut kept = self.services[service.place()].kept.lock(rt);
-        kept.apply(rt, &self.tally, seat, moment, event)
+        kept.apply(seat, moment, event)
     }
 
     /// The program that judges under a ticket of a service.
@@ -43,7 +44,7 @@ impl<L: Ledger, M: Ledger> Desk<L, M> {
         ticket: u64,
     ) -> Result<Arc<Verified>, RefusalNumber>
         requires held { IsServiceOf self.now service }
-        ensures { IsFound ticket (map_ok arc_value result) }
+        ensures { IsFound self.now.services ticket (map_ok arc_value result) }
     {
         let kept = self.services[service.place()].kept.lock(rt);
         kept.look(ticket)
@@ -53,13 +54,13 @@ impl<L: Ledger, M: Ledger> Desk<L, M> {
     pub fn acquire<R: Wait>(
         &self,
         rt: &R,
-        seat: &mut Seat<L>,
+        seat: &mut Seat<L, M>,
         service: ServiceId,
         moment: u64,
     ) -> Reply
         requires held { IsServiceOf self.now service }
         requires room { seat.old.count < 2 ^ 64 - 8 }
-        ensures replied { IsReplied seat.old.number moment acquires result }
+        ensures replied { IsReplied self.now.services seat.old.number moment acquires result }
         ensures counted { seat.new ≡ after_call seat.old result }
     {
         self.apply(rt, seat, service, moment, Event::Acquire)
@@ -69,14 +70,14 @@ impl<L: Ledger, M: Ledger> Desk<L, M> {
     pub fn release<R: Wait>(
         &self,
         rt: &R,
-        seat: &mut Seat<L>,
+        seat: &mut Seat<L, M>,
         service: ServiceId,
         moment: u64,
         ticket: u64,
     ) -> Reply
         requires held { IsServiceOf self.now service }
         requires room { seat.old.count < 2 ^ 64 - 8 }
-        ensures replied { IsReplied seat.old.number moment (releases ticket) result }
+        ensures replied { IsReplied self.now.services seat.old.number moment (releases ticket) result }
         ensures counted { seat.new ≡ after_call seat.old result }
     {
         self.apply(rt, seat, service, moment, Event::Release(ticket))
@@ -86,14 +87,14 @@ impl<L: Ledger, M: Ledger> Desk<L, M> {
     pub fn install<R: Wait>(
         &self,
         rt: &R,
-        seat: &mut Seat<L>,
+        seat: &mut Seat<L, M>,
         service: ServiceId,
         moment: u64,
         program: Arc<Verified>,
     ) -> Reply
         requires held { IsServiceOf self.now service }
         requires room { seat.old.count < 2 ^ 64 - 8 }
-        ensures replied { IsReplied seat.old.number moment (installs (arc_value program)) result }
+        ensures replied { IsReplied self.now.services seat.old.number moment (installs (arc_value program)) result }
         ensures counted { seat.new ≡ after_call seat.old result }
     {
         self.apply(rt, seat, service, moment, Event::Install(program))
@@ -103,14 +104,14 @@ impl<L: Ledger, M: Ledger> Desk<L, M> {
     pub fn move_to<R: Wait>(
         &self,
         rt: &R,
-        seat: &mut Seat<L>,
+        seat: &mut Seat<L, M>,
         service: ServiceId,
         moment: u64,
         state: State,
     ) -> Reply
         requires held { IsServiceOf self.now service }
         requires room { seat.old.count < 2 ^ 64 - 8 }
-        ensures replied { IsReplied seat.old.number moment (moves state) result }
+        ensures replied { IsReplied self.now.services seat.old.number moment (moves state) result }
         ensures counted { seat.new ≡ after_call seat.old result }
     {
         self.apply(rt, seat, service, moment, Event::Move(state))
@@ -120,13 +121,13 @@ impl<L: Ledger, M: Ledger> Desk<L, M> {
     pub fn reset<R: Wait>(
         &self,
         rt: &R,
-        seat: &mut Seat<L>,
+        seat: &mut Seat<L, M>,
         service: ServiceId,
         moment: u64,
     ) -> Reply
         requires held { IsServiceOf self.now service }
         requires room { seat.old.count < 2 ^ 64 - 8 }
-        ensures replied { IsReplied seat.old.number moment resets result }
+        ensures replied { IsReplied self.now.services seat.old.number moment resets result }
         ensures counted { seat.new ≡ after_call seat.old result }
     {
         self.apply(rt, seat, service, moment, Event::Reset)
@@ -136,12 +137,12 @@ impl<L: Ledger, M: Ledger> Desk<L, M> {
     pub fn read<R: Wait>(
         &self,
         rt: &R,
-        seat: &mut Seat<L>,
+        seat: &mut Seat<L, M>,
         service: ServiceId,
         moment: u64,
     ) -> Reading
         requires held { IsServiceOf self.now service }
-        ensures shown { IsShown moment result }
+        ensures shown { IsShown self.now.services moment result }
         ensures uncounted { seat.new ≡ seat.old }
     {
         let kept = self.services[service.place()].kept.lock(rt);
@@ -152,33 +153,34 @@ impl<L: Ledger, M: Ledger> Desk<L, M> {
     pub fn page<R: Wait>(
         &self,
         rt: &R,
-        seat: &mut Seat<L>,
+        seat: &mut Seat<L, M>,
         service: ServiceId,
         _moment: u64,
         from: u64,
     ) -> Result<Vec<Entry>, RefusalNumber>
         requires held { IsServiceOf self.now service }
-        ensures page { IsPageFrom from (map_ok (λ entries. entries.items) result) }
+        ensures page { IsPageFrom self.now.services from (map_ok (λ entries. entries.items) result) }
         ensures uncounted { seat.new ≡ seat.old }
     {
         let kept = self.services[service.place()].kept.lock(rt);
         kept.page(from)
     }
 
-    /// Hands out all entries of the journal, which opens anew. Numbers go on, and so does what is counted.
+    /// Hands out all entries of the journal, which opens anew. Numbers go on, and so does the count of entries. The seat
+    /// counts the cut.
     pub fn cut<R: Wait>(
         &self,
         rt: &R,
-        seat: &mut Seat<L>,
+        seat: &mut Seat<L, M>,
         service: ServiceId,
         _moment: u64,
     ) -> Result<Vec<Entry>, RefusalNumber>
         requires held { IsServiceOf self.now service }
-        ensures cut { IsCutOff (map_ok (λ entries. entries.items) result) }
-        ensures uncounted { seat.new ≡ seat.old }
+        ensures cut { IsCutOff self.now.services (map_ok (λ entries. entries.items) result) }
+        ensures counted { seat.new ≡ after_cut seat.old (map_ok (λ entries. entries.items) result) }
     {
         let mut kept = self.services[service.place()].kept.lock(rt);
-        kept.cut()
+        kept.cut(seat)
     }
 
     /// Hands out the entries of the journal up to a number. All else of the service goes on as it is, and so
@@ -186,13 +188,13 @@ impl<L: Ledger, M: Ledger> Desk<L, M> {
     pub fn roll<R: Wait>(
         &self,
         rt: &R,
-        seat: &mut Seat<L>,
+        seat: &mut Seat<L, M>,
         service: ServiceId,
         _moment: u64,
         last: u64,
     ) -> Result<Vec<Entry>, RefusalNumber>
         requires held { IsServiceOf self.now service }
-        ensures rolled { IsRolledOff last (map_ok (λ entries. entries.items) result) }
+        ensures rolled { IsRolledOff self.now.services last (map_ok (λ entries. entries.items) result) }
         ensures uncounted { seat.new ≡ seat.old }
     {
         let mut kept = self.services[service.place()].kept.lock(rt);

@@ -1,10 +1,11 @@
 //! The end of a desk.
-ghost use Rattle.std.specs.Prelude.{◌≡◌, ◌≢◌, ◌⊎◌, ◌+◌, ◌≤◌, length, map, sum, vec_len, vec_capacity, IfOk, IfErr};
+ghost use Rattle.std.specs.Prelude.{◌≡◌, ◌≢◌, ◌⊎◌, ◌+◌, ◌*◌, ◌≤◌, ℕ, List, [], length, map, sum, vec_len, vec_capacity, IfOk, IfErr};
 ghost use Rattle.std.specs.List.{AllByRecursion};
-ghost use Rattle.desk.specs.Kept.{IsGood, last_number};
+ghost use Rattle.desk.specs.Kept.{IsGood, AreOfSome, last_number, most_numbers, most_cuts};
 ghost use Rattle.desk.specs.Closing.{IsUnclosed};
 
 use crate::desks::{Desk, Service};
+use crate::offered::Offered;
 use crate::seats::Seat;
 use book::Book;
 use refusals::RefusalNumber;
@@ -14,19 +15,20 @@ use std::sync::ledger::{Ledger, Share};
 /// A desk that was not closed, with the seats that were given, and why: `SeatsMissing` where they are not
 /// all seats of the desk, `ServiceOutOfMemory` without memory.
 #[derive(Drop)]
-pub struct Unclosed<L: Ledger, M: Ledger> {
+pub struct Unclosed<L: Ledger, M: Ledger + Offered> {
     pub desk: Desk<L, M>,
-    pub seats: Vec<Seat<L>>,
+    pub seats: Vec<Seat<L, M>>,
     pub number: RefusalNumber,
 }
 
-impl<L: Ledger, M: Ledger> Desk<L, M> {
+impl<L: Ledger, M: Ledger + Offered> Desk<L, M> {
     /// Closes the desk, where all its seats are given, and hands out the books, in the order of the
     /// services.
-    pub fn close(self, alloc: Global, seats: Vec<Seat<L>>) -> Result<Vec<Book>, Unclosed<L, M>>
+    pub fn close(self, alloc: Global, seats: Vec<Seat<L, M>>) -> Result<Vec<Book>, Unclosed<L, M>>
         ensures all_seats { IfOk result (λ books. vec_len seats ≡ self.seats) }
         ensures all_books { IfOk result (λ books. vec_len books ≡ length self.services) }
         ensures good { IfOk result (λ books. AllByRecursion IsGood books.items) }
+        ensures of_services { IfOk result (λ books. (cuts : List ℕ) × AreOfSome self.services cuts books.items × (sum cuts ≡ sum (map (λ seat. seat.cuts) seats.items))) }
         ensures agree { IfOk result (λ books. sum (map last_number books.items) ≡ sum (map (λ seat. seat.count) seats.items)) }
         ensures unclosed { IfErr result (λ e. IsUnclosed (vec_len seats) self.seats e.number) }
         ensures unchanged { IfErr result (λ e. (e.desk ≡ self) × (e.seats ≡ seats)) }
@@ -48,47 +50,57 @@ impl<L: Ledger, M: Ledger> Desk<L, M> {
         }
         let Desk {
             services,
-            tally,
             given: _,
-            mut seats_left,
-            mut services_left,
+            mut entries,
+            mut cuts,
         } = self;
-        merge_seats(&mut seats_left, seats);
-        merge_services(&mut services_left, services, &mut books);
-        let mut tally = tally.into_inner();
-        tally.seats.audit(&mut seats_left);
-        tally.services.audit(&mut services_left);
+        merge_seats(&mut entries.left, &mut cuts.left, seats);
+        merge_services(&mut entries.left, &mut cuts.left, services, &mut books);
+        entries.audit();
+        cuts.audit();
         Ok(books)
     }
 }
 
-/// Puts the seats' shares together.
-fn merge_seats<L: Ledger>(all: &mut Share<L>, mut seats: Vec<Seat<L>>)
-    ensures parts { all.new.parts ≡ all.old.parts + vec_len seats }
-    ensures amount { all.new.amount ≡ all.old.amount + sum (map (λ seat. seat.count) seats.items) }
+/// Puts the seats' tokens together.
+fn merge_seats<L: Ledger, M: Ledger>(
+    entries: &mut Share<L>,
+    cuts: &mut Share<M>,
+    mut seats: Vec<Seat<L, M>>,
+)
+    ensures entry_parts { entries.new.parts ≡ entries.old.parts + vec_len seats }
+    ensures entries { entries.new.amount ≡ entries.old.amount + sum (map (λ seat. seat.count) seats.items) }
+    ensures cut_parts { cuts.new.parts ≡ cuts.old.parts + vec_len seats }
+    ensures cuts { cuts.new.amount ≡ cuts.old.amount + sum (map (λ seat. seat.cuts) seats.items) }
 {
     while let Some(seat) = seats.pop() {
-        all.merge(seat.into_share());
+        let (counted, cut) = seat.into_shares();
+        entries.merge(counted);
+        cuts.merge(cut);
     }
 }
 
-/// Puts the services' shares together, and takes their books.
-fn merge_services<M: Ledger>(
-    all: &mut Share<M>,
-    mut services: Vec<Service<M>>,
+/// Puts the tokens together that the services have left, and takes their books.
+fn merge_services<L: Ledger, M: Ledger + Offered>(
+    entries: &mut Share<L>,
+    cuts: &mut Share<M>,
+    mut services: Vec<Service<L, M>>,
     books: &mut Vec<Book>,
 )
-    requires room { vec_len books.old + vec_len services ≤ vec_capacity books.old }
-    requires good_before { AllByRecursion IsGood books.old.items }
-    ensures parts { all.new.parts ≡ all.old.parts + vec_len services }
-    ensures amount { all.new.amount + sum (map last_number books.old.items) ≡ all.old.amount + sum (map last_number books.new.items) }
-    ensures count { vec_len books.new ≡ vec_len books.old + vec_len services }
+    requires room { vec_len services ≤ vec_capacity books.old }
+    requires none { books.old.items ≡ [] }
+    ensures entry_parts { entries.new.parts ≡ entries.old.parts + vec_len services }
+    ensures entries { entries.new.amount + sum (map last_number books.new.items) ≡ entries.old.amount + vec_len services * most_numbers }
+    ensures cut_parts { cuts.new.parts ≡ cuts.old.parts + vec_len services }
+    ensures cuts { (numbers : List ℕ) × AreOfSome M.services numbers books.new.items × (cuts.new.amount + sum numbers ≡ cuts.old.amount + vec_len services * most_cuts) }
+    ensures count { vec_len books.new ≡ vec_len services }
     ensures good { AllByRecursion IsGood books.new.items }
 {
     services.reverse();
     while let Some(service) = services.pop() {
-        let (book, counted) = service.kept.into_inner().into_parts();
-        all.merge(counted);
+        let (book, entries_left, cuts_left) = service.kept.into_inner().into_parts();
+        entries.merge(entries_left);
+        cuts.merge(cuts_left);
         books.push_reserved(book);
     }
 }

@@ -1,18 +1,30 @@
 //! Desks: services behind their locks, and the seats that ask them.
-ghost use Rattle.std.specs.Prelude.{◌≡◌, ◌<◌, ◌≤◌, ◌+◌, length, map, position, bytes_eq, string_bytes, vec_len, IfOk, IfErr, IfSome};
+ghost use Rattle.std.specs.Prelude.{◌≡◌, ◌<◌, ◌≤◌, ◌+◌, ◌*◌, [], length, map, position, bytes_eq, string_bytes, vec_len, IfOk, IfErr, IfSome};
 ghost use Rattle.desk.specs.Desks.{desk_of, IsServiceOf, most_seats, most_services};
+ghost use Rattle.service_profile.specs.Events.{history_of};
+ghost use Rattle.service_profile.specs.Openings.{first_opening};
+ghost use Rattle.desk.specs.Kept.{IsOfOne, most_numbers, most_cuts};
 ghost use Rattle.desk.specs.Seats.{seat_of};
+ghost use Rattle.desk.specs.Services.{service_of};
 ghost use Rattle.refusals.specs.declared.RefusalNumber.TheVariants.{SeatsFull};
 
-use crate::kept::{Kept, Tally};
+use crate::kept::Kept;
+use crate::offered::Offered;
 use crate::seats::Seat;
+use crate::tokens::Tokens;
 use book::{Book, Config};
 use refusals::RefusalNumber;
 use std::alloc::{AllocError, Global};
 use std::marker::Model;
 use std::sync::Mutex;
-use std::sync::ledger::{Blank, Ledger, Share};
+use std::sync::ledger::{Blank, Ledger};
 use verifier::Verified;
+
+/// How many tokens a service opens with, for its entries and for its cuts: a number of an entry, and one of a period,
+/// can't be greater.
+const MOST_NUMBERS: u64 = u64::MAX;
+
+const MOST_CUTS: u64 = 1 << 63;
 
 /// Which of a desk's services is asked. Contracts see its place.
 #[derive(Clone, Copy, Debug, PartialEq, Eq)]
@@ -40,83 +52,86 @@ impl ServiceId {
 
 /// A service: its name, and what lies under its lock.
 #[derive(Drop)]
-pub(crate) struct Service<M: Ledger> {
+pub(crate) struct Service<L: Ledger, M: Ledger + Offered> {
     pub name: String,
-    pub kept: Mutex<Kept<M>>,
+    pub kept: Mutex<Kept<L, M>>,
 }
 
-/// Services that many threads ask at once, each behind a lock of its own. Contracts see the services' names
-/// and how many seats were given: what lies under the locks other threads may change at any time.
+/// Services that many threads ask at once, each behind a lock of its own. Contracts see the services that were opened,
+/// by their names, configurations and first programs, and how many seats were given: what lies under the locks other
+/// threads may change at any time.
 #[derive(Drop)]
-pub struct Desk<L: Ledger, M: Ledger> {
-    pub(crate) services: Vec<Service<M>>,
-    pub(crate) tally: Mutex<Tally<L, M>>,
+pub struct Desk<L: Ledger, M: Ledger + Offered> {
+    pub(crate) services: Vec<Service<L, M>>,
     pub(crate) given: u32,
-    pub(crate) seats_left: Share<L>,
-    pub(crate) services_left: Share<M>,
+    pub(crate) entries: Tokens<L>,
+    pub(crate) cuts: Tokens<M>,
 }
 
-impl<L: Ledger, M: Ledger> Model for Desk<L, M> {
-    ghost use Rattle.std.specs.Prelude.{◌≡◌, ◌+◌, ◌≤◌, map, string_bytes, vec_len};
+impl<L: Ledger, M: Ledger + Offered> Model for Desk<L, M> {
+    ghost use Rattle.std.specs.Prelude.{◌≡◌, ◌+◌, ◌*◌, ◌≤◌, map, length, string_bytes, vec_len};
     ghost use Rattle.desk.specs.Desks.{DeskData, desk_of};
+    ghost use Rattle.desk.specs.Kept.{most_numbers, most_cuts};
 
     ghost Value = { DeskData };
 
-    ghost view = { λ desk. desk_of (map (λ service. string_bytes service.name) desk.services.items) desk.given };
+    ghost view = { λ desk. desk_of M.services desk.given };
 
-    // The parts that seats and services don't have lie here, with nothing counted.
+    // Each seat and each service has one part of both ledgers. The others lie here, with nothing counted: all tokens are
+    // those that services have opened with.
     ghost invariant = { λ desk.
-        (L.parts ≡ 129) × (desk.seats_left.parts + desk.given ≡ 129) × (desk.seats_left.amount ≡ 0) × (desk.given ≤ 128)
-        × (M.parts ≡ 65) × (desk.services_left.parts + vec_len desk.services ≡ 65) × (desk.services_left.amount ≡ 0) };
+        (desk.given ≤ 128) × (vec_len desk.services ≤ 64)
+        × (L.parts ≡ 193) × (desk.entries.left.parts + (desk.given + vec_len desk.services) ≡ 193) × (desk.entries.left.amount ≡ 0) × (desk.entries.book.total ≡ vec_len desk.services * most_numbers)
+        × (M.parts ≡ 193) × (desk.cuts.left.parts + (desk.given + vec_len desk.services) ≡ 193) × (desk.cuts.left.amount ≡ 0) × (desk.cuts.book.total ≡ vec_len desk.services * most_cuts)
+        × (map (λ service. service.name) M.services ≡ map (λ service. string_bytes service.name) desk.services.items) × (length M.services ≡ vec_len desk.services) };
 }
 
-impl<L: Ledger, M: Ledger> Desk<L, M> {
+impl<L: Ledger, M: Ledger + Offered> Desk<L, M> {
     /// Opens a desk with no seats, and a book for each service by its name, its configuration and its first
     /// program. The error is want of memory.
     pub fn open(
         alloc: Global,
-        seats: Blank,
         entries: Blank,
+        cuts: Blank,
         services: Vec<(String, Config, Verified)>,
     ) -> Result<Desk<L, M>, AllocError>
-        requires seats_name { seats.name ≡ L.name }
-        requires seats_parts { (seats.parts ≡ L.parts) × (L.parts ≡ 129) }
-        requires entries_name { entries.name ≡ M.name }
-        requires entries_parts { (entries.parts ≡ M.parts) × (M.parts ≡ 65) }
+        requires entries_name { entries.name ≡ L.name }
+        requires entries_parts { (entries.parts ≡ L.parts) × (L.parts ≡ 193) }
+        requires cuts_name { cuts.name ≡ M.name }
+        requires cuts_parts { (cuts.parts ≡ M.parts) × (M.parts ≡ 193) }
         requires few { vec_len services ≤ most_services }
-        ensures opened { IfOk result (λ desk. desk ≡ desk_of (map (λ service. string_bytes service.0) services.items) 0) }
+        // `M` names the services that are opened. It is the caller's to pick, and restricts nobody.
+        requires offered { M.services ≡ map service_of services.items }
+        ensures opened { IfOk result (λ desk. desk ≡ desk_of (map service_of services.items) 0) }
     {
-        let (seats, seats_left) = seats.open::<L>();
-        let (entries, mut services_left) = entries.open::<M>();
-        let services = behind_locks(alloc, &mut services_left, services)?;
+        let mut entries = Tokens::new(entries);
+        let mut cuts = Tokens::new(cuts);
+        let services = behind_locks(alloc, &mut entries, &mut cuts, services)?;
         Ok(Desk {
             services,
-            tally: Mutex::new(Tally {
-                seats,
-                services: entries,
-            }),
             given: 0,
-            seats_left,
-            services_left,
+            entries,
+            cuts,
         })
     }
 
     /// A new seat, which has made no calls. The refusal is `SeatsFull`, for the 129th.
-    pub fn sit(&mut self) -> Result<Seat<L>, RefusalNumber>
-        ensures given { IfOk result (λ seat. (seat ≡ seat_of (self.old.seats + 1) 0) × (self.new ≡ desk_of self.old.services (self.old.seats + 1))) }
+    pub fn sit(&mut self) -> Result<Seat<L, M>, RefusalNumber>
+        ensures given { IfOk result (λ seat. (seat ≡ seat_of (self.old.seats + 1) 0 0) × (self.new ≡ desk_of self.old.services (self.old.seats + 1))) }
         ensures full { IfErr result (λ number. (number ≡ SeatsFull) × (self.old.seats ≡ most_seats) × (self.new ≡ self.old)) }
     {
         if self.given >= 128 {
             return Err(RefusalNumber::SeatsFull);
         }
-        let share = self.seats_left.split_off(1, 0);
+        let entries = self.entries.part(0);
+        let cuts = self.cuts.part(0);
         self.given += 1;
-        Ok(Seat::new(self.given, share))
+        Ok(Seat::new(self.given, entries, cuts))
     }
 
     /// The service of a name. Of two of one name the first is found. It takes no memory.
     pub fn find(&self, name: &str) -> Option<ServiceId>
-        ensures found { result ≡ position (λ called. bytes_eq called name.now) self.now.services }
+        ensures found { result ≡ position (λ service. bytes_eq service.name name.now) self.now.services }
         ensures held { IfSome result (λ service. IsServiceOf self.now service) }
     {
         match place_of(&self.services, name) {
@@ -127,7 +142,7 @@ impl<L: Ledger, M: Ledger> Desk<L, M> {
 }
 
 /// Where the first service of a name stands.
-fn place_of<M: Ledger>(services: &[Service<M>], name: &str) -> Option<usize>
+fn place_of<L: Ledger, M: Ledger + Offered>(services: &[Service<L, M>], name: &str) -> Option<usize>
     ensures { result ≡ position (λ service. bytes_eq (string_bytes service.name) name.now) services.now }
 {
     services
@@ -135,24 +150,56 @@ fn place_of<M: Ledger>(services: &[Service<M>], name: &str) -> Option<usize>
         .position(|service| service.name.as_str() == name)
 }
 
-/// A book for each service, behind its lock.
-fn behind_locks<M: Ledger>(
+/// What lies under the lock of a service that opens: its book, with all tokens.
+fn opened<L: Ledger, M: Ledger + Offered>(
     alloc: Global,
-    left: &mut Share<M>,
-    services: Vec<(String, Config, Verified)>,
-) -> Result<Vec<Service<M>>, AllocError>
-    requires parts { vec_len services < left.old.parts }
-    requires amount { left.old.amount ≡ 0 }
-    ensures names { IfOk result (λ opened. map (λ service. string_bytes service.name) opened.items ≡ map (λ service. string_bytes service.0) services.items) }
-    ensures parts { IfOk result (λ opened. left.new.parts + vec_len opened ≡ left.old.parts) }
-    ensures amount { IfOk result (λ opened. left.new.amount ≡ 0) }
+    entries: &mut Tokens<L>,
+    cuts: &mut Tokens<M>,
+    config: Config,
+    program: Verified,
+) -> Result<Kept<L, M>, AllocError>
+    requires entry_parts { 1 ≤ entries.old.left.parts }
+    requires no_entry { entries.old.left.amount ≡ 0 }
+    requires cut_parts { 1 ≤ cuts.old.left.parts }
+    requires no_cut { cuts.old.left.amount ≡ 0 }
+    requires of_service { IsOfOne M.services 0 (history_of (first_opening config program) []) }
+    ensures entry_parts { IfOk result (λ kept. entries.new.left.parts + 1 ≡ entries.old.left.parts) }
+    ensures no_entry { IfOk result (λ kept. entries.new.left.amount ≡ 0) }
+    ensures entries { IfOk result (λ kept. entries.new.book.total ≡ entries.old.book.total + most_numbers) }
+    ensures cut_parts { IfOk result (λ kept. cuts.new.left.parts + 1 ≡ cuts.old.left.parts) }
+    ensures no_cut { IfOk result (λ kept. cuts.new.left.amount ≡ 0) }
+    ensures cuts { IfOk result (λ kept. cuts.new.book.total ≡ cuts.old.book.total + most_cuts) }
 {
-    let mut opened = Vec::new(alloc);
+    let book = Book::open(alloc, config, program)?;
+    let entries = entries.part(MOST_NUMBERS);
+    let cuts = cuts.part(MOST_CUTS);
+    Ok(Kept::new(book, entries, cuts))
+}
+
+/// What lies behind the lock of each service.
+fn behind_locks<L: Ledger, M: Ledger + Offered>(
+    alloc: Global,
+    entries: &mut Tokens<L>,
+    cuts: &mut Tokens<M>,
+    services: Vec<(String, Config, Verified)>,
+) -> Result<Vec<Service<L, M>>, AllocError>
+    requires entry_parts { vec_len services < entries.old.left.parts }
+    requires no_entry { entries.old.left.amount ≡ 0 }
+    requires cut_parts { vec_len services < cuts.old.left.parts }
+    requires no_cut { cuts.old.left.amount ≡ 0 }
+    requires offered { M.services ≡ map service_of services.items }
+    ensures names { IfOk result (λ opened. map (λ service. string_bytes service.name) opened.items ≡ map (λ service. string_bytes service.0) services.items) }
+    ensures entry_parts { IfOk result (λ opened. entries.new.left.parts + vec_len opened ≡ entries.old.left.parts) }
+    ensures no_entry { IfOk result (λ opened. entries.new.left.amount ≡ 0) }
+    ensures entries { IfOk result (λ opened. entries.new.book.total ≡ entries.old.book.total + vec_len opened * most_numbers) }
+    ensures cut_parts { IfOk result (λ opened. cuts.new.left.parts + vec_len opened ≡ cuts.old.left.parts) }
+    ensures no_cut { IfOk result (λ opened. cuts.new.left.amount ≡ 0) }
+    ensures cuts { IfOk result (λ opened. cuts.new.book.total ≡ cuts.old.book.total + vec_len opened * most_cuts) }
+{
+    let mut behind = Vec::new(alloc);
     for (name, config, program) in services {
-        let book = Book::open(alloc, config, program)?;
-        let counted = left.split_off(1, 0);
-        let kept = Mutex::new(Kept::new(book, counted));
-        opened.push(Service { name, kept })?;
+        let kept = Mutex::new(opened(alloc, entries, cuts, config, program)?);
+        behind.push(Service { name, kept })?;
     }
-    Ok(opened)
+    Ok(behind)
 }

@@ -6,10 +6,13 @@ mod calls;
 mod closing;
 mod desks;
 mod kept;
+mod offered;
 mod reports;
 mod seats;
+mod tokens;
 
 pub use closing::Unclosed;
 pub use desks::{Desk, ServiceId};
+pub use offered::Offered;
 pub use reports::Gate;
 pub use seats::Seat;

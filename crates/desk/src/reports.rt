@@ -5,6 +5,7 @@ ghost use Rattle.desk.specs.Seats.{IsCounted};
 ghost use Rattle.desk.specs.AfterSome.{IsReported};
 
 use crate::desks::{Desk, ServiceId};
+use crate::offered::Offered;
 use crate::seats::Seat;
 use book::{Event, Reply};
 use bpf_run::judge;
@@ -19,14 +20,14 @@ pub trait Gate {
     fn between(&self, ticket: u64);
 }
 
-impl<L: Ledger, M: Ledger> Desk<L, M> {
+impl<L: Ledger, M: Ledger + Offered> Desk<L, M> {
     /// Judges the outcome of a call by its ticket's classifier, and ends the ticket. The look at the ticket
     /// and the finish hold the service's lock, each for itself; while the outcome is judged no lock is held.
     /// A look that is refused makes no entry.
     pub fn report<R: Wait, G: Gate>(
         &self,
         rt: &R,
-        seat: &mut Seat<L>,
+        seat: &mut Seat<L, M>,
         service: ServiceId,
         moment: u64,
         ticket: u64,
@@ -35,7 +36,7 @@ impl<L: Ledger, M: Ledger> Desk<L, M> {
     ) -> Reply
         requires held { IsServiceOf self.now service }
         requires room { seat.old.count < 2 ^ 64 - 8 }
-        ensures reported { IsReported seat.old moment ticket outcome result seat.new }
+        ensures reported { IsReported self.now.services seat.old moment ticket outcome result seat.new }
         ensures counted { IsCounted seat.old.count result seat.new.count }
     {
         match self.look(rt, service, ticket) {

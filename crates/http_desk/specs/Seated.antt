@@ -1,15 +1,16 @@
 -- What contracts see of an answerer with a seat at a desk.
 use Rattle.std.specs.Prelude.{ℕ, List, Bool, position, bytes_eq, is_some}
 use Rattle.desk.specs.Seats.{SeatData}
+use Rattle.desk.specs.Services.{ServiceData}
 
--- the names of the desk's services, and the seat
+-- the desk's services, and the seat
 pub record SeatedData : Type 0 where
-  pub services : List (List ℕ)
+  pub services : List ServiceData
   pub seat : SeatData
 
-abbrev pub seated : List (List ℕ) → SeatData → SeatedData
+abbrev pub seated : List ServiceData → SeatData → SeatedData
 seated services seat = record { services = services; seat = seat }
 
 -- there is a service of this name
-abbrev pub holds_at : List (List ℕ) → List ℕ → Bool
-holds_at services name = is_some (position (λ called. bytes_eq called name) services)
+abbrev pub holds_at : List ServiceData → List ℕ → Bool
+holds_at services name = is_some (position (λ service. bytes_eq service.name name) services)

@@ -5,7 +5,7 @@ ghost use Rattle.http_desk.specs.Seated.{seated, holds_at};
 
 use crate::asking::entries;
 use book::{Reply, State};
-use desk::{Desk, Gate, Seat, ServiceId};
+use desk::{Desk, Gate, Offered, Seat, ServiceId};
 use http_front::Answerer;
 use refusals::RefusalNumber;
 use service::{Report, Response};
@@ -29,17 +29,17 @@ impl Gate for OpenGate {
     fn between(&self, _ticket: u64) {}
 }
 
-/// Answers for the services of a desk, by one seat. Contracts see the names of the services and the seat.
+/// Answers for the services of a desk, by one seat. Contracts see the services and the seat.
 #[derive(Drop)]
-pub struct SeatedAnswerer<'a, L: Ledger, M: Ledger, G: Gate, R: Wait> {
+pub struct SeatedAnswerer<'a, L: Ledger, M: Ledger + Offered, G: Gate, R: Wait> {
     rt: &'a R,
     alloc: Global,
     desk: &'a Desk<L, M>,
-    seat: Seat<L>,
+    seat: Seat<L, M>,
     gate: &'a G,
 }
 
-impl<'a, L: Ledger, M: Ledger, G: Gate, R: Wait> Model for SeatedAnswerer<'a, L, M, G, R> {
+impl<'a, L: Ledger, M: Ledger + Offered, G: Gate, R: Wait> Model for SeatedAnswerer<'a, L, M, G, R> {
     ghost use Rattle.http_desk.specs.Seated.{SeatedData, seated};
 
     ghost Value = { SeatedData };
@@ -47,9 +47,9 @@ impl<'a, L: Ledger, M: Ledger, G: Gate, R: Wait> Model for SeatedAnswerer<'a, L,
     ghost view = { λ answerer. seated answerer.desk.now.services answerer.seat };
 }
 
-impl<'a, L: Ledger, M: Ledger, G: Gate, R: Wait> SeatedAnswerer<'a, L, M, G, R> {
+impl<'a, L: Ledger, M: Ledger + Offered, G: Gate, R: Wait> SeatedAnswerer<'a, L, M, G, R> {
     /// Answers for a desk, by this seat of it. A report passes the gate in its middle.
-    pub fn new(rt: &'a R, alloc: Global, desk: &'a Desk<L, M>, seat: Seat<L>, gate: &'a G) -> Self
+    pub fn new(rt: &'a R, alloc: Global, desk: &'a Desk<L, M>, seat: Seat<L, M>, gate: &'a G) -> Self
         ensures { result ≡ seated desk.now.services seat }
     {
         SeatedAnswerer {
@@ -62,7 +62,7 @@ impl<'a, L: Ledger, M: Ledger, G: Gate, R: Wait> SeatedAnswerer<'a, L, M, G, R> 
     }
 
     /// Gives the seat back.
-    pub fn into_seat(self) -> Seat<L>
+    pub fn into_seat(self) -> Seat<L, M>
         ensures { result ≡ self.entry.seat }
     {
         let SeatedAnswerer { seat, .. } = self;
@@ -89,7 +89,7 @@ impl<'a, L: Ledger, M: Ledger, G: Gate, R: Wait> SeatedAnswerer<'a, L, M, G, R> 
     }
 }
 
-impl<'a, L: Ledger, M: Ledger, G: Gate, R: Wait> Answerer for SeatedAnswerer<'a, L, M, G, R> {
+impl<'a, L: Ledger, M: Ledger + Offered, G: Gate, R: Wait> Answerer for SeatedAnswerer<'a, L, M, G, R> {
     ghost holds = { λ answerer service. holds_at answerer.services service };
 
     ghost answers = { λ old service moment wanted response new. IsAskedAt old moment wanted response new };

@@ -1,11 +1,12 @@
 //! What the tests serve: a service under the name `pay`, messages with their answers, and readers and
 //! writers that fail.
-ghost use Rattle.std.specs.Prelude.{◌≡◌};
+ghost use Rattle.std.specs.Prelude.{◌≡◌, map};
+ghost use Rattle.desk.specs.Services.{service_of};
 
 use crate::checks::same_at;
 use book::{Book, Config, ConfigParts};
 use counted_io::Counted;
-use desk::Desk;
+use desk::{Desk, Offered};
 use http_front::{Books, Clock, Ended, NamedBook, serve};
 use std::alloc::{AllocError, Global};
 use std::io;
@@ -13,7 +14,7 @@ use std::io::{Read, Write};
 use std::process::Abort;
 use std::sync::Wait;
 use std::sync::ledger::{Blank, Ledger};
-use verifier::default_classifier;
+use verifier::{Verified, default_classifier};
 
 /// The answer to row after row is at this moment.
 pub(crate) const MOMENT: u64 = 7;
@@ -43,24 +44,34 @@ pub(crate) fn pay(rt: &impl Abort, alloc: Global) -> Books {
     Books::new(alloc, services)
 }
 
-/// A new desk with such a service.
-pub(crate) fn open_desk<L: Ledger, M: Ledger, R: Abort>(
-    rt: &R,
+/// The same service, as a desk opens it.
+pub(crate) fn pay_to_open(
+    rt: &impl Abort,
     alloc: Global,
-    seats: Blank,
-    entries: Blank,
-) -> Result<Desk<L, M>, AllocError>
-    requires seats_name { seats.name ≡ L.name }
-    requires seats_parts { (seats.parts ≡ L.parts) × (L.parts ≡ 129) }
-    requires entries_name { entries.name ≡ M.name }
-    requires entries_parts { (entries.parts ≡ M.parts) × (M.parts ≡ 65) }
-{
+) -> Result<Vec<(String, Config, Verified)>, AllocError> {
     let config = Config::new(ConfigParts::DEFAULT).expect(rt, "the defaults");
     let classifier = default_classifier(alloc).expect(rt, "the default classifier");
     let mut services = Vec::new(alloc);
     services.push((String::from_str(alloc, "pay")?, config, classifier))?;
+    Ok(services)
+}
+
+/// A new desk with these services.
+pub(crate) fn open_desk<L: Ledger, M: Ledger + Offered, R: Abort>(
+    rt: &R,
+    alloc: Global,
+    entries: Blank,
+    cuts: Blank,
+    services: Vec<(String, Config, Verified)>,
+) -> Result<Desk<L, M>, AllocError>
+    requires entries_name { entries.name ≡ L.name }
+    requires entries_parts { (entries.parts ≡ L.parts) × (L.parts ≡ 193) }
+    requires cuts_name { cuts.name ≡ M.name }
+    requires cuts_parts { (cuts.parts ≡ M.parts) × (M.parts ≡ 193) }
+    requires offered { M.services ≡ map service_of services.items }
+{
     assert!(rt; services.len() <= 64);
-    Desk::<L, M>::open(alloc, seats, entries, services)
+    Desk::<L, M>::open(alloc, entries, cuts, services)
 }
 
 /// How many entries the journal of the first service has.

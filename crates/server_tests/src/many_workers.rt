@@ -53,8 +53,11 @@ impl<'a> Write for Teller<'a> {
     }
 }
 
+/// How the server ended, the number of the last entry in its one journal, and what its workers' seats count.
+type Ended = (Status, u64, Vec<u64>);
+
 /// Serves by the file, and tells the port.
-fn serve<R>(rt: &R, alloc: Global, port: &AtomicU64) -> Status
+fn serve<R>(rt: &R, alloc: Global, port: &AtomicU64) -> Ended
 where
     R: Threads + Wait + Sync + time::Clock + Net<Listener = TcpListener, Stream = TcpStream>,
 {
@@ -64,7 +67,12 @@ where
     });
     let mut err = Counted::new(Vec::new(alloc));
     let mut clock = SystemClock::new(rt);
-    serve_file(rt, alloc, FILE.as_bytes(), &mut out, &mut err, &mut clock)
+    let end = serve_file(rt, alloc, FILE.as_bytes(), &mut out, &mut err, &mut clock);
+    let last = match end.books.as_slice() {
+        [book] => book.last_number(),
+        _ => 0,
+    };
+    (end.status, last, end.counts)
 }
 
 /// The address that is told. It is waited for ten seconds at most.
@@ -129,7 +137,7 @@ where
 }
 
 /// A server in a thread of its own, and its clients.
-fn serve_and_call<R>(rt: &R, alloc: Global) -> (Status, io::Result<Answers>)
+fn serve_and_call<R>(rt: &R, alloc: Global) -> (Ended, io::Result<Answers>)
 where
     R: Threads + Wait + Sync + time::Clock + Net<Listener = TcpListener, Stream = TcpStream>,
 {
@@ -172,8 +180,11 @@ fn have_seats(rt: &impl Abort, journal: &[u8], seats: &[&str]) {
 #[test]
 fn four_workers_serve_at_once(rt: HostRuntime) -> Result<(), Fail> {
     let alloc = rt.alloc();
-    let (status, answers) = serve_and_call(&rt, alloc);
+    let ((status, last, counts), answers) = serve_and_call(&rt, alloc);
     same(&rt, status, Status::Done);
+    // The desk was closed with all its seats: its journal has the four entries that they count.
+    same(&rt, last, 4);
+    same(&rt, counts.as_slice(), [1, 1, 1, 1].as_slice());
     let Answers { acquired, journal } = answers?;
     are_in_order(&rt, alloc, &acquired);
     have_seats(

@@ -1,11 +1,12 @@
 //! Two workers of a pool, each with a seat of one desk. The report of one connection is held between its look
 //! and its finish until the report of the other connection was answered.
-ghost use Rattle.std.specs.Prelude.{◌≡◌};
+ghost use Rattle.std.specs.Prelude.{◌≡◌, map};
+ghost use Rattle.desk.specs.Services.{service_of};
 
 use crate::checks::{is_true, is_true_at, same};
-use crate::fixtures::open_desk;
-use book::{Entry, Event, Reply};
-use desk::{Desk, Gate, Seat};
+use crate::fixtures::{open_desk, pay_to_open};
+use book::{Config, Entry, Event, Reply};
+use desk::{Desk, Gate, Offered, Seat};
 use http_desk::SeatedAnswerer;
 use http_front::Clock;
 use http_pool::{Worker, pool};
@@ -20,6 +21,7 @@ use std::sync::ledger::{Blank, Ledger};
 use std::test::Fail;
 use std::thread::Threads;
 use std::{io, thread, time};
+use verifier::Verified;
 
 /// How often a thread looks whether another one is there yet.
 const MOST_TURNS: u32 = 1_000_000;
@@ -133,10 +135,10 @@ fn is_recorded(rt: &impl Abort, alloc: Global, stream: &TcpStream) -> Result<(),
 }
 
 /// A seat gets the ticket of this number.
-fn get_ticket<L: Ledger, M: Ledger, R: Wait + Abort>(
+fn get_ticket<L: Ledger, M: Ledger + Offered, R: Wait + Abort>(
     rt: &R,
     desk: &Desk<L, M>,
-    seat: &mut Seat<L>,
+    seat: &mut Seat<L, M>,
     number: u64,
 ) {
     let service = desk.find("pay").expect(rt, "a service of the desk");
@@ -149,11 +151,11 @@ fn get_ticket<L: Ledger, M: Ledger, R: Wait + Abort>(
 }
 
 /// A worker for each of two seats, in their order.
-fn workers<'a, L: Ledger, M: Ledger, R: Wait>(
+fn workers<'a, L: Ledger, M: Ledger + Offered, R: Wait>(
     rt: &'a R,
     alloc: Global,
     desk: &'a Desk<L, M>,
-    seats: (Seat<L>, Seat<L>),
+    seats: (Seat<L, M>, Seat<L, M>),
     gate: &'a OvertakingGate,
 ) -> Result<Vec<Worker<SeatedAnswerer<'a, L, M, OvertakingGate, R>, Readings<'a>>>, AllocError> {
     let mut workers = Vec::new(alloc);
@@ -177,10 +179,10 @@ fn finishes(entry: &Entry, ticket: u64) -> bool {
 }
 
 /// Both reports were entered, in the order of their finishes.
-fn are_in_order<L: Ledger, M: Ledger, R: Wait + Abort>(
+fn are_in_order<L: Ledger, M: Ledger + Offered, R: Wait + Abort>(
     rt: &R,
     desk: &Desk<L, M>,
-    seat: &mut Seat<L>,
+    seat: &mut Seat<L, M>,
 ) {
     let service = desk.find("pay").expect(rt, "a service of the desk");
     let page = desk.page(rt, seat, service, 8, 3);
@@ -193,20 +195,27 @@ fn are_in_order<L: Ledger, M: Ledger, R: Wait + Abort>(
 /// Lets two connections report to one service.
 fn reports_of_two_workers<
     L: Ledger + Send + Sync,
-    M: Ledger + Send + Sync,
+    M: Ledger + Offered + Send + Sync,
     R: Threads
         + Wait
         + time::Clock
         + Sync
         + Abort
         + Net<Listener = TcpListener, Stream = TcpStream>,
->(rt: &R, alloc: Global, seats: Blank, entries: Blank) -> Result<(), Fail>
-    requires seats_name { seats.name ≡ L.name }
-    requires seats_parts { (seats.parts ≡ L.parts) × (L.parts ≡ 129) }
-    requires entries_name { entries.name ≡ M.name }
-    requires entries_parts { (entries.parts ≡ M.parts) × (M.parts ≡ 65) }
+>(
+    rt: &R,
+    alloc: Global,
+    entries: Blank,
+    cuts: Blank,
+    services: Vec<(String, Config, Verified)>,
+) -> Result<(), Fail>
+    requires entries_name { entries.name ≡ L.name }
+    requires entries_parts { (entries.parts ≡ L.parts) × (L.parts ≡ 193) }
+    requires cuts_name { cuts.name ≡ M.name }
+    requires cuts_parts { (cuts.parts ≡ M.parts) × (M.parts ≡ 193) }
+    requires offered { M.services ≡ map service_of services.items }
 {
-    let mut desk = open_desk::<L, M, R>(rt, alloc, seats, entries)?;
+    let mut desk = open_desk::<L, M, R>(rt, alloc, entries, cuts, services)?;
     let mut caller = desk.sit().expect(rt, "a seat for the tickets");
     let first = desk.sit().expect(rt, "a first worker's seat");
     let second = desk.sit().expect(rt, "a second worker's seat");
@@ -230,10 +239,12 @@ fn reports_of_two_workers<
 
 #[test]
 fn a_held_report_is_overtaken(rt: HostRuntime) -> Result<(), Fail> {
+    let services = pay_to_open(&rt, rt.alloc())?;
     reports_of_two_workers::<Brand, Brand, HostRuntime>(
         &rt,
         rt.alloc(),
-        Blank::new(129),
-        Blank::new(65),
+        Blank::new(193),
+        Blank::new(193),
+        services,
     )
 }

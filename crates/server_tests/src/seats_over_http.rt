@@ -1,9 +1,12 @@
 //! Two seats of a desk, which ask over HTTP in memory.
-ghost use Rattle.std.specs.Prelude.{◌≡◌};
+ghost use Rattle.std.specs.Prelude.{◌≡◌, map};
+ghost use Rattle.desk.specs.Services.{service_of};
 
 use crate::checks::{is_true, is_true_at, same};
-use crate::fixtures::{Still, open_desk};
+use crate::fixtures::{Still, open_desk, pay_to_open};
+use book::Config;
 use counted_io::Counted;
+use desk::Offered;
 use http_desk::{OpenGate, SeatedAnswerer};
 use http_front::{Answerer, serve};
 use std::alloc::Global;
@@ -12,6 +15,7 @@ use std::process::Abort;
 use std::sync::Wait;
 use std::sync::ledger::{Blank, Ledger};
 use std::test::Fail;
+use verifier::Verified;
 
 const ACQUIRE: &str = "POST /v1/services/pay/acquire HTTP/1.1\r\n\r\n";
 
@@ -53,18 +57,20 @@ fn answers<A: Answerer, R: Wait + Abort>(
 }
 
 /// What two seats ask a service, and are answered.
-fn asked_by_two<L: Ledger, M: Ledger, R: Wait + Abort>(
+fn asked_by_two<L: Ledger, M: Ledger + Offered, R: Wait + Abort>(
     rt: &R,
     alloc: Global,
-    seats: Blank,
     entries: Blank,
+    cuts: Blank,
+    services: Vec<(String, Config, Verified)>,
 ) -> Result<(), Fail>
-    requires seats_name { seats.name ≡ L.name }
-    requires seats_parts { (seats.parts ≡ L.parts) × (L.parts ≡ 129) }
-    requires entries_name { entries.name ≡ M.name }
-    requires entries_parts { (entries.parts ≡ M.parts) × (M.parts ≡ 65) }
+    requires entries_name { entries.name ≡ L.name }
+    requires entries_parts { (entries.parts ≡ L.parts) × (L.parts ≡ 193) }
+    requires cuts_name { cuts.name ≡ M.name }
+    requires cuts_parts { (cuts.parts ≡ M.parts) × (M.parts ≡ 193) }
+    requires offered { M.services ≡ map service_of services.items }
 {
-    let mut desk = open_desk::<L, M, R>(rt, alloc, seats, entries)?;
+    let mut desk = open_desk::<L, M, R>(rt, alloc, entries, cuts, services)?;
     let first = desk.sit().expect(rt, "a first seat");
     let second = desk.sit().expect(rt, "a second seat");
     let gate = OpenGate;
@@ -86,5 +92,12 @@ fn asked_by_two<L: Ledger, M: Ledger, R: Wait + Abort>(
 
 #[test]
 fn seats_ask_over_http(rt: HostRuntime) -> Result<(), Fail> {
-    asked_by_two::<Brand, Brand, HostRuntime>(&rt, rt.alloc(), Blank::new(129), Blank::new(65))
+    let services = pay_to_open(&rt, rt.alloc())?;
+    asked_by_two::<Brand, Brand, HostRuntime>(
+        &rt,
+        rt.alloc(),
+        Blank::new(193),
+        Blank::new(193),
+        services,
+    )
 }

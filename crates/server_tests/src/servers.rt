@@ -4,7 +4,7 @@ use crate::checks::{is_true_at, same};
 use crate::fixtures::{ACQUIRE, ACQUIRED};
 use counted_io::Counted;
 use http_front::Clock;
-use sidecar_server::{Status, SystemClock, serve_file, serve_path};
+use sidecar_server::{ServerEnd, Status, SystemClock, serve_file, serve_path};
 use std::alloc::Global;
 use std::io::{Read, Write};
 use std::net::{Net, Shutdown, TcpListener, TcpStream};
@@ -83,6 +83,14 @@ fn are_answered(rt: &impl Abort, alloc: Global, streams: &[TcpStream]) -> io::Re
     Ok(())
 }
 
+/// The number of the last entry in a server's one journal.
+fn last_number(end: &ServerEnd) -> u64 {
+    match end.books.as_slice() {
+        [book] => book.last_number(),
+        _ => 0,
+    }
+}
+
 #[test]
 fn connections_are_served(rt: HostRuntime) -> Result<(), Fail> {
     let file =
@@ -96,8 +104,10 @@ fn connections_are_served(rt: HostRuntime) -> Result<(), Fail> {
     });
     let mut clock = SystemClock::new(&rt);
     let mut err = Counted::new(Vec::new(alloc));
-    let status = serve_file(&rt, alloc, file.as_bytes(), &mut out, &mut err, &mut clock);
-    same(&rt, (status, status.code()), (Status::Done, 0));
+    let end = serve_file(&rt, alloc, file.as_bytes(), &mut out, &mut err, &mut clock);
+    same(&rt, (end.status, end.status.code()), (Status::Done, 0));
+    // The book comes back as its connections left it.
+    same(&rt, (last_number(&end), end.counts.len()), (1, 0));
     same(&rt, err.inner().len(), 0);
     are_answered(&rt, alloc, &out.inner().streams)?;
     Ok(())
@@ -111,8 +121,8 @@ where
     let mut out = Counted::new(Vec::new(alloc));
     let mut err = Counted::new(Vec::new(alloc));
     let mut clock = SystemClock::new(rt);
-    let status = serve_file(rt, alloc, file.as_bytes(), &mut out, &mut err, &mut clock);
-    (status, out.into_inner(), err.into_inner())
+    let end = serve_file(rt, alloc, file.as_bytes(), &mut out, &mut err, &mut clock);
+    (end.status, out.into_inner(), err.into_inner())
 }
 
 #[test]
@@ -143,7 +153,7 @@ fn files_that_cannot_be_used_are_refused(rt: HostRuntime) -> Result<(), Fail> {
     let mut out = Counted::new(Vec::new(rt.alloc()));
     let mut err = Counted::new(Vec::new(rt.alloc()));
     let mut clock = SystemClock::new(&rt);
-    let status = serve_path(
+    let end = serve_path(
         &rt,
         rt.alloc(),
         "no such file",
@@ -151,7 +161,7 @@ fn files_that_cannot_be_used_are_refused(rt: HostRuntime) -> Result<(), Fail> {
         &mut err,
         &mut clock,
     );
-    same(&rt, status.code(), 1);
+    same(&rt, end.status.code(), 1);
     same(
         &rt,
         out.inner().as_slice(),

@@ -1,10 +1,11 @@
 //! What the tests of a desk share: a desk, callers with a seat of it, and how they ask.
-ghost use Rattle.std.specs.Prelude.{◌≡◌};
+ghost use Rattle.std.specs.Prelude.{◌≡◌, map};
+ghost use Rattle.desk.specs.Services.{service_of};
 
 use crate::checks::same;
 use crate::wishes::{Wish, program, response, shared_program};
 use book::{Book, Config, ConfigParts, Reply};
-use desk::{Desk, Gate, Seat, Unclosed};
+use desk::{Desk, Gate, Offered, Seat, Unclosed};
 use refusals::RefusalNumber;
 use std::alloc::Global;
 use std::marker::Brand;
@@ -23,17 +24,17 @@ impl Gate for OpenGate {
 
 /// One seat, at its desk: what a thread takes along.
 #[derive(Drop)]
-pub(crate) struct Caller<'a, L: Ledger, M: Ledger> {
+pub(crate) struct Caller<'a, L: Ledger, M: Ledger + Offered> {
     pub desk: &'a Desk<L, M>,
-    pub seat: Seat<L>,
+    pub seat: Seat<L, M>,
 }
 
 /// Asks the service of a name; a report passes the gate.
-pub(crate) fn ask<L: Ledger, M: Ledger, R: Wait + Abort, G: Gate>(
+pub(crate) fn ask<L: Ledger, M: Ledger + Offered, R: Wait + Abort, G: Gate>(
     rt: &R,
     alloc: Global,
     desk: &Desk<L, M>,
-    seat: &mut Seat<L>,
+    seat: &mut Seat<L, M>,
     name: &str,
     moment: u64,
     wish: Wish,
@@ -61,7 +62,7 @@ pub(crate) fn ask<L: Ledger, M: Ledger, R: Wait + Abort, G: Gate>(
 
 /// What a test plays at a desk.
 pub(crate) trait Play {
-    fn play<L: Ledger + Send + Sync, M: Ledger + Send + Sync, R: Threads + Wait + Abort + Sync>(
+    fn play<L: Ledger + Send + Sync, M: Ledger + Offered + Send + Sync, R: Threads + Wait + Abort + Sync>(
         &self,
         rt: &R,
         alloc: Global,
@@ -80,35 +81,44 @@ pub(crate) fn play_at_a_desk<P: Play, R: Threads + Wait + Abort + Sync>(
     play_at::<Brand, Brand, P, R>(
         rt,
         alloc,
-        Blank::new(129),
-        Blank::new(65),
-        names,
-        parts,
+        Blank::new(193),
+        Blank::new(193),
+        services(rt, alloc, names, parts),
         play,
     );
 }
 
-/// A new desk with services of these names, of one configuration, with the default classifier.
-pub(crate) fn open_desk<L: Ledger, M: Ledger, R: Abort>(
+/// A new desk with these services.
+pub(crate) fn open_desk<L: Ledger, M: Ledger + Offered, R: Abort>(
     rt: &R,
     alloc: Global,
-    seats: Blank,
     entries: Blank,
+    cuts: Blank,
+    services: Vec<(String, Config, Verified)>,
+) -> Desk<L, M>
+    requires entries_name { entries.name ≡ L.name }
+    requires entries_parts { (entries.parts ≡ L.parts) × (L.parts ≡ 193) }
+    requires cuts_name { cuts.name ≡ M.name }
+    requires cuts_parts { (cuts.parts ≡ M.parts) × (M.parts ≡ 193) }
+    requires offered { M.services ≡ map service_of services.items }
+{
+    assert!(rt; services.len() <= 64);
+    Desk::<L, M>::open(alloc, entries, cuts, services).expect(rt, "ample memory")
+}
+
+/// Services of these names, of one configuration, with the default classifier.
+pub(crate) fn services(
+    rt: &impl Abort,
+    alloc: Global,
     names: &[&str],
     parts: ConfigParts,
-) -> Desk<L, M>
-    requires seats_name { seats.name ≡ L.name }
-    requires seats_parts { (seats.parts ≡ L.parts) × (L.parts ≡ 129) }
-    requires entries_name { entries.name ≡ M.name }
-    requires entries_parts { (entries.parts ≡ M.parts) × (M.parts ≡ 65) }
-{
+) -> Vec<(String, Config, Verified)> {
     let mut services = Vec::new(alloc);
     for name in names {
         let service = service(rt, alloc, name, parts);
         services.push(service).expect(rt, "ample memory");
     }
-    assert!(rt; services.len() <= 64);
-    Desk::<L, M>::open(alloc, seats, entries, services).expect(rt, "ample memory")
+    services
 }
 
 /// A service of this name and configuration, with the default classifier.
@@ -124,11 +134,11 @@ fn service(
 }
 
 /// Closes a desk, for which all its seats are given.
-pub(crate) fn close<L: Ledger, M: Ledger>(
+pub(crate) fn close<L: Ledger, M: Ledger + Offered>(
     rt: &impl Abort,
     alloc: Global,
     desk: Desk<L, M>,
-    seats: Vec<Seat<L>>,
+    seats: Vec<Seat<L, M>>,
 ) -> Vec<Book> {
     desk.close(alloc, seats)
         .ok()
@@ -136,11 +146,11 @@ pub(crate) fn close<L: Ledger, M: Ledger>(
 }
 
 /// Tries to close a desk for which a seat is missing.
-fn stays_open<L: Ledger, M: Ledger>(
+fn stays_open<L: Ledger, M: Ledger + Offered>(
     rt: &impl Abort,
     alloc: Global,
     desk: Desk<L, M>,
-    seats: Vec<Seat<L>>,
+    seats: Vec<Seat<L, M>>,
 ) -> Unclosed<L, M> {
     desk.close(alloc, seats)
         .err()
@@ -148,11 +158,11 @@ fn stays_open<L: Ledger, M: Ledger>(
 }
 
 /// Closes a desk without the last of its four seats, which is refused, and then with it.
-pub(crate) fn close_late<L: Ledger, M: Ledger>(
+pub(crate) fn close_late<L: Ledger, M: Ledger + Offered>(
     rt: &impl Abort,
     alloc: Global,
     desk: Desk<L, M>,
-    seats: Vec<Seat<L>>,
+    seats: Vec<Seat<L, M>>,
 ) -> Vec<Book> {
     let mut seats = seats;
     let last = seats.pop().expect(rt, "a last seat");
@@ -169,15 +179,23 @@ pub(crate) fn close_late<L: Ledger, M: Ledger>(
 
 fn play_at<
     L: Ledger + Send + Sync,
-    M: Ledger + Send + Sync,
+    M: Ledger + Offered + Send + Sync,
     P: Play,
     R: Threads + Wait + Abort + Sync,
->(rt: &R, alloc: Global, seats: Blank, entries: Blank, names: &[&str], parts: ConfigParts, play: &P)
-    requires seats_name { seats.name ≡ L.name }
-    requires seats_parts { (seats.parts ≡ L.parts) × (L.parts ≡ 129) }
-    requires entries_name { entries.name ≡ M.name }
-    requires entries_parts { (entries.parts ≡ M.parts) × (M.parts ≡ 65) }
+>(
+    rt: &R,
+    alloc: Global,
+    entries: Blank,
+    cuts: Blank,
+    services: Vec<(String, Config, Verified)>,
+    play: &P,
+)
+    requires entries_name { entries.name ≡ L.name }
+    requires entries_parts { (entries.parts ≡ L.parts) × (L.parts ≡ 193) }
+    requires cuts_name { cuts.name ≡ M.name }
+    requires cuts_parts { (cuts.parts ≡ M.parts) × (M.parts ≡ 193) }
+    requires offered { M.services ≡ map service_of services.items }
 {
-    let desk = open_desk::<L, M, R>(rt, alloc, seats, entries, names, parts);
+    let desk = open_desk::<L, M, R>(rt, alloc, entries, cuts, services);
     play.play(rt, alloc, desk);
 }

@@ -8,7 +8,7 @@ use crate::wishes::{
 };
 use book::{ConfigParts, Entry, Fate, Reading, Reply, SlidingWindowType, State};
 use bpf_run::Verdict;
-use desk::{Desk, Seat};
+use desk::{Desk, Offered, Seat};
 use refusals::RefusalNumber;
 use std::alloc::Global;
 use std::process::Abort;
@@ -45,7 +45,7 @@ struct Rows<'a> {
 }
 
 impl Play for Rows<'_> {
-    fn play<L: Ledger + Send + Sync, M: Ledger + Send + Sync, R: Threads + Wait + Abort + Sync>(
+    fn play<L: Ledger + Send + Sync, M: Ledger + Offered + Send + Sync, R: Threads + Wait + Abort + Sync>(
         &self,
         rt: &R,
         alloc: Global,
@@ -59,11 +59,11 @@ impl Play for Rows<'_> {
 }
 
 /// Goes through the steps. Moments are raised to the greatest one of an entry.
-fn go_through<L: Ledger, M: Ledger, R: Wait + Abort>(
+fn go_through<L: Ledger, M: Ledger + Offered, R: Wait + Abort>(
     rt: &R,
     alloc: Global,
     desk: &Desk<L, M>,
-    seat: &mut Seat<L>,
+    seat: &mut Seat<L, M>,
     steps: &[Step<'_>],
 ) {
     let mut greatest = 0;
@@ -86,11 +86,11 @@ fn go_through<L: Ledger, M: Ledger, R: Wait + Abort>(
 }
 
 /// Makes a call, which is answered so. Where that makes an entry, it is the last one, at the raised moment.
-fn is_entered<L: Ledger, M: Ledger, R: Wait + Abort>(
+fn is_entered<L: Ledger, M: Ledger + Offered, R: Wait + Abort>(
     rt: &R,
     alloc: Global,
     desk: &Desk<L, M>,
-    seat: &mut Seat<L>,
+    seat: &mut Seat<L, M>,
     called: Called,
     raised: u64,
 ) -> bool {
@@ -106,10 +106,10 @@ fn is_entered<L: Ledger, M: Ledger, R: Wait + Abort>(
 }
 
 /// Reads where the service stands.
-fn read<L: Ledger, M: Ledger, R: Wait + Abort>(
+fn read<L: Ledger, M: Ledger + Offered, R: Wait + Abort>(
     rt: &R,
     desk: &Desk<L, M>,
-    seat: &mut Seat<L>,
+    seat: &mut Seat<L, M>,
     moment: u64,
 ) -> Reading {
     let service = desk.find("pay").expect(rt, "a service of the desk");
@@ -117,10 +117,10 @@ fn read<L: Ledger, M: Ledger, R: Wait + Abort>(
 }
 
 /// The page from the last number on is the entry of this call.
-fn check_last<L: Ledger, M: Ledger, R: Wait + Abort>(
+fn check_last<L: Ledger, M: Ledger + Offered, R: Wait + Abort>(
     rt: &R,
     desk: &Desk<L, M>,
-    seat: &mut Seat<L>,
+    seat: &mut Seat<L, M>,
     wish: Wish,
     moment: u64,
     reply: Reply,
@@ -139,10 +139,10 @@ fn check_last<L: Ledger, M: Ledger, R: Wait + Abort>(
 }
 
 /// Tries to make a cut, which is refused.
-fn cut_fails<L: Ledger, M: Ledger, R: Wait + Abort>(
+fn cut_fails<L: Ledger, M: Ledger + Offered, R: Wait + Abort>(
     rt: &R,
     desk: &Desk<L, M>,
-    seat: &mut Seat<L>,
+    seat: &mut Seat<L, M>,
     wanted: RefusalNumber,
 ) {
     let service = desk.find("pay").expect(rt, "a service of the desk");
@@ -151,10 +151,10 @@ fn cut_fails<L: Ledger, M: Ledger, R: Wait + Abort>(
 }
 
 /// Makes a cut, which hands out the entries of these calls.
-fn cut_has<L: Ledger, M: Ledger, R: Wait + Abort>(
+fn cut_has<L: Ledger, M: Ledger + Offered, R: Wait + Abort>(
     rt: &R,
     desk: &Desk<L, M>,
-    seat: &mut Seat<L>,
+    seat: &mut Seat<L, M>,
     calls: &[Called],
 ) {
     let service = desk.find("pay").expect(rt, "a service of the desk");
@@ -163,10 +163,10 @@ fn cut_has<L: Ledger, M: Ledger, R: Wait + Abort>(
 }
 
 /// Makes a roll up to a number, which hands out the entries of these calls.
-fn roll_has<L: Ledger, M: Ledger, R: Wait + Abort>(
+fn roll_has<L: Ledger, M: Ledger + Offered, R: Wait + Abort>(
     rt: &R,
     desk: &Desk<L, M>,
-    seat: &mut Seat<L>,
+    seat: &mut Seat<L, M>,
     last: u64,
     calls: &[Called],
 ) {
@@ -191,11 +191,11 @@ fn are_entries(rt: &impl Abort, entries: &[Entry], seat: u32, calls: &[Called]) 
 }
 
 /// Closes the desk: the book of its only service has as many entries as the seat's calls have made.
-fn close_alone<L: Ledger, M: Ledger>(
+fn close_alone<L: Ledger, M: Ledger + Offered>(
     rt: &impl Abort,
     alloc: Global,
     desk: Desk<L, M>,
-    seat: Seat<L>,
+    seat: Seat<L, M>,
 ) {
     let count = seat.count();
     let seats = Vec::from_array(alloc, [seat]).expect(rt, "ample memory");

@@ -1,11 +1,12 @@
 //! Reports that other calls overtake between their look and their finish.
-ghost use Rattle.std.specs.Prelude.{◌≡◌};
+ghost use Rattle.std.specs.Prelude.{◌≡◌, map};
+ghost use Rattle.desk.specs.Services.{service_of};
 
 use crate::checks::{is_true, same};
-use crate::desk_fixtures::{Caller, OpenGate, ask, close, open_desk};
+use crate::desk_fixtures::{Caller, OpenGate, ask, close, open_desk, services};
 use crate::wishes::{Answer, FAILURE, SPENT, Wish, is_entry, reply};
-use book::{Book, ConfigParts, Reply, State};
-use desk::{Desk, Gate, Seat};
+use book::{Book, Config, ConfigParts, Reply, State};
+use desk::{Desk, Gate, Offered, Seat};
 use std::alloc::{AllocError, Global};
 use std::marker::Brand;
 use std::process::Abort;
@@ -14,6 +15,7 @@ use std::sync::atomic::{AtomicU64, Ordering};
 use std::sync::ledger::{Blank, Ledger};
 use std::thread;
 use std::thread::Threads;
+use verifier::Verified;
 
 /// How often a thread looks whether another one is there yet.
 const MOST_TURNS: u32 = 1_000_000;
@@ -76,19 +78,19 @@ impl Gate for HoldingGate {
 
 /// A seat, with what its call was replied.
 #[derive(Drop)]
-struct Answered<L: Ledger> {
-    seat: Seat<L>,
+struct Answered<L: Ledger, M: Ledger> {
+    seat: Seat<L, M>,
     reply: Reply,
 }
 
 /// Makes a call once the gate was reached, and says that it was answered.
-fn overtake<L: Ledger, M: Ledger, R: Wait + Abort>(
+fn overtake<L: Ledger, M: Ledger + Offered, R: Wait + Abort>(
     rt: &R,
     alloc: Global,
     caller: Caller<'_, L, M>,
     gate: &HoldingGate,
     wish: Wish,
-) -> Answered<L> {
+) -> Answered<L, M> {
     let Caller { desk, mut seat } = caller;
     gate.reached.wait();
     let reply = ask(rt, alloc, desk, &mut seat, "pay", 2, wish, &OpenGate);
@@ -97,13 +99,13 @@ fn overtake<L: Ledger, M: Ledger, R: Wait + Abort>(
 }
 
 /// Makes a report that passes a gate.
-fn report_at<L: Ledger, M: Ledger, R: Wait + Abort, G: Gate>(
+fn report_at<L: Ledger, M: Ledger + Offered, R: Wait + Abort, G: Gate>(
     rt: &R,
     alloc: Global,
     caller: Caller<'_, L, M>,
     gate: &G,
     wish: Wish,
-) -> Answered<L> {
+) -> Answered<L, M> {
     let Caller { desk, mut seat } = caller;
     let reply = ask(rt, alloc, desk, &mut seat, "pay", 1, wish, gate);
     Answered { seat, reply }
@@ -111,17 +113,17 @@ fn report_at<L: Ledger, M: Ledger, R: Wait + Abort, G: Gate>(
 
 /// What two threads were answered, and their seats.
 #[derive(Drop)]
-struct Both<L: Ledger> {
+struct Both<L: Ledger, M: Ledger> {
     first: Reply,
     second: Reply,
-    seats: (Seat<L>, Seat<L>),
+    seats: (Seat<L, M>, Seat<L, M>),
 }
 
 /// Two callers, in the order of their seats.
-fn callers<'a, L: Ledger, M: Ledger>(
+fn callers<'a, L: Ledger, M: Ledger + Offered>(
     alloc: Global,
     desk: &'a Desk<L, M>,
-    seats: (Seat<L>, Seat<L>),
+    seats: (Seat<L, M>, Seat<L, M>),
 ) -> Result<Vec<Caller<'a, L, M>>, AllocError> {
     let mut callers = Vec::new(alloc);
     callers.push(Caller {
@@ -136,7 +138,7 @@ fn callers<'a, L: Ledger, M: Ledger>(
 }
 
 /// What both were answered, of the answers in the order of their seats.
-fn in_order<L: Ledger>(rt: &impl Abort, answered: Vec<Answered<L>>) -> Both<L> {
+fn in_order<L: Ledger, M: Ledger>(rt: &impl Abort, answered: Vec<Answered<L, M>>) -> Both<L, M> {
     let mut answered = answered;
     let Answered {
         seat: second_seat,
@@ -157,15 +159,15 @@ fn in_order<L: Ledger>(rt: &impl Abort, answered: Vec<Answered<L>>) -> Both<L> {
 /// its own.
 fn hold_and_overtake<
     L: Ledger + Send + Sync,
-    M: Ledger + Send + Sync,
+    M: Ledger + Offered + Send + Sync,
     R: Threads + Wait + Abort + Sync,
 >(
     rt: &R,
     alloc: Global,
     desk: &Desk<L, M>,
-    seats: (Seat<L>, Seat<L>),
+    seats: (Seat<L, M>, Seat<L, M>),
     wishes: (Wish, Wish),
-) -> Result<Both<L>, AllocError> {
+) -> Result<Both<L, M>, AllocError> {
     let gate = HoldingGate::new();
     let callers = callers(alloc, desk, seats)?;
     let answered = thread::map_vec(
@@ -184,11 +186,11 @@ fn hold_and_overtake<
 }
 
 /// Closes a desk of one service and two seats.
-fn close_both<L: Ledger, M: Ledger>(
+fn close_both<L: Ledger, M: Ledger + Offered>(
     rt: &impl Abort,
     alloc: Global,
     desk: Desk<L, M>,
-    seats: (Seat<L>, Seat<L>),
+    seats: (Seat<L, M>, Seat<L, M>),
 ) -> Book {
     let count = seats.0.count().saturating_add(seats.1.count());
     let seats = Vec::from_array(alloc, [seats.0, seats.1]).expect(rt, "ample memory");
@@ -222,11 +224,11 @@ fn check_entries(rt: &impl Abort, book: &Book, entries: &[Entered]) {
 }
 
 /// A seat gets the ticket of this number.
-fn get_ticket<L: Ledger, M: Ledger, R: Wait + Abort>(
+fn get_ticket<L: Ledger, M: Ledger + Offered, R: Wait + Abort>(
     rt: &R,
     alloc: Global,
     desk: &Desk<L, M>,
-    seat: &mut Seat<L>,
+    seat: &mut Seat<L, M>,
     number: u64,
 ) {
     let found = ask(rt, alloc, desk, seat, "pay", 0, Wish::Acquire, &OpenGate);
@@ -238,12 +240,12 @@ fn get_ticket<L: Ledger, M: Ledger, R: Wait + Abort>(
 }
 
 /// Two seats, of which the first has ticket 1, and the second ticket 2 where there are two tickets.
-fn two_seats<L: Ledger, M: Ledger, R: Wait + Abort>(
+fn two_seats<L: Ledger, M: Ledger + Offered, R: Wait + Abort>(
     rt: &R,
     alloc: Global,
     desk: &mut Desk<L, M>,
     has_two_tickets: bool,
-) -> (Seat<L>, Seat<L>) {
+) -> (Seat<L, M>, Seat<L, M>) {
     let mut first = desk.sit().expect(rt, "a first seat");
     let mut second = desk.sit().expect(rt, "a second seat");
     get_ticket(rt, alloc, desk, &mut first, 1);
@@ -267,15 +269,23 @@ struct Overtaking<'a> {
 /// Holds a report at a new desk, and compares what comes of that.
 fn check_overtaking<
     L: Ledger + Send + Sync,
-    M: Ledger + Send + Sync,
+    M: Ledger + Offered + Send + Sync,
     R: Threads + Wait + Abort + Sync,
->(rt: &R, alloc: Global, given: Blank, entries: Blank, wanted: &Overtaking<'_>)
-    requires seats_name { given.name ≡ L.name }
-    requires seats_parts { (given.parts ≡ L.parts) × (L.parts ≡ 129) }
-    requires entries_name { entries.name ≡ M.name }
-    requires entries_parts { (entries.parts ≡ M.parts) × (M.parts ≡ 65) }
+>(
+    rt: &R,
+    alloc: Global,
+    entries: Blank,
+    cuts: Blank,
+    services: Vec<(String, Config, Verified)>,
+    wanted: &Overtaking<'_>,
+)
+    requires entries_name { entries.name ≡ L.name }
+    requires entries_parts { (entries.parts ≡ L.parts) × (L.parts ≡ 193) }
+    requires cuts_name { cuts.name ≡ M.name }
+    requires cuts_parts { (cuts.parts ≡ M.parts) × (M.parts ≡ 193) }
+    requires offered { M.services ≡ map service_of services.items }
 {
-    let mut desk = open_desk::<L, M, R>(rt, alloc, given, entries, &["pay"], ConfigParts::DEFAULT);
+    let mut desk = open_desk::<L, M, R>(rt, alloc, entries, cuts, services);
     let seats = two_seats(rt, alloc, &mut desk, wanted.has_two_tickets);
     let both = hold_and_overtake(rt, alloc, &desk, seats, wanted.wishes).expect(rt, "ample memory");
     same(rt, both.first, reply(wanted.answers.0));
@@ -288,13 +298,20 @@ fn check_overtaking<
 /// The report of ticket 2 is answered while that of ticket 1 is held: outcomes are judged under no lock.
 fn overtake_another_ticket<
     L: Ledger + Send + Sync,
-    M: Ledger + Send + Sync,
+    M: Ledger + Offered + Send + Sync,
     R: Threads + Wait + Abort + Sync,
->(rt: &R, alloc: Global, given: Blank, entries: Blank)
-    requires seats_name { given.name ≡ L.name }
-    requires seats_parts { (given.parts ≡ L.parts) × (L.parts ≡ 129) }
-    requires entries_name { entries.name ≡ M.name }
-    requires entries_parts { (entries.parts ≡ M.parts) × (M.parts ≡ 65) }
+>(
+    rt: &R,
+    alloc: Global,
+    entries: Blank,
+    cuts: Blank,
+    services: Vec<(String, Config, Verified)>,
+)
+    requires entries_name { entries.name ≡ L.name }
+    requires entries_parts { (entries.parts ≡ L.parts) × (L.parts ≡ 193) }
+    requires cuts_name { cuts.name ≡ M.name }
+    requires cuts_parts { (cuts.parts ≡ M.parts) × (M.parts ≡ 193) }
+    requires offered { M.services ≡ map service_of services.items }
 {
     let wanted = Overtaking {
         has_two_tickets: true,
@@ -306,7 +323,7 @@ fn overtake_another_ticket<
         ],
         last_number: 4,
     };
-    check_overtaking::<L, M, R>(rt, alloc, given, entries, &wanted);
+    check_overtaking::<L, M, R>(rt, alloc, entries, cuts, services, &wanted);
 }
 
 #[test]
@@ -314,21 +331,29 @@ fn reports_overtake_one_another(rt: HostRuntime) {
     overtake_another_ticket::<Brand, Brand, HostRuntime>(
         &rt,
         rt.alloc(),
-        Blank::new(129),
-        Blank::new(65),
+        Blank::new(193),
+        Blank::new(193),
+        services(&rt, rt.alloc(), &["pay"], ConfigParts::DEFAULT),
     );
 }
 
 /// Two reports of ticket 1: the one that finishes first is recorded.
 fn overtake_the_same_ticket<
     L: Ledger + Send + Sync,
-    M: Ledger + Send + Sync,
+    M: Ledger + Offered + Send + Sync,
     R: Threads + Wait + Abort + Sync,
->(rt: &R, alloc: Global, given: Blank, entries: Blank)
-    requires seats_name { given.name ≡ L.name }
-    requires seats_parts { (given.parts ≡ L.parts) × (L.parts ≡ 129) }
-    requires entries_name { entries.name ≡ M.name }
-    requires entries_parts { (entries.parts ≡ M.parts) × (M.parts ≡ 65) }
+>(
+    rt: &R,
+    alloc: Global,
+    entries: Blank,
+    cuts: Blank,
+    services: Vec<(String, Config, Verified)>,
+)
+    requires entries_name { entries.name ≡ L.name }
+    requires entries_parts { (entries.parts ≡ L.parts) × (L.parts ≡ 193) }
+    requires cuts_name { cuts.name ≡ M.name }
+    requires cuts_parts { (cuts.parts ≡ M.parts) × (M.parts ≡ 193) }
+    requires offered { M.services ≡ map service_of services.items }
 {
     let wanted = Overtaking {
         has_two_tickets: false,
@@ -340,7 +365,7 @@ fn overtake_the_same_ticket<
         ],
         last_number: 3,
     };
-    check_overtaking::<L, M, R>(rt, alloc, given, entries, &wanted);
+    check_overtaking::<L, M, R>(rt, alloc, entries, cuts, services, &wanted);
 }
 
 #[test]
@@ -348,21 +373,29 @@ fn one_of_two_reports_is_recorded(rt: HostRuntime) {
     overtake_the_same_ticket::<Brand, Brand, HostRuntime>(
         &rt,
         rt.alloc(),
-        Blank::new(129),
-        Blank::new(65),
+        Blank::new(193),
+        Blank::new(193),
+        services(&rt, rt.alloc(), &["pay"], ConfigParts::DEFAULT),
     );
 }
 
 /// A program is installed while a report is held: the report is judged by its ticket's version.
 fn overtake_by_a_program<
     L: Ledger + Send + Sync,
-    M: Ledger + Send + Sync,
+    M: Ledger + Offered + Send + Sync,
     R: Threads + Wait + Abort + Sync,
->(rt: &R, alloc: Global, given: Blank, entries: Blank)
-    requires seats_name { given.name ≡ L.name }
-    requires seats_parts { (given.parts ≡ L.parts) × (L.parts ≡ 129) }
-    requires entries_name { entries.name ≡ M.name }
-    requires entries_parts { (entries.parts ≡ M.parts) × (M.parts ≡ 65) }
+>(
+    rt: &R,
+    alloc: Global,
+    entries: Blank,
+    cuts: Blank,
+    services: Vec<(String, Config, Verified)>,
+)
+    requires entries_name { entries.name ≡ L.name }
+    requires entries_parts { (entries.parts ≡ L.parts) × (L.parts ≡ 193) }
+    requires cuts_name { cuts.name ≡ M.name }
+    requires cuts_parts { (cuts.parts ≡ M.parts) × (M.parts ≡ 193) }
+    requires offered { M.services ≡ map service_of services.items }
 {
     let wanted = Overtaking {
         has_two_tickets: false,
@@ -381,7 +414,7 @@ fn overtake_by_a_program<
         ],
         last_number: 3,
     };
-    check_overtaking::<L, M, R>(rt, alloc, given, entries, &wanted);
+    check_overtaking::<L, M, R>(rt, alloc, entries, cuts, services, &wanted);
 }
 
 #[test]
@@ -389,18 +422,19 @@ fn tickets_keep_their_version_while_another_is_installed(rt: HostRuntime) {
     overtake_by_a_program::<Brand, Brand, HostRuntime>(
         &rt,
         rt.alloc(),
-        Blank::new(129),
-        Blank::new(65),
+        Blank::new(193),
+        Blank::new(193),
+        services(&rt, rt.alloc(), &["pay"], ConfigParts::DEFAULT),
     );
 }
 
 /// Two threads report ticket 1.
-fn report_twice<L: Ledger + Send + Sync, M: Ledger + Send + Sync, R: Threads + Wait + Abort + Sync>(
+fn report_twice<L: Ledger + Send + Sync, M: Ledger + Offered + Send + Sync, R: Threads + Wait + Abort + Sync>(
     rt: &R,
     alloc: Global,
     desk: &Desk<L, M>,
-    seats: (Seat<L>, Seat<L>),
-) -> Result<Both<L>, AllocError> {
+    seats: (Seat<L, M>, Seat<L, M>),
+) -> Result<Both<L, M>, AllocError> {
     let callers = callers(alloc, desk, seats)?;
     let answered = thread::map_vec(
         rt,
@@ -417,18 +451,20 @@ fn has_one_winner(first: Reply, second: Reply) -> bool {
 }
 
 /// Two reports of ticket 1 with nothing between them.
-fn race<L: Ledger + Send + Sync, M: Ledger + Send + Sync, R: Threads + Wait + Abort + Sync>(
+fn race<L: Ledger + Send + Sync, M: Ledger + Offered + Send + Sync, R: Threads + Wait + Abort + Sync>(
     rt: &R,
     alloc: Global,
-    given: Blank,
     entries: Blank,
+    cuts: Blank,
+    services: Vec<(String, Config, Verified)>,
 )
-    requires seats_name { given.name ≡ L.name }
-    requires seats_parts { (given.parts ≡ L.parts) × (L.parts ≡ 129) }
-    requires entries_name { entries.name ≡ M.name }
-    requires entries_parts { (entries.parts ≡ M.parts) × (M.parts ≡ 65) }
+    requires entries_name { entries.name ≡ L.name }
+    requires entries_parts { (entries.parts ≡ L.parts) × (L.parts ≡ 193) }
+    requires cuts_name { cuts.name ≡ M.name }
+    requires cuts_parts { (cuts.parts ≡ M.parts) × (M.parts ≡ 193) }
+    requires offered { M.services ≡ map service_of services.items }
 {
-    let mut desk = open_desk::<L, M, R>(rt, alloc, given, entries, &["pay"], ConfigParts::DEFAULT);
+    let mut desk = open_desk::<L, M, R>(rt, alloc, entries, cuts, services);
     let seats = two_seats(rt, alloc, &mut desk, false);
     let both = report_twice(rt, alloc, &desk, seats).expect(rt, "ample memory");
     is_true(rt, has_one_winner(both.first, both.second));
@@ -439,6 +475,12 @@ fn race<L: Ledger + Send + Sync, M: Ledger + Send + Sync, R: Threads + Wait + Ab
 #[test]
 fn races_have_one_winner(rt: HostRuntime) {
     for _ in 0..1000 {
-        race::<Brand, Brand, HostRuntime>(&rt, rt.alloc(), Blank::new(129), Blank::new(65));
+        race::<Brand, Brand, HostRuntime>(
+            &rt,
+            rt.alloc(),
+            Blank::new(193),
+            Blank::new(193),
+            services(&rt, rt.alloc(), &["pay"], ConfigParts::DEFAULT),
+        );
     }
 }

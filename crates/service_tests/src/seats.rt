@@ -3,7 +3,7 @@ use crate::checks::{is_true, same};
 use crate::desk_fixtures::{OpenGate, Play, ask, close, close_late, play_at_a_desk};
 use crate::wishes::Wish;
 use book::ConfigParts;
-use desk::{Desk, Seat};
+use desk::{Desk, Offered, Seat};
 use refusals::RefusalNumber;
 use std::alloc::Global;
 use std::process::Abort;
@@ -16,7 +16,7 @@ use std::thread::Threads;
 struct AllSeats;
 
 impl Play for AllSeats {
-    fn play<L: Ledger + Send + Sync, M: Ledger + Send + Sync, R: Threads + Wait + Abort + Sync>(
+    fn play<L: Ledger + Send + Sync, M: Ledger + Offered + Send + Sync, R: Threads + Wait + Abort + Sync>(
         &self,
         rt: &R,
         alloc: Global,
@@ -31,11 +31,11 @@ impl Play for AllSeats {
 }
 
 /// All seats of a new desk, in their order.
-fn take_seats<L: Ledger, M: Ledger>(
+fn take_seats<L: Ledger, M: Ledger + Offered>(
     rt: &impl Abort,
     alloc: Global,
     desk: &mut Desk<L, M>,
-) -> Vec<Seat<L>> {
+) -> Vec<Seat<L, M>> {
     let mut seats = Vec::new(alloc);
     for number in 1..=128 {
         let seat = desk.sit().expect(rt, "a seat that is left");
@@ -51,12 +51,12 @@ fn there_are_128_seats(rt: HostRuntime) {
 }
 
 /// A new seat, which makes these calls.
-fn busy_seat<L: Ledger, M: Ledger, R: Wait + Abort>(
+fn busy_seat<L: Ledger, M: Ledger + Offered, R: Wait + Abort>(
     rt: &R,
     alloc: Global,
     desk: &mut Desk<L, M>,
     calls: &[(&str, Wish)],
-) -> Seat<L> {
+) -> Seat<L, M> {
     let mut seat = desk.sit().expect(rt, "a seat that is left");
     for (name, wish) in calls {
         ask(rt, alloc, desk, &mut seat, name, 5, *wish, &OpenGate);
@@ -69,7 +69,7 @@ fn busy_seat<L: Ledger, M: Ledger, R: Wait + Abort>(
 struct FourSeats;
 
 impl Play for FourSeats {
-    fn play<L: Ledger + Send + Sync, M: Ledger + Send + Sync, R: Threads + Wait + Abort + Sync>(
+    fn play<L: Ledger + Send + Sync, M: Ledger + Offered + Send + Sync, R: Threads + Wait + Abort + Sync>(
         &self,
         rt: &R,
         alloc: Global,
@@ -85,11 +85,11 @@ impl Play for FourSeats {
 }
 
 /// Three seats that ask both services, and a last one that asks one of them.
-fn busy_seats<L: Ledger, M: Ledger, R: Wait + Abort>(
+fn busy_seats<L: Ledger, M: Ledger + Offered, R: Wait + Abort>(
     rt: &R,
     alloc: Global,
     desk: &mut Desk<L, M>,
-) -> Vec<Seat<L>> {
+) -> Vec<Seat<L, M>> {
     let mut seats = Vec::new(alloc);
     for _ in 0..3 {
         let calls = &[("pay", Wish::Acquire), ("ship", Wish::Reset)];

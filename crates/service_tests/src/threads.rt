@@ -1,12 +1,13 @@
 //! Four threads with a seat each ask two services. All their calls are counted, and each journal has them
 //! as they were made and answered.
-ghost use Rattle.std.specs.Prelude.{◌≡◌};
+ghost use Rattle.std.specs.Prelude.{◌≡◌, map};
+ghost use Rattle.desk.specs.Services.{service_of};
 
 use crate::checks::{is_true, same};
-use crate::desk_fixtures::{Caller, OpenGate, ask, close_late, open_desk};
+use crate::desk_fixtures::{Caller, OpenGate, ask, close_late, open_desk, services};
 use crate::wishes::{Wish, is_entry};
-use book::{Book, ConfigParts, Reply};
-use desk::{Desk, Seat};
+use book::{Book, Config, ConfigParts, Reply};
+use desk::{Desk, Offered, Seat};
 use std::alloc::{AllocError, Global};
 use std::marker::Brand;
 use std::process::Abort;
@@ -14,6 +15,7 @@ use std::sync::Wait;
 use std::sync::ledger::{Blank, Ledger};
 use std::thread;
 use std::thread::Threads;
+use verifier::Verified;
 
 /// A call, with its answer.
 #[derive(Clone, Copy, Drop)]
@@ -32,17 +34,17 @@ struct Calls {
 
 /// A seat, with its calls.
 #[derive(Drop)]
-struct Worked<L: Ledger> {
-    seat: Seat<L>,
+struct Worked<L: Ledger, M: Ledger> {
+    seat: Seat<L, M>,
     calls: Calls,
 }
 
 /// Makes a call.
-fn call<L: Ledger, M: Ledger, R: Wait + Abort>(
+fn call<L: Ledger, M: Ledger + Offered, R: Wait + Abort>(
     rt: &R,
     alloc: Global,
     desk: &Desk<L, M>,
-    seat: &mut Seat<L>,
+    seat: &mut Seat<L, M>,
     name: &str,
     moment: u64,
     wish: Wish,
@@ -56,11 +58,11 @@ fn call<L: Ledger, M: Ledger, R: Wait + Abort>(
 }
 
 /// So many times a ticket and its report, by moments that differ from those of other seats.
-fn make_calls<L: Ledger, M: Ledger, R: Wait + Abort>(
+fn make_calls<L: Ledger, M: Ledger + Offered, R: Wait + Abort>(
     rt: &R,
     alloc: Global,
     desk: &Desk<L, M>,
-    seat: &mut Seat<L>,
+    seat: &mut Seat<L, M>,
     name: &str,
     times: u16,
 ) -> Vec<Made> {
@@ -81,11 +83,11 @@ fn make_calls<L: Ledger, M: Ledger, R: Wait + Abort>(
 }
 
 /// What one thread does.
-fn work<L: Ledger, M: Ledger, R: Wait + Abort>(
+fn work<L: Ledger, M: Ledger + Offered, R: Wait + Abort>(
     rt: &R,
     alloc: Global,
     caller: Caller<'_, L, M>,
-) -> Worked<L> {
+) -> Worked<L, M> {
     let Caller { desk, mut seat } = caller;
     let pay = make_calls(rt, alloc, desk, &mut seat, "pay", 100);
     let ship = make_calls(rt, alloc, desk, &mut seat, "ship", 50);
@@ -94,12 +96,12 @@ fn work<L: Ledger, M: Ledger, R: Wait + Abort>(
 }
 
 /// Four threads, with what each of them did, in the order of their seats.
-fn work_at_once<L: Ledger + Send + Sync, M: Ledger + Send + Sync, R: Threads + Wait + Abort + Sync>(
+fn work_at_once<L: Ledger + Send + Sync, M: Ledger + Offered + Send + Sync, R: Threads + Wait + Abort + Sync>(
     rt: &R,
     alloc: Global,
     desk: &Desk<L, M>,
-    seats: Vec<Seat<L>>,
-) -> Result<Vec<Worked<L>>, AllocError> {
+    seats: Vec<Seat<L, M>>,
+) -> Result<Vec<Worked<L, M>>, AllocError> {
     let mut callers = Vec::new(alloc);
     for seat in seats {
         callers.push(Caller { desk, seat })?;
@@ -137,10 +139,10 @@ fn check_books(rt: &impl Abort, books: &[Book], seats: &[u32], made: &[Calls]) {
 }
 
 /// How many entries a seat made, and how many both services have.
-fn check_counts<L: Ledger, M: Ledger, R: Wait + Abort>(
+fn check_counts<L: Ledger, M: Ledger + Offered, R: Wait + Abort>(
     rt: &R,
     desk: &Desk<L, M>,
-    seat: &mut Seat<L>,
+    seat: &mut Seat<L, M>,
     services: &[(&str, u64)],
 ) {
     same(rt, seat.count(), 300);
@@ -151,11 +153,11 @@ fn check_counts<L: Ledger, M: Ledger, R: Wait + Abort>(
 }
 
 /// Four seats of a new desk.
-fn four_seats<L: Ledger, M: Ledger>(
+fn four_seats<L: Ledger, M: Ledger + Offered>(
     rt: &impl Abort,
     alloc: Global,
     desk: &mut Desk<L, M>,
-) -> Vec<Seat<L>> {
+) -> Vec<Seat<L, M>> {
     let mut seats = Vec::new(alloc);
     for _ in 0..4 {
         let seat = desk.sit().expect(rt, "a seat that is left");
@@ -165,11 +167,11 @@ fn four_seats<L: Ledger, M: Ledger>(
 }
 
 /// The seats, and the calls of each.
-fn apart<L: Ledger>(
+fn apart<L: Ledger, M: Ledger>(
     rt: &impl Abort,
     alloc: Global,
-    worked: Vec<Worked<L>>,
-) -> (Vec<Seat<L>>, Vec<Calls>) {
+    worked: Vec<Worked<L, M>>,
+) -> (Vec<Seat<L, M>>, Vec<Calls>) {
     let mut seats = Vec::new(alloc);
     let mut made = Vec::new(alloc);
     for Worked { seat, calls } in worked {
@@ -182,22 +184,22 @@ fn apart<L: Ledger>(
 /// Four threads, and a desk that is closed once all four seats are back.
 fn call_from_four_threads<
     L: Ledger + Send + Sync,
-    M: Ledger + Send + Sync,
+    M: Ledger + Offered + Send + Sync,
     R: Threads + Wait + Abort + Sync,
->(rt: &R, alloc: Global, given: Blank, entries: Blank)
-    requires seats_name { given.name ≡ L.name }
-    requires seats_parts { (given.parts ≡ L.parts) × (L.parts ≡ 129) }
-    requires entries_name { entries.name ≡ M.name }
-    requires entries_parts { (entries.parts ≡ M.parts) × (M.parts ≡ 65) }
+>(
+    rt: &R,
+    alloc: Global,
+    entries: Blank,
+    cuts: Blank,
+    services: Vec<(String, Config, Verified)>,
+)
+    requires entries_name { entries.name ≡ L.name }
+    requires entries_parts { (entries.parts ≡ L.parts) × (L.parts ≡ 193) }
+    requires cuts_name { cuts.name ≡ M.name }
+    requires cuts_parts { (cuts.parts ≡ M.parts) × (M.parts ≡ 193) }
+    requires offered { M.services ≡ map service_of services.items }
 {
-    let mut desk = open_desk::<L, M, R>(
-        rt,
-        alloc,
-        given,
-        entries,
-        &["pay", "ship"],
-        ConfigParts::DEFAULT,
-    );
+    let mut desk = open_desk::<L, M, R>(rt, alloc, entries, cuts, services);
     let seats = four_seats(rt, alloc, &mut desk);
     let worked = work_at_once(rt, alloc, &desk, seats).expect(rt, "ample memory");
     let (mut seats, made) = apart(rt, alloc, worked);
@@ -212,7 +214,8 @@ fn four_threads_make_all_entries(rt: HostRuntime) {
     call_from_four_threads::<Brand, Brand, HostRuntime>(
         &rt,
         rt.alloc(),
-        Blank::new(129),
-        Blank::new(65),
+        Blank::new(193),
+        Blank::new(193),
+        services(&rt, rt.alloc(), &["pay", "ship"], ConfigParts::DEFAULT),
     );
 }

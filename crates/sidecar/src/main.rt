@@ -41,8 +41,8 @@ fn main(rt: HostRuntime) -> ExitCode {
         let mut out = Counted::new(rt.stdout());
         let mut err = Counted::new(rt.stderr());
         let mut clock = SystemClock::new(&rt);
-        let status = serve_path(&rt, rt.alloc(), path, &mut out, &mut err, &mut clock);
-        return ExitCode::from(status.code());
+        let end = serve_path(&rt, rt.alloc(), path, &mut out, &mut err, &mut clock);
+        return ExitCode::from(end.status.code());
     }
     match run_command(&rt, &words) {
         Ok(code) => ExitCode::from(code),

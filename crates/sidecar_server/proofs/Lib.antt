@@ -1,4 +1,5 @@
 pub mod Openings
+pub mod Returning
 pub mod Seating
 pub mod Silence
 pub mod Endings

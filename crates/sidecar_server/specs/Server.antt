@@ -7,6 +7,8 @@ use Rattle.counted_io.specs.Counting.{one_more, AppendsPart}
 use Rattle.refusals.specs.declared.RefusalNumber.{RefusalNumber}
 use Rattle.refusals.specs.declared.RefusalNumber.TheVariants as refusal
 use Rattle.refusals.specs.Texts.{refusal_text}
+use Rattle.service_profile.specs.Events.{History}
+use Rattle.http_pool.specs.Workers.{ends}
 use Rattle.service_file.specs.declared.settings.Settings.{Settings}
 use Rattle.service_file.specs.Settled.{IsRead}
 use Rattle.sidecar_server.specs.declared.serving.Status.{Status}
@@ -47,6 +49,11 @@ IsServing status.Done = ⊤
 IsServing status.ListenerFailed = ⊤
 IsServing other = ⊥
 
+-- a server that is done was to serve a number of connections
+abbrev pub IsOver : Status → ℕ → Type 0
+IsOver status.Done connections = ends connections
+IsOver other connections = ⊤
+
 -- a write failed, or memory ran out
 abbrev pub IsFailed : Status → Type 0
 IsFailed status.Done = ⊥
@@ -81,10 +88,10 @@ IsEnded status.ListenerFailed before after = IsListening before after
 IsEnded (status.Refused number) before after = (number ≡ refusal.Listen) × Appends before after (refused_line number)
 IsEnded other before after = ⊤
 
--- the services of a file's text opened, the line was printed, and connections were served
-abbrev pub HasServedFile : {C : Type 0} → (C → ℕ → C → Type 0) → List ℕ → C → C → Option (List ℕ) → Option (List ℕ) → Type 0
-HasServedFile ticks text clock later before after =
-    (settings : Settings) × IsRead text (Some settings) × HasServedBy ticks settings clock later × IsListening before after
+-- the services of a file's text opened, the line was printed, and connections were served, which left these books and seats' counts. Serving ends by itself only where the file says after how many connections
+abbrev pub HasServedFile : {C : Type 0} → (C → ℕ → C → Type 0) → List ℕ → Status → C → C → Option (List ℕ) → Option (List ℕ) → List History → List ℕ → Type 0
+HasServedFile ticks text ended clock later before after books counts =
+    (settings : Settings) × IsRead text (Some settings) × HasServedBy ticks settings clock later books counts × IsOver ended settings.connections × IsListening before after
 
 abbrev pub code_of : Status → ℕ
 code_of status.Done = 0

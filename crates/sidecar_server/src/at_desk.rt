@@ -1,20 +1,19 @@
 //! Serving by many workers, each with a seat of one desk.
-ghost use Rattle.std.specs.Prelude.{◌≡◌, ◌≤◌, ◌<◌, List, map, vec_len, IfOk, OnOk};
-ghost use Rattle.http_pool.specs.declared.workers.Worker.{Worker as WorkerData};
-ghost use Rattle.http_pool.specs.Workers.{HaveWorked, most_workers};
+ghost use Rattle.std.specs.Prelude.{◌≡◌, ◌≤◌, ◌<◌, None, map, vec_len, IfOk};
+ghost use Rattle.http_pool.specs.Workers.{HaveWorked, HaveEnded, most_workers};
 ghost use Rattle.service_file.specs.Settled.{HasCounts};
-ghost use Rattle.sidecar_server.specs.declared.serving.Status.TheVariants as Status;
-ghost use Rattle.sidecar_server.specs.Server.{IsEnded, IsCause, IsServing, IsQuiet, IsNotice};
-ghost use Rattle.sidecar_server.specs.Served.{opening_of, seats_of, workers_with, HasServedAtDesk};
+ghost use Rattle.sidecar_server.specs.Server.{IsEnded, IsCause, IsServing, IsOver, IsQuiet, IsNotice};
+ghost use Rattle.sidecar_server.specs.Served.{opening_of, seats_of, services_of, workers_with, seats_with, counts_of, HaveNoFailure, AreClosed, HasServedAtDesk};
 
 use crate::notices::{notify_failure, notify_workers};
-use crate::serving::{Status, listen};
-use book::Config;
+use crate::serving::{ServerEnd, Status, listen};
+use book::{Book, Config};
 use counted_io::Counted;
-use desk::{Desk, Seat};
+use desk::{Desk, Offered, Seat};
 use http_desk::{OpenGate, SeatedAnswerer};
 use http_front::{Answerer, Clock};
 use http_pool::{ListenerFailed, Worker, pool};
+use refusals::RefusalNumber;
 use service_file::{ServiceSettings, Settings};
 use std::alloc::{AllocError, Global};
 use std::io::Write;
@@ -40,15 +39,16 @@ fn opened_by(
 }
 
 /// So many seats of a desk that has given none.
-fn seats<L: Ledger, M: Ledger>(
+fn seats<L: Ledger, M: Ledger + Offered>(
     alloc: Global,
     desk: &mut Desk<L, M>,
     count: u64,
-) -> Result<Vec<Seat<L>>, AllocError>
+) -> Result<Vec<Seat<L, M>>, AllocError>
     requires fresh { desk.old.seats ≡ 0 }
     requires few { count ≤ 64 }
     ensures given { IfOk result (λ seats. seats.items ≡ seats_of 1 count) }
     ensures services { desk.new.services ≡ desk.old.services }
+    ensures all { IfOk result (λ seats. desk.new.seats ≡ count) }
 {
     let mut seats = Vec::new(alloc);
     for _ in 0..count {
@@ -61,11 +61,11 @@ fn seats<L: Ledger, M: Ledger>(
 }
 
 /// Workers, each with a seat and a clock of its own.
-fn workers<'a, L: Ledger, M: Ledger, R: Wait, C: Clock + Copy>(
+fn workers<'a, L: Ledger, M: Ledger + Offered, R: Wait, C: Clock + Copy>(
     rt: &'a R,
     alloc: Global,
     desk: &'a Desk<L, M>,
-    seats: Vec<Seat<L>>,
+    seats: Vec<Seat<L, M>>,
     gate: &'a OpenGate,
     clock: C,
 ) -> Result<Vec<Worker<SeatedAnswerer<'a, L, M, OpenGate, R>, C>>, AllocError>
@@ -83,13 +83,8 @@ fn workers<'a, L: Ledger, M: Ledger, R: Wait, C: Clock + Copy>(
     Ok(workers)
 }
 
-/// The first failure that a worker met.
-fn failure_of<A, C>(workers: &[Worker<A, C>]) -> Option<ListenerFailed> {
-    workers.iter().find_map(|worker| worker.failure)
-}
-
-/// Serves the connections of a listener by workers, and returns the failure of the listener that ended them, if one
-/// did. Where the system runs fewer workers at once, it says so first. The error is want of memory.
+/// Serves the connections of a listener by workers, who come back. Where the system runs fewer workers at once, it
+/// says so first. The error is want of memory.
 fn serve_by_pool<
     R: Threads + Wait + time::Clock + Sync,
     A: Answerer + Send + Drop,
@@ -102,22 +97,81 @@ fn serve_by_pool<
     connections: u64,
     workers: Vec<Worker<A, C>>,
     err: &mut Counted<E>,
-) -> Result<Option<ListenerFailed>, AllocError>
+) -> Result<Vec<Worker<A, C>>, AllocError>
     requires some { 0 < vec_len workers }
     requires few { vec_len workers ≤ most_workers }
-    ensures worked { OnOk result ((later : List (WorkerData A C)) × HaveWorked A.holds A.answers C.ticks workers.items later) }
+    ensures worked { IfOk result (λ later. HaveWorked A.holds A.answers C.ticks workers.items later.items) }
+    ensures ended { IfOk result (λ later. HaveEnded connections later.items) }
     ensures notice { IsNotice (E.contents err.old.inner) (E.contents err.new.inner) }
 {
     notify_workers(rt, alloc, workers.len() as u64, err)?;
-    let workers = pool(rt, alloc, listener, connections, workers)?;
-    Ok(failure_of(&workers))
+    pool(rt, alloc, listener, connections, workers)
 }
 
-/// Opens a desk, listens and serves by as many workers as the settings say.
+/// What workers bring back: their seats, in the workers' order, how many entries each seat has counted, and the first
+/// failure of the listener that one of them met.
+#[derive(Drop)]
+struct Back<L: Ledger, M: Ledger> {
+    seats: Vec<Seat<L, M>>,
+    counts: Vec<u64>,
+    failure: Option<ListenerFailed>,
+}
+
+/// Takes what workers bring back. The error is want of memory.
+fn taken_back<'a, L: Ledger, M: Ledger + Offered, R: Wait, C: Clock + Copy>(
+    alloc: Global,
+    workers: Vec<Worker<SeatedAnswerer<'a, L, M, OpenGate, R>, C>>,
+) -> Result<Back<L, M>, AllocError>
+    ensures seats { IfOk result (λ back. back.seats.items ≡ seats_with workers.entry.items) }
+    ensures counts { IfOk result (λ back. back.counts.items ≡ counts_of (seats_with workers.entry.items)) }
+    ensures failure { IfOk result (λ back. back.failure ≡ None → HaveNoFailure workers.entry.items) }
+{
+    let mut seats = Vec::new(alloc);
+    let mut counts = Vec::new(alloc);
+    let mut failure = None;
+    for worker in workers {
+        let Worker {
+            answerer,
+            failure: met,
+            ..
+        } = worker;
+        let seat = answerer.into_seat();
+        counts.push(seat.count())?;
+        seats.push(seat)?;
+        failure = failure.or(met);
+    }
+    Ok(Back {
+        seats,
+        counts,
+        failure,
+    })
+}
+
+/// Closes a desk to which all its seats came back, and hands out its books. The error is want of memory.
+fn closed<L: Ledger, M: Ledger + Offered>(
+    alloc: Global,
+    desk: Desk<L, M>,
+    seats: Vec<Seat<L, M>>,
+) -> Result<Vec<Book>, AllocError>
+    requires all { vec_len seats ≡ desk.seats }
+    ensures { IfOk result (λ books. AreClosed desk.services books.items seats.items) }
+{
+    match desk.close(alloc, seats) {
+        Ok(books) => Ok(books),
+        Err(unclosed) => {
+            if unclosed.number == RefusalNumber::SeatsMissing {
+                unreachable!()
+            }
+            Err(AllocError)
+        }
+    }
+}
+
+/// Opens a desk, listens and serves by as many workers as the settings say. Once they have ended it closes the desk.
 #[tactic(auto, using(crate::proofs::Silence::quiet_kept))]
 pub(crate) fn serve_at_desk<
     L: Ledger + Send + Sync,
-    M: Ledger + Send + Sync,
+    M: Ledger + Offered + Send + Sync,
     R: Threads + Wait + time::Clock + Sync + Net<Listener = TcpListener, Stream = TcpStream>,
     O: Write,
     E: Write,
@@ -125,46 +179,68 @@ pub(crate) fn serve_at_desk<
 >(
     rt: &R,
     alloc: Global,
-    seat_parts: Blank,
     entry_parts: Blank,
+    cut_parts: Blank,
     settings: Settings,
     out: &mut Counted<O>,
     err: &mut Counted<E>,
     clock: C,
-) -> Status
-    requires seats_name { seat_parts.name ≡ L.name }
-    requires seats_parts { (seat_parts.parts ≡ L.parts) × (L.parts ≡ 129) }
-    requires entries_name { entry_parts.name ≡ M.name }
-    requires entries_parts { (entry_parts.parts ≡ M.parts) × (M.parts ≡ 65) }
+) -> ServerEnd
+    requires entries_name { entry_parts.name ≡ L.name }
+    requires entries_parts { (entry_parts.parts ≡ L.parts) × (L.parts ≡ 193) }
+    requires cuts_name { cut_parts.name ≡ M.name }
+    requires cuts_parts { (cut_parts.parts ≡ M.parts) × (M.parts ≡ 193) }
+    requires offered { M.services ≡ services_of settings.services.items }
     requires counts { HasCounts settings }
-    ensures served { IsServing result → HasServedAtDesk C.ticks settings clock }
-    ensures ended { IsEnded result (O.contents out.old.inner) (O.contents out.new.inner) }
-    ensures quiet { IsQuiet result (E.contents err.old.inner) (E.contents err.new.inner) }
-    ensures cause { IsCause result out.old.failures out.new.failures }
+    ensures served { IsServing result.status → HasServedAtDesk C.ticks settings clock result.books.items result.counts.items }
+    ensures over { IsOver result.status settings.connections }
+    ensures ended { IsEnded result.status (O.contents out.old.inner) (O.contents out.new.inner) }
+    ensures quiet { IsQuiet result.status (E.contents err.old.inner) (E.contents err.new.inner) }
+    ensures cause { IsCause result.status out.old.failures out.new.failures }
 {
     let Ok(opened) = opened_by(alloc, settings.services) else {
-        return Status::OutOfMemory;
+        return ServerEnd::without(alloc, Status::OutOfMemory);
     };
-    let Ok(mut desk) = Desk::<L, M>::open(alloc, seat_parts, entry_parts, opened) else {
-        return Status::OutOfMemory;
+    let Ok(mut desk) = Desk::<L, M>::open(alloc, entry_parts, cut_parts, opened) else {
+        return ServerEnd::without(alloc, Status::OutOfMemory);
     };
     let Ok(seats) = seats(alloc, &mut desk, settings.workers) else {
-        return Status::OutOfMemory;
+        return ServerEnd::without(alloc, Status::OutOfMemory);
     };
     let gate = OpenGate;
     let Ok(workers) = workers(rt, alloc, &desk, seats, &gate, clock) else {
-        return Status::OutOfMemory;
+        return ServerEnd::without(alloc, Status::OutOfMemory);
     };
     let listener = match listen(rt, alloc, settings.listen, out, err) {
         Ok(listener) => listener,
-        Err(status) => return status,
+        Err(status) => return ServerEnd::without(alloc, status),
     };
-    match serve_by_pool(rt, alloc, &listener, settings.connections, workers, err) {
-        Ok(None) => Status::Done,
-        Ok(Some(failure)) => {
-            notify_failure(alloc, failure, err);
-            Status::ListenerFailed
-        }
-        Err(_) => Status::OutOfMemory,
+    let Ok(workers) = serve_by_pool(rt, alloc, &listener, settings.connections, workers, err)
+    else {
+        return ServerEnd::without(alloc, Status::OutOfMemory);
+    };
+    let Ok(back) = taken_back(alloc, workers) else {
+        return ServerEnd::without(alloc, Status::OutOfMemory);
+    };
+    let Back {
+        seats,
+        counts,
+        failure,
+    } = back;
+    let Ok(books) = closed(alloc, desk, seats) else {
+        return ServerEnd::without(alloc, Status::OutOfMemory);
+    };
+    if let Some(failure) = failure {
+        notify_failure(alloc, failure, err);
+        return ServerEnd {
+            status: Status::ListenerFailed,
+            books,
+            counts,
+        };
+    }
+    ServerEnd {
+        status: Status::Done,
+        books,
+        counts,
     }
 }

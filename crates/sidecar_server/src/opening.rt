@@ -1,6 +1,7 @@
-//! Opening the services.
+//! Opening the services, and taking their books.
 ghost use Rattle.std.specs.Prelude.{◌≡◌, IfOk};
 ghost use Rattle.sidecar_server.specs.Opened.{IsOpened, AreOpened};
+ghost use Rattle.sidecar_server.specs.Served.{books_of};
 
 use book::Book;
 use http_front::{Books, NamedBook};
@@ -27,4 +28,15 @@ pub(crate) fn open(alloc: Global, services: Vec<ServiceSettings>) -> Result<Book
         named.push(opened(alloc, service)?)?;
     }
     Ok(Books::new(alloc, named))
+}
+
+/// The books of services, in their order. The error is want of memory.
+pub(crate) fn books_of(alloc: Global, services: Vec<NamedBook>) -> Result<Vec<Book>, AllocError>
+    ensures { IfOk result (λ books. books.items ≡ books_of services.items) }
+{
+    let mut books = Vec::new(alloc);
+    for service in services {
+        books.push(service.book)?;
+    }
+    Ok(books)
 }

@@ -1,14 +1,15 @@
 //! The command `serve`.
-ghost use Rattle.std.specs.Prelude.{◌≡◌, ℕ, List, IfErr, OnOk};
+ghost use Rattle.std.specs.Prelude.{◌≡◌, ℕ, List, [], IfErr, OnOk};
 ghost use Rattle.std.specs.Io.KnownBytes.{Appends};
 ghost use Rattle.refusals.specs.declared.RefusalNumber.TheVariants.{BadConfig, Listen};
 ghost use Rattle.service_file.specs.Settled.{HasCounts};
-ghost use Rattle.sidecar_server.specs.Server.{refused_line, IsListening, IsFileRefused, IsRefused, IsFailed, IsCause, IsEnded, IsServing, IsQuiet, HasServedFile, status_of, code_of};
+ghost use Rattle.sidecar_server.specs.Server.{refused_line, IsListening, IsFileRefused, IsRefused, IsFailed, IsCause, IsEnded, IsServing, IsOver, IsQuiet, HasServedFile, status_of, code_of};
 ghost use Rattle.sidecar_server.specs.Served.{HasServedAlone, HasServedBy};
 
 use crate::at_desk::serve_at_desk;
 use crate::notices::{notify_error, notify_failure, notify_mistake};
-use crate::opening::open;
+use crate::opening::{books_of, open};
+use book::Book;
 use counted_io::Counted;
 use http_front::Clock;
 use http_pool::serve_connections;
@@ -54,6 +55,29 @@ impl Status {
             | Status::WriteFailed
             | Status::FlushFailed
             | Status::OutOfMemory => 1,
+        }
+    }
+}
+
+/// How a server ended, and what it leaves.
+#[derive(Drop)]
+pub struct ServerEnd {
+    pub status: Status,
+    /// Where connections were served, the books of the services, in the order of the file; else none.
+    pub books: Vec<Book>,
+    /// Where many workers served them, how many entries the calls of each one's seat made; else none.
+    pub counts: Vec<u64>,
+}
+
+impl ServerEnd {
+    /// The end of a server that has served no connection.
+    pub(crate) fn without(alloc: Global, status: Status) -> ServerEnd
+        ensures { result.status ≡ status }
+    {
+        ServerEnd {
+            status,
+            books: Vec::new(alloc),
+            counts: Vec::new(alloc),
         }
     }
 }
@@ -158,34 +182,46 @@ fn serve_alone<R, O: Write, E: Write, C: Clock>(
     out: &mut Counted<O>,
     err: &mut Counted<E>,
     clock: &mut C,
-) -> Status
+) -> ServerEnd
 where
     R: Wait + time::Clock + Net<Listener = TcpListener, Stream = TcpStream>,
-    ensures served { IsServing result → HasServedAlone C.ticks settings clock.old clock.new }
-    ensures ended { IsEnded result (O.contents out.old.inner) (O.contents out.new.inner) }
-    ensures quiet { IsQuiet result (E.contents err.old.inner) (E.contents err.new.inner) }
-    ensures cause { IsCause result out.old.failures out.new.failures }
+    ensures served { IsServing result.status → HasServedAlone C.ticks settings clock.old clock.new result.books.items × (result.counts.items ≡ []) }
+    ensures over { IsOver result.status settings.connections }
+    ensures ended { IsEnded result.status (O.contents out.old.inner) (O.contents out.new.inner) }
+    ensures quiet { IsQuiet result.status (E.contents err.old.inner) (E.contents err.new.inner) }
+    ensures cause { IsCause result.status out.old.failures out.new.failures }
 {
     let Ok(mut books) = open(alloc, settings.services) else {
-        return Status::OutOfMemory;
+        return ServerEnd::without(alloc, Status::OutOfMemory);
     };
     let listener = match listen(rt, alloc, settings.listen, out, err) {
         Ok(listener) => listener,
-        Err(status) => return status,
+        Err(status) => return ServerEnd::without(alloc, status),
     };
-    match serve_connections(
+    let ended = serve_connections(
         rt,
         alloc,
         &listener,
         settings.connections,
         &mut books,
         clock,
-    ) {
-        Ok(()) => Status::Done,
-        Err(failure) => {
-            notify_failure(alloc, failure, err);
-            Status::ListenerFailed
-        }
+    );
+    let Ok(books) = books_of(alloc, books.services) else {
+        return ServerEnd::without(alloc, Status::OutOfMemory);
+    };
+    let counts = Vec::new(alloc);
+    if let Err(failure) = ended {
+        notify_failure(alloc, failure, err);
+        return ServerEnd {
+            status: Status::ListenerFailed,
+            books,
+            counts,
+        };
+    }
+    ServerEnd {
+        status: Status::Done,
+        books,
+        counts,
     }
 }
 
@@ -197,14 +233,15 @@ fn serve_settings<R, O: Write, E: Write, C: Clock + Copy + Send>(
     out: &mut Counted<O>,
     err: &mut Counted<E>,
     clock: &mut C,
-) -> Status
+) -> ServerEnd
 where
     R: Threads + Wait + time::Clock + Sync + Net<Listener = TcpListener, Stream = TcpStream>,
     requires counts { HasCounts settings }
-    ensures served { IsServing result → HasServedBy C.ticks settings clock.old clock.new }
-    ensures ended { IsEnded result (O.contents out.old.inner) (O.contents out.new.inner) }
-    ensures quiet { IsQuiet result (E.contents err.old.inner) (E.contents err.new.inner) }
-    ensures cause { IsCause result out.old.failures out.new.failures }
+    ensures served { IsServing result.status → HasServedBy C.ticks settings clock.old clock.new result.books.items result.counts.items }
+    ensures over { IsOver result.status settings.connections }
+    ensures ended { IsEnded result.status (O.contents out.old.inner) (O.contents out.new.inner) }
+    ensures quiet { IsQuiet result.status (E.contents err.old.inner) (E.contents err.new.inner) }
+    ensures cause { IsCause result.status out.old.failures out.new.failures }
 {
     if settings.workers == 1 {
         return serve_alone(rt, alloc, settings, out, err, clock);
@@ -212,8 +249,8 @@ where
     serve_at_desk::<Brand, Brand, R, O, E, C>(
         rt,
         alloc,
-        Blank::new(129),
-        Blank::new(65),
+        Blank::new(193),
+        Blank::new(193),
         settings,
         out,
         err,
@@ -254,23 +291,27 @@ pub fn serve_file<R, O: Write, E: Write, C: Clock + Copy + Send>(
     out: &mut Counted<O>,
     err: &mut Counted<E>,
     clock: &mut C,
-) -> Status
+) -> ServerEnd
 where
     R: Threads + Wait + time::Clock + Sync + Net<Listener = TcpListener, Stream = TcpStream>,
     // Where it is done, the file's services opened, the line was printed, and connections were served from there
-    // on, by as many workers as the file says. The same holds where the listener accepts no more.
-    ensures done { IsServing result → HasServedFile C.ticks text.now clock.old clock.new (O.contents out.old.inner) (O.contents out.new.inner) }
+    // on, by as many workers as the file says. The same holds where the listener accepts no more. The books that come
+    // back are those that were served: by one worker they stand where its connections left them; by many, each has a
+    // legal and sound history, and the numbers of their last entries add up to the counts of the workers' seats, so
+    // that no entry was made which no worker counted, and none was lost. It is done only where the file says after how
+    // many connections.
+    ensures done { IsServing result.status → HasServedFile C.ticks text.now result.status clock.old clock.new (O.contents out.old.inner) (O.contents out.new.inner) result.books.items result.counts.items }
     // Where it is refused, the refusal was printed: the text can't be used, or it can and the address can't be bound.
-    ensures refused { (number : RefusalNumber) → result ≡ Status.Refused number → IsFileRefused text.now number × Appends (O.contents out.old.inner) (O.contents out.new.inner) (refused_line number) }
+    ensures refused { (number : RefusalNumber) → result.status ≡ Status.Refused number → IsFileRefused text.now number × Appends (O.contents out.old.inner) (O.contents out.new.inner) (refused_line number) }
     // On `err` stands at most the line on too few workers, but where a refusal was printed or the listener failed.
-    ensures quiet { IsQuiet result (E.contents err.old.inner) (E.contents err.new.inner) }
+    ensures quiet { IsQuiet result.status (E.contents err.old.inner) (E.contents err.new.inner) }
     // A failed write is answered where that count went up by one, and in no other case.
-    ensures cause { IsCause result out.old.failures out.new.failures }
+    ensures cause { IsCause result.status out.old.failures out.new.failures }
 {
     match read_settings(alloc, text) {
         Ok(Some(settings)) => serve_settings(rt, alloc, settings, out, err, clock),
-        Ok(None) => refuse_text(alloc, text, out, err),
-        Err(_) => Status::OutOfMemory,
+        Ok(None) => ServerEnd::without(alloc, refuse_text(alloc, text, out, err)),
+        Err(_) => ServerEnd::without(alloc, Status::OutOfMemory),
     }
 }
 
@@ -311,7 +352,7 @@ pub fn serve_path<R, O: Write, E: Write, C: Clock + Copy + Send>(
     out: &mut Counted<O>,
     err: &mut Counted<E>,
     clock: &mut C,
-) -> Status
+) -> ServerEnd
 where
     R: Threads
         + Wait
@@ -320,17 +361,19 @@ where
         + Files
         + Net<Listener = TcpListener, Stream = TcpStream>,
     // Where it is done, it served as some text says, in the way of `serve_file`: no clause knows a file's text.
-    ensures done { IsServing result → (text : List ℕ) × HasServedFile C.ticks text clock.old clock.new (O.contents out.old.inner) (O.contents out.new.inner) }
+    ensures done { IsServing result.status → (text : List ℕ) × HasServedFile C.ticks text result.status clock.old clock.new (O.contents out.old.inner) (O.contents out.new.inner) result.books.items result.counts.items }
     // Where it is refused, the refusal was printed.
-    ensures refused { (number : RefusalNumber) → result ≡ Status.Refused number → Appends (O.contents out.old.inner) (O.contents out.new.inner) (refused_line number) }
+    ensures refused { (number : RefusalNumber) → result.status ≡ Status.Refused number → Appends (O.contents out.old.inner) (O.contents out.new.inner) (refused_line number) }
     // On `err` stands at most the line on too few workers, but where a refusal was printed or the listener failed.
-    ensures quiet { IsQuiet result (E.contents err.old.inner) (E.contents err.new.inner) }
+    ensures quiet { IsQuiet result.status (E.contents err.old.inner) (E.contents err.new.inner) }
     // A failed write is answered where that count went up by one, and in no other case.
-    ensures cause { IsCause result out.old.failures out.new.failures }
+    ensures cause { IsCause result.status out.old.failures out.new.failures }
 {
     match read(rt, alloc, path) {
         Ok(text) => serve_file(rt, alloc, &text, out, err, clock),
-        Err(error) if error.kind() == ErrorKind::OutOfMemory => Status::OutOfMemory,
-        Err(error) => refuse_path(alloc, path, &error, out, err),
+        Err(error) if error.kind() == ErrorKind::OutOfMemory => {
+            ServerEnd::without(alloc, Status::OutOfMemory)
+        }
+        Err(error) => ServerEnd::without(alloc, refuse_path(alloc, path, &error, out, err)),
     }
 }

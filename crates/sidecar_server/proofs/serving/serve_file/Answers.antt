@@ -7,7 +7,7 @@ use Rattle.sidecar_server.proofs.serving.serve_file.Goals as goal
 pub returns-in-Ok-Some-clause-done : goal.returns-in-Ok-Some-clause-done
 returns-in-Ok-Some-clause-done g c =
     let found : IsRead c.args.text.now (Some c.in-Ok-Some.settings) = rw c.in-Ok-Some.field-0-is at c.in-Ok-Some.ensures.read in
-    λ finished. (c.in-Ok-Some.settings, found, c.serve_settings.ensures.served finished, served_listens c.serve_settings.result _ _ finished c.serve_settings.ensures.ended)
+    λ finished. (c.in-Ok-Some.settings, found, c.serve_settings.ensures.served finished, c.serve_settings.ensures.over, served_listens c.serve_settings.result.status _ _ finished c.serve_settings.ensures.ended)
 
 pub returns-in-Ok-Some-clause-refused : goal.returns-in-Ok-Some-clause-refused
 returns-in-Ok-Some-clause-refused g c =
