@@ -39,7 +39,8 @@ pub struct SeatedAnswerer<'a, L: Ledger, M: Ledger + Offered, G: Gate, R: Wait> 
     gate: &'a G,
 }
 
-impl<'a, L: Ledger, M: Ledger + Offered, G: Gate, R: Wait> Model for SeatedAnswerer<'a, L, M, G, R> {
+impl<'a, L: Ledger, M: Ledger + Offered, G: Gate, R: Wait> Model
+    for SeatedAnswerer<'a, L, M, G, R> {
     ghost use Rattle.http_desk.specs.Seated.{SeatedData, seated};
 
     ghost Value = { SeatedData };
@@ -49,7 +50,13 @@ impl<'a, L: Ledger, M: Ledger + Offered, G: Gate, R: Wait> Model for SeatedAnswe
 
 impl<'a, L: Ledger, M: Ledger + Offered, G: Gate, R: Wait> SeatedAnswerer<'a, L, M, G, R> {
     /// Answers for a desk, by this seat of it. A report passes the gate in its middle.
-    pub fn new(rt: &'a R, alloc: Global, desk: &'a Desk<L, M>, seat: Seat<L, M>, gate: &'a G) -> Self
+    pub fn new(
+        rt: &'a R,
+        alloc: Global,
+        desk: &'a Desk<L, M>,
+        seat: Seat<L, M>,
+        gate: &'a G,
+    ) -> Self
         ensures { result ≡ seated desk.now.services seat }
     {
         SeatedAnswerer {
@@ -89,7 +96,8 @@ impl<'a, L: Ledger, M: Ledger + Offered, G: Gate, R: Wait> SeatedAnswerer<'a, L,
     }
 }
 
-impl<'a, L: Ledger, M: Ledger + Offered, G: Gate, R: Wait> Answerer for SeatedAnswerer<'a, L, M, G, R> {
+impl<'a, L: Ledger, M: Ledger + Offered, G: Gate, R: Wait> Answerer
+    for SeatedAnswerer<'a, L, M, G, R> {
     ghost holds = { λ answerer service. holds_at answerer.services service };
 
     ghost answers = { λ old service moment wanted response new. IsAskedAt old moment wanted response new };

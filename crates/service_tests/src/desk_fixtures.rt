@@ -62,12 +62,11 @@ pub(crate) fn ask<L: Ledger, M: Ledger + Offered, R: Wait + Abort, G: Gate>(
 
 /// What a test plays at a desk.
 pub(crate) trait Play {
-    fn play<L: Ledger + Send + Sync, M: Ledger + Offered + Send + Sync, R: Threads + Wait + Abort + Sync>(
-        &self,
-        rt: &R,
-        alloc: Global,
-        desk: Desk<L, M>,
-    );
+    fn play<
+        L: Ledger + Send + Sync,
+        M: Ledger + Offered + Send + Sync,
+        R: Threads + Wait + Abort + Sync,
+    >(&self, rt: &R, alloc: Global, desk: Desk<L, M>);
 }
 
 /// Plays at a new desk with services of these names, of one configuration, with the default classifier.

@@ -45,12 +45,11 @@ struct Rows<'a> {
 }
 
 impl Play for Rows<'_> {
-    fn play<L: Ledger + Send + Sync, M: Ledger + Offered + Send + Sync, R: Threads + Wait + Abort + Sync>(
-        &self,
-        rt: &R,
-        alloc: Global,
-        desk: Desk<L, M>,
-    ) {
+    fn play<
+        L: Ledger + Send + Sync,
+        M: Ledger + Offered + Send + Sync,
+        R: Threads + Wait + Abort + Sync,
+    >(&self, rt: &R, alloc: Global, desk: Desk<L, M>) {
         let mut desk = desk;
         let mut seat = desk.sit().expect(rt, "a first seat");
         go_through(rt, alloc, &desk, &mut seat, self.steps);

@@ -300,13 +300,7 @@ fn overtake_another_ticket<
     L: Ledger + Send + Sync,
     M: Ledger + Offered + Send + Sync,
     R: Threads + Wait + Abort + Sync,
->(
-    rt: &R,
-    alloc: Global,
-    entries: Blank,
-    cuts: Blank,
-    services: Vec<(String, Config, Verified)>,
-)
+>(rt: &R, alloc: Global, entries: Blank, cuts: Blank, services: Vec<(String, Config, Verified)>)
     requires entries_name { entries.name ≡ L.name }
     requires entries_parts { (entries.parts ≡ L.parts) × (L.parts ≡ 193) }
     requires cuts_name { cuts.name ≡ M.name }
@@ -342,13 +336,7 @@ fn overtake_the_same_ticket<
     L: Ledger + Send + Sync,
     M: Ledger + Offered + Send + Sync,
     R: Threads + Wait + Abort + Sync,
->(
-    rt: &R,
-    alloc: Global,
-    entries: Blank,
-    cuts: Blank,
-    services: Vec<(String, Config, Verified)>,
-)
+>(rt: &R, alloc: Global, entries: Blank, cuts: Blank, services: Vec<(String, Config, Verified)>)
     requires entries_name { entries.name ≡ L.name }
     requires entries_parts { (entries.parts ≡ L.parts) × (L.parts ≡ 193) }
     requires cuts_name { cuts.name ≡ M.name }
@@ -384,13 +372,7 @@ fn overtake_by_a_program<
     L: Ledger + Send + Sync,
     M: Ledger + Offered + Send + Sync,
     R: Threads + Wait + Abort + Sync,
->(
-    rt: &R,
-    alloc: Global,
-    entries: Blank,
-    cuts: Blank,
-    services: Vec<(String, Config, Verified)>,
-)
+>(rt: &R, alloc: Global, entries: Blank, cuts: Blank, services: Vec<(String, Config, Verified)>)
     requires entries_name { entries.name ≡ L.name }
     requires entries_parts { (entries.parts ≡ L.parts) × (L.parts ≡ 193) }
     requires cuts_name { cuts.name ≡ M.name }
@@ -429,7 +411,11 @@ fn tickets_keep_their_version_while_another_is_installed(rt: HostRuntime) {
 }
 
 /// Two threads report ticket 1.
-fn report_twice<L: Ledger + Send + Sync, M: Ledger + Offered + Send + Sync, R: Threads + Wait + Abort + Sync>(
+fn report_twice<
+    L: Ledger + Send + Sync,
+    M: Ledger + Offered + Send + Sync,
+    R: Threads + Wait + Abort + Sync,
+>(
     rt: &R,
     alloc: Global,
     desk: &Desk<L, M>,
@@ -451,13 +437,11 @@ fn has_one_winner(first: Reply, second: Reply) -> bool {
 }
 
 /// Two reports of ticket 1 with nothing between them.
-fn race<L: Ledger + Send + Sync, M: Ledger + Offered + Send + Sync, R: Threads + Wait + Abort + Sync>(
-    rt: &R,
-    alloc: Global,
-    entries: Blank,
-    cuts: Blank,
-    services: Vec<(String, Config, Verified)>,
-)
+fn race<
+    L: Ledger + Send + Sync,
+    M: Ledger + Offered + Send + Sync,
+    R: Threads + Wait + Abort + Sync,
+>(rt: &R, alloc: Global, entries: Blank, cuts: Blank, services: Vec<(String, Config, Verified)>)
     requires entries_name { entries.name ≡ L.name }
     requires entries_parts { (entries.parts ≡ L.parts) × (L.parts ≡ 193) }
     requires cuts_name { cuts.name ≡ M.name }

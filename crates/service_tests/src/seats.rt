@@ -16,12 +16,11 @@ use std::thread::Threads;
 struct AllSeats;
 
 impl Play for AllSeats {
-    fn play<L: Ledger + Send + Sync, M: Ledger + Offered + Send + Sync, R: Threads + Wait + Abort + Sync>(
-        &self,
-        rt: &R,
-        alloc: Global,
-        desk: Desk<L, M>,
-    ) {
+    fn play<
+        L: Ledger + Send + Sync,
+        M: Ledger + Offered + Send + Sync,
+        R: Threads + Wait + Abort + Sync,
+    >(&self, rt: &R, alloc: Global, desk: Desk<L, M>) {
         let mut desk = desk;
         let seats = take_seats(rt, alloc, &mut desk);
         same(rt, desk.sit().err(), Some(RefusalNumber::SeatsFull));
@@ -69,12 +68,11 @@ fn busy_seat<L: Ledger, M: Ledger + Offered, R: Wait + Abort>(
 struct FourSeats;
 
 impl Play for FourSeats {
-    fn play<L: Ledger + Send + Sync, M: Ledger + Offered + Send + Sync, R: Threads + Wait + Abort + Sync>(
-        &self,
-        rt: &R,
-        alloc: Global,
-        desk: Desk<L, M>,
-    ) {
+    fn play<
+        L: Ledger + Send + Sync,
+        M: Ledger + Offered + Send + Sync,
+        R: Threads + Wait + Abort + Sync,
+    >(&self, rt: &R, alloc: Global, desk: Desk<L, M>) {
         let mut desk = desk;
         let seats = busy_seats(rt, alloc, &mut desk);
         let books = close_late(rt, alloc, desk, seats);

@@ -96,7 +96,11 @@ fn work<L: Ledger, M: Ledger + Offered, R: Wait + Abort>(
 }
 
 /// Four threads, with what each of them did, in the order of their seats.
-fn work_at_once<L: Ledger + Send + Sync, M: Ledger + Offered + Send + Sync, R: Threads + Wait + Abort + Sync>(
+fn work_at_once<
+    L: Ledger + Send + Sync,
+    M: Ledger + Offered + Send + Sync,
+    R: Threads + Wait + Abort + Sync,
+>(
     rt: &R,
     alloc: Global,
     desk: &Desk<L, M>,
@@ -186,13 +190,7 @@ fn call_from_four_threads<
     L: Ledger + Send + Sync,
     M: Ledger + Offered + Send + Sync,
     R: Threads + Wait + Abort + Sync,
->(
-    rt: &R,
-    alloc: Global,
-    entries: Blank,
-    cuts: Blank,
-    services: Vec<(String, Config, Verified)>,
-)
+>(rt: &R, alloc: Global, entries: Blank, cuts: Blank, services: Vec<(String, Config, Verified)>)
     requires entries_name { entries.name ≡ L.name }
     requires entries_parts { (entries.parts ≡ L.parts) × (L.parts ≡ 193) }
     requires cuts_name { cuts.name ≡ M.name }

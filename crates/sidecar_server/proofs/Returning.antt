@@ -1,18 +1,14 @@
 -- What workers bring back who sat down at a desk.
-use Rattle.std.proofs.Common.{◌≡◌, ◌∙◌, ◌<◌, ℕ, suc, List, [], ◌∷◌, ◌++◌, map, length, sum, Option, Some, None, ap, refl, sym, subst, arith}
+use Rattle.std.proofs.Common.{◌≡◌, ◌∙◌, ◌<◌, ℕ, suc, List, [], ◌∷◌, ◌++◌, length, Option, Some, None, ap, refl, sym, arith}
 use Rattle.std.proofs.lemmas.List.{map-append}
-use Rattle.std.specs.List.{AllByRecursion}
 use Rattle.std.specs.Option.{option_or}
-use Rattle.service_profile.specs.Events.{History}
 use Rattle.desk.specs.Seats.{SeatData}
-use Rattle.desk.specs.Services.{ServiceData}
 use Rattle.http_desk.specs.Seated.{SeatedData, holds_at}
 use Rattle.http_desk.specs.Asked.{IsAskedAt}
 use Rattle.http_pool.specs.declared.failure.ListenerFailed.{ListenerFailed}
 use Rattle.http_pool.specs.declared.workers.Worker.{Worker}
 use Rattle.http_pool.specs.Workers.{HaveWorked, HaveEnded, ends}
-use Rattle.service_file.specs.declared.settings.Settings.{Settings}
-use Rattle.sidecar_server.specs.Served.{services_of, seats_of, workers_with, seats_with, counts_of, HaveNoFailure, AreClosed, HasServedAtDesk}
+use Rattle.sidecar_server.specs.Served.{seats_with, counts_of, HaveNoFailure}
 
 -- one worker more who met no failure
 none_more : {C : Type 0} (done : List (Worker SeatedData C)) (worker : Worker SeatedData C) → HaveNoFailure done → worker.failure ≡ None → HaveNoFailure (done ++ worker ∷ [])

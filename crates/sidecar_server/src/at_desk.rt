@@ -215,8 +215,7 @@ pub(crate) fn serve_at_desk<
         Ok(listener) => listener,
         Err(status) => return ServerEnd::without(alloc, status),
     };
-    let Ok(workers) = serve_by_pool(rt, alloc, &listener, settings.connections, workers, err)
-    else {
+    let Ok(workers) = serve_by_pool(rt, alloc, &listener, settings.connections, workers, err) else {
         return ServerEnd::without(alloc, Status::OutOfMemory);
     };
     let Ok(back) = taken_back(alloc, workers) else {

@@ -296,10 +296,11 @@ where
     R: Threads + Wait + time::Clock + Sync + Net<Listener = TcpListener, Stream = TcpStream>,
     // Where it is done, the file's services opened, the line was printed, and connections were served from there
     // on, by as many workers as the file says. The same holds where the listener accepts no more. The books that come
-    // back are those that were served: by one worker they stand where its connections left them; by many, each has a
-    // legal and sound history, and the numbers of their last entries add up to the counts of the workers' seats, so
-    // that no entry was made which no worker counted, and none was lost. It is done only where the file says after how
-    // many connections.
+    // back are those that were served. By one worker they stand where its connections left them. By many, a caller can
+    // rest on this: each has a legal and sound history of one of the file's services, with its configuration and its
+    // first program, after some cuts; and entries and cuts are just those that the workers' seats count, so that none
+    // is missing and none was made that no worker's call made. It is done only where the file says after how many
+    // connections. That a connection was served at all no clause can say.
     ensures done { IsServing result.status → HasServedFile C.ticks text.now result.status clock.old clock.new (O.contents out.old.inner) (O.contents out.new.inner) result.books.items result.counts.items }
     // Where it is refused, the refusal was printed: the text can't be used, or it can and the address can't be bound.
     ensures refused { (number : RefusalNumber) → result.status ≡ Status.Refused number → IsFileRefused text.now number × Appends (O.contents out.old.inner) (O.contents out.new.inner) (refused_line number) }

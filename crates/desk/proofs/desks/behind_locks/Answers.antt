@@ -1,4 +1,4 @@
-use Rattle.std.proofs.Common.{String, Global, ◌≡◌, ◌∙◌, ◌+◌, ◌++◌, [], ◌∷◌, length, map, ap, refl, rules, arith, length-append}
+use Rattle.std.proofs.Common.{String, Global, ◌≡◌, ◌∙◌, ◌+◌, ◌++◌, [], ◌∷◌, length, map, ap, refl, arith, length-append}
 use Rattle.std.specs.Prelude.{string_bytes}
 use Rattle.std.specs.Vec.Iter.{into_iter_items}
 use Rattle.service_profile.specs.declared.configuration.Config.{Config}

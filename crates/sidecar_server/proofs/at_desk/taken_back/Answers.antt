@@ -1,5 +1,4 @@
-use Rattle.std.proofs.Common.{◌≡◌, ◌∙◌, ap, sym, rules, map, List, [], ◌∷◌, ◌++◌, None, ℕ}
-use Rattle.std.proofs.lemmas.List.{map-append}
+use Rattle.std.proofs.Common.{◌≡◌, ◌∙◌, ap, sym, rules, List, [], ◌∷◌, ◌++◌, ℕ}
 use Rattle.std.specs.Vec.Iter.{into_iter_items}
 use Rattle.desk.specs.Seats.{SeatData}
 use Rattle.http_desk.specs.Seated.{SeatedData}

@@ -1,8 +1,8 @@
-use Rattle.std.proofs.Common.{ap, ◌≡◌, ◌∙◌, ◌+◌, length, map, rules, arith, sym}
+use Rattle.std.proofs.Common.{ap, ◌≡◌, ◌∙◌, length, rules, arith}
 use Rattle.std.proofs.lemmas.List.{length-map}
-use Rattle.std.specs.Prelude.{string_bytes, vec_len}
+use Rattle.std.specs.Prelude.{string_bytes}
 use Rattle.desk.specs.declared.desks.Service.{Service}
-use Rattle.desk.specs.Services.{ServiceData, service_of}
+use Rattle.desk.specs.Services.{service_of}
 use Rattle.desk.proofs.Descent.{names_offered, as_many_offered}
 use Rattle.desk.proofs.desks.Desk.open.Goals as goal
 

@@ -1,4 +1,4 @@
-use Rattle.std.proofs.Common.{◌≡◌, ◌-◌, ap, arith}
+use Rattle.std.proofs.Common.{◌≡◌, arith}
 use Rattle.desk.proofs.Counting.{rolls_go_on}
 use Rattle.desk.proofs.Descent.{of_same, rolled_opening}
 use Rattle.service_profile.specs.Histories.{past_of, next_line}
