@@ -6,7 +6,7 @@ use Rattle.bpf_profile.specs.Programs.{VerifiedProgram}
 use Rattle.service_profile.specs.declared.replies.Reply.TheVariants as reply
 use Rattle.service_profile.specs.Limits.{most_versions}
 use Rattle.service_profile.specs.Events.{EventData, acquires, finishes, releases, installs, moves, resets}
-use Rattle.service_profile.specs.Machine.{Situation, decision, decided, is_full, at_moment, acquired, placed, permission_in, permissions_held, refused, finished, finished_under, finished_by, concluded, same_program, is_issued, open_ticket, program_from, released, released_under, installed, current_version}
+use Rattle.service_profile.specs.Machine.{Situation, decision, decided, is_full, at_moment, acquired, placed, permission_in, permissions_held, refused, finished, finished_under, finished_by, concluded, same_program, is_issued, open_ticket, program_from, released, released_under, installed, current_version, meant, decision_by}
 use Rattle.service_profile.specs.Verdicts.{judgement}
 use Rattle.answers.specs.Answered.{has_status}
 
@@ -20,12 +20,12 @@ acquired_has s moment =
       | false ↦ refl
     ]
 
-finished_has : (s : Situation) (moment : ℕ) (work : JudgedData) (ticket : ℕ) → has_status (finished s moment work ticket).reply ≡ true
+finished_has : (s : Situation) (moment : ℕ) (work : JudgedData) (ticket : ℕ) → has_status (finished meant s moment work ticket).reply ≡ true
 finished_has s moment work ticket =
-    elim (is_issued s ticket) as (λ b. has_status (cond b (finished_under s moment work (open_ticket s.open_tickets ticket)) (refused s.standing refusal.NoTicket)).reply ≡ true) [
-      | true ↦ elim (open_ticket s.open_tickets ticket) as (λ t. has_status (finished_under s moment work t).reply ≡ true) [
+    elim (is_issued s ticket) as (λ b. has_status (cond b (finished_under meant s moment work (open_ticket s.open_tickets ticket)) (refused s.standing refusal.NoTicket)).reply ≡ true) [
+      | true ↦ elim (open_ticket s.open_tickets ticket) as (λ t. has_status (finished_under meant s moment work t).reply ≡ true) [
         | None ↦ refl
-        | Some t ↦ elim (program_from s.first_version s.programs t.version) as (λ p. has_status (finished_by s moment t work p).reply ≡ true) [
+        | Some t ↦ elim (program_from s.first_version s.programs t.version) as (λ p. has_status (finished_by meant s moment t work p).reply ≡ true) [
           | None ↦ refl
           | Some p ↦ elim (same_program work.program p)
               as (λ b. has_status (cond b (concluded s moment t work.outcome (judgement p work.outcome)) (refused s.standing refusal.Stranger)).reply ≡ true)
@@ -48,7 +48,7 @@ installed_has s program =
     as (λ b. has_status (cond b (refused s.standing refusal.VersionsFull) (record { reply = reply.Installed (s.first_version + length s.programs) program.budget; next = s.standing })).reply ≡ true)
     [ true ↦ refl | false ↦ refl ]
 
-decided_has : (s : Situation) (moment : ℕ) (event : EventData) → has_status (decided s moment event).reply ≡ true
+decided_has : (s : Situation) (moment : ℕ) (event : EventData) → has_status (decided meant s moment event).reply ≡ true
 decided_has s moment acquires = acquired_has s moment
 decided_has s moment (finishes work ticket) = finished_has s moment work ticket
 decided_has s moment (releases ticket) = released_has s ticket
@@ -57,7 +57,7 @@ decided_has s moment (moves state) = refl
 decided_has s moment resets = refl
 
 pub decision_has : (s : Situation) (moment : ℕ) (event : EventData) → has_status (decision s moment event).reply ≡ true
-unfolding decision
+unfolding decision_by
 decision_has s moment event =
-    elim (is_full s event) as (λ b. has_status (cond b (refused s.standing refusal.JournalFull) (decided (at_moment s moment) moment event)).reply ≡ true)
+    elim (is_full s event) as (λ b. has_status (cond b (refused s.standing refusal.JournalFull) (decided meant (at_moment s moment) moment event)).reply ≡ true)
     [ true ↦ refl | false ↦ decided_has (at_moment s moment) moment event ]

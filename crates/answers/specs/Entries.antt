@@ -1,7 +1,6 @@
 -- The entries of a service's journal as JSON.
 use Rattle.std.specs.Prelude.{ℕ, List, [], ◌∷◌, codes}
 use Rattle.serde_json.specs.Data.{Data, string}
-use Rattle.serde_json.specs.Written.{compact_text}
 use Rattle.service_profile.specs.Events.{EventData, acquires, finishes, releases, installs, moves, resets, EntryData}
 use Rattle.answers.specs.Texts.{Field, count, object_of, reply_data, state_name}
 
@@ -33,6 +32,3 @@ entry_object name more line = object_of (
 
 abbrev pub entry_data : EntryData → Data
 entry_data line = entry_object (event_name line.event) (named line.event) line
-
-abbrev pub entry_text : EntryData → List ℕ
-entry_text line = compact_text (entry_data line)

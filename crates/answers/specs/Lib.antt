@@ -1,4 +1,5 @@
 pub mod Texts
 pub mod Entries
 pub mod Pages
+pub mod Responses
 pub mod Answered

@@ -2,7 +2,6 @@
 use Rattle.std.specs.Prelude.{ℕ, suc, ◌-◌, ◌^◌, min, List, [], ◌∷◌, length, map, Option, Some, None, slice_get, codes}
 use Rattle.serde_json.specs.Data.{Data, array}
 use Rattle.serde_json.specs.View.{items_of}
-use Rattle.serde_json.specs.Written.{compact_text}
 use Rattle.service_profile.specs.Events.{EntryData}
 use Rattle.answers.specs.Texts.{count, object_of}
 use Rattle.answers.specs.Entries.{entry_data}
@@ -22,6 +21,3 @@ next_number lines from = number_after (last_line lines) from
 -- the page of these lines, which was asked from a number on
 abbrev pub page_data : List EntryData → ℕ → Data
 page_data lines from = object_of ((codes "entries", array (items_of (map entry_data lines))) ∷ (codes "next", count (next_number lines from)) ∷ [])
-
-abbrev pub page_text : List EntryData → ℕ → List ℕ
-page_text lines from = compact_text (page_data lines from)

@@ -1,7 +1,6 @@
--- What services are answered with: the HTTP status (RFC 9110, section 15) and the body, as compact JSON (RFC 8259) with its keys in ascending byte order.
+-- What services answer, as JSON values with their keys in ascending byte order, and the HTTP status of a reply (RFC 9110, section 15).
 use Rattle.std.specs.Prelude.{ℕ, List, [], ◌∷◌, Option, Some, None, negsuc, codes}
 use Rattle.serde_json.specs.Data.{Data, number, unsigned, negative, string, object, Members, no_members, member}
-use Rattle.serde_json.specs.Written.{compact_text}
 use Rattle.refusals.specs.declared.RefusalNumber.{RefusalNumber}
 use Rattle.refusals.specs.Table.{number_of, name_of, status_of}
 use Rattle.verifier.specs.declared.refusal.Refusal.{Refusal}
@@ -13,8 +12,6 @@ use Rattle.service_profile.specs.declared.replies.Reply.TheVariants as reply
 use Rattle.service_profile.specs.declared.states.State.{State}
 use Rattle.service_profile.specs.declared.states.State.TheVariants as state
 use Rattle.texts.specs.Verdicts.{verdict_name}
-use Rattle.answers.specs.declared.answer.Answer.{Answer}
-use Rattle.answers.specs.declared.answer.Answer.TheVariants as answer
 
 -- ---- names
 
@@ -105,24 +102,8 @@ reading_data reading = object_of (
     ∷ []
     )
 
-abbrev pub answer_data : Answer → Data
-answer_data (answer.Reply reply) = reply_data reply
-answer_data (answer.Reading reading) = reading_data reading
-answer_data (answer.HandedOut entries) = handed_out_data entries
-answer_data (answer.ProgramRefused refused) = program_refusal_data refused
-
--- the body of an answer
-abbrev pub body : Answer → List ℕ
-body answer = compact_text (answer_data answer)
-
 -- ---- statuses
 
 abbrev pub reply_status : Reply → ℕ
 reply_status (reply.Refused refused) = status_of refused
 reply_status other = 200
-
-abbrev pub status : Answer → ℕ
-status (answer.Reply reply) = reply_status reply
-status (answer.Reading reading) = 200
-status (answer.HandedOut entries) = 200
-status (answer.ProgramRefused refused) = status_of refused.number

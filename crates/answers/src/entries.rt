@@ -1,8 +1,8 @@
 //! The entries of the journal. Every error is want of memory.
-ghost use Rattle.std.specs.Prelude.{◌≡◌, ◌∷◌, [], IfOk, codes, string_bytes};
+ghost use Rattle.std.specs.Prelude.{◌≡◌, ◌∷◌, [], IfOk, codes};
 ghost use Rattle.serde_json.specs.Data.{string};
 ghost use Rattle.serde_json.specs.View.{view};
-ghost use Rattle.answers.specs.Entries.{entry_object, entry_data, entry_text};
+ghost use Rattle.answers.specs.Entries.{entry_object, entry_data};
 ghost use Rattle.answers.specs.Texts.{count, state_name};
 
 use crate::names::state_name;
@@ -45,7 +45,8 @@ fn transition(alloc: Global, entry: &Entry, to: State) -> Result<Value, AllocErr
     json!(in alloc; {"event": "transition", "moment": moment, "number": number, "reply": reply, "seat": seat, "to": to})
 }
 
-/// An entry as a value.
+/// An entry of the journal: what happened, at which moment in milliseconds, the entry's number, the body of what was
+/// answered, who made the event, and the ticket or the state that it names.
 pub(crate) fn entry(alloc: Global, entry: &Entry) -> Result<Value, AllocError>
     ensures { IfOk result (λ value. view value ≡ entry_data entry.now) }
 {
@@ -57,13 +58,4 @@ pub(crate) fn entry(alloc: Global, entry: &Entry) -> Result<Value, AllocError>
         Event::Move(to) => transition(alloc, entry, *to),
         Event::Reset => plain(alloc, entry, "reset"),
     }
-}
-
-/// An entry of the journal as compact JSON (RFC 8259), with its keys in ascending byte order: what
-/// happened, at which moment in milliseconds, the entry's number, the body of what was answered, who
-/// made the event, and the ticket or the state that it names. The only error is want of memory.
-pub fn entry_text(alloc: Global, line: &Entry) -> Result<String, AllocError>
-    ensures { IfOk result (λ text. string_bytes text ≡ entry_text line.now) }
-{
-    entry(alloc, line)?.to_string(alloc)
 }

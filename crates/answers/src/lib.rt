@@ -1,14 +1,12 @@
-//! The text of what services are answered with, exact to the byte: replies, readings and refusals as
+//! The text of what services answer, exact to the byte: replies, readings, refusals and pages as
 //! compact JSON, with the HTTP status of each, and the entries of the journal.
 #![tactic(auto)]
 
-mod answer;
 mod entries;
 pub mod laws;
 mod names;
 mod pages;
+mod responses;
 mod values;
 
-pub use answer::Answer;
-pub use entries::entry_text;
-pub use pages::page_text;
+pub use responses::{body, status};

@@ -41,7 +41,7 @@ stages_of : (past : Past) (lines : List EntryData) → length (fold passed past 
 stages_of past [] = omega arith
 stages_of past (l ∷ lines) = let rest = stages_of (passed past l) lines in let here : length (passed past l).stages ≡ length past.stages + 1 = length-append past.stages (record { line = l; before = past.standing; after = (machine past l.moment l.event).next } ∷ []) in omega (arith, rest, here)
 
-opening_kept : (past : Past) (lines : List EntryData) → (fold passed past lines).opening ≡ past.opening
+pub opening_kept : (past : Past) (lines : List EntryData) → (fold passed past lines).opening ≡ past.opening
 opening_kept past [] = refl
 opening_kept past (l ∷ lines) = opening_kept (passed past l) lines
 

@@ -30,7 +30,7 @@ last_place : {A : Type 0} (x : A) (xs : List A) → slice_get (x ∷ xs) (length
 last_place x [] = refl
 last_place x (y ∷ ys) = last_place y ys
 
-from_last : (first : ℕ) (program : VerifiedProgram) (programs : List VerifiedProgram) → program_from first (program ∷ programs) (first + (length (program ∷ programs) - 1)) ≡ Some (last_of program programs)
+pub from_last : (first : ℕ) (program : VerifiedProgram) (programs : List VerifiedProgram) → program_from first (program ∷ programs) (first + (length (program ∷ programs) - 1)) ≡ Some (last_of program programs)
 from_last first program programs =
     let version : ℕ = first + (length (program ∷ programs) - 1) in
     let place : version - first ≡ length programs = omega arith in

@@ -23,7 +23,7 @@ use Rattle.service_profile.specs.declared.notes.Note.{Note}
 use Rattle.service_profile.specs.declared.notes.Totals.{Totals}
 use Rattle.service_profile.specs.Limits.{most_versions, most_entries}
 use Rattle.service_profile.specs.Events.{EventData, acquires, finishes, releases, installs, moves, resets}
-use Rattle.service_profile.specs.Machine.{Situation, refused, in_state, overstays, at_moment, permissions_held, half_open_permission, permission_in, placed, admitted, acquired, current_version, open_ticket, is_open, is_issued, program_from, same_program, is_ignored, fate_of, next_by, concluded, finished_by, finished_under, finished, released_under, released, installed, decided, used, is_full, decision, is_entered_refusal}
+use Rattle.service_profile.specs.Machine.{Situation, refused, in_state, overstays, at_moment, permissions_held, half_open_permission, permission_in, placed, admitted, acquired, current_version, open_ticket, is_open, is_issued, program_from, same_program, is_ignored, fate_of, next_by, concluded, finished_by, finished_under, finished, released_under, released, installed, decided, used, is_full, decision, is_entered_refusal, meant, decision_by}
 use Rattle.service_profile.specs.Rates.{after_totals, either_reaches, minimum}
 use Rattle.service_profile.specs.Standings.{moved, is_half_open, is_disabled}
 use Rattle.service_profile.specs.Verdicts.{judgement}
@@ -100,14 +100,14 @@ admitted_near s before permission near =
 acquired_near : (s : Situation) (moment : ℕ) → DecidesNear s.standing (acquired s moment)
 acquired_near s moment = admitted_near s s.standing _ (permission_near s.standing.state s.config s.standing (length s.notes) (permissions_held s.standing.period s.open_tickets) moment)
 
-finished_by_near : (s : Situation) (moment : ℕ) (ticket : OpenTicket) (work : JudgedData) (program : Option VerifiedProgram) → DecidesNear s.standing (finished_by s moment ticket work program)
+finished_by_near : (s : Situation) (moment : ℕ) (ticket : OpenTicket) (work : JudgedData) (program : Option VerifiedProgram) → DecidesNear s.standing (finished_by meant s moment ticket work program)
 finished_by_near s moment ticket work None = near_none s.standing 1
 finished_by_near s moment ticket work (Some program) =
     either_near (same_program work.program program) s.standing (concluded s moment ticket work.outcome (judgement program work.outcome)) (refused s.standing refusal.Stranger)
     (next_by_near (fate_of s.standing ticket.period (judgement program work.outcome).verdict) s.config moment s.standing s.notes _)
     (near_none s.standing 1)
 
-finished_under_near : (s : Situation) (moment : ℕ) (work : JudgedData) (ticket : Option OpenTicket) → DecidesNear s.standing (finished_under s moment work ticket)
+finished_under_near : (s : Situation) (moment : ℕ) (work : JudgedData) (ticket : Option OpenTicket) → DecidesNear s.standing (finished_under meant s moment work ticket)
 finished_under_near s moment work None = near_none s.standing 1
 finished_under_near s moment work (Some ticket) = finished_by_near s moment ticket work (program_from s.first_version s.programs ticket.version)
 
@@ -115,10 +115,10 @@ released_under_near : (s : Situation) (ticket : Option OpenTicket) → DecidesNe
 released_under_near s None = near_none s.standing 1
 released_under_near s (Some ticket) = near_none s.standing 1
 
-decided_near : (s : Situation) (moment : ℕ) (event : EventData) → DecidesNear s.standing (decided s moment event)
+decided_near : (s : Situation) (moment : ℕ) (event : EventData) → DecidesNear s.standing (decided meant s moment event)
 decided_near s moment acquires = acquired_near s moment
 decided_near s moment (finishes work ticket) =
-    either_near (is_issued s ticket) s.standing (finished_under s moment work (open_ticket s.open_tickets ticket)) (refused s.standing refusal.NoTicket)
+    either_near (is_issued s ticket) s.standing (finished_under meant s moment work (open_ticket s.open_tickets ticket)) (refused s.standing refusal.NoTicket)
     (finished_under_near s moment work (open_ticket s.open_tickets ticket)) (near_none s.standing 1)
 decided_near s moment (releases ticket) =
     either_near (is_issued s ticket) s.standing (released_under s (open_ticket s.open_tickets ticket)) (refused s.standing refusal.NoTicket)
@@ -129,7 +129,7 @@ decided_near s moment (installs program) =
 decided_near s moment (moves to) = near_one to moment s.standing
 decided_near s moment resets = near_one state.Closed moment s.standing
 
-at_moment_near : (test : Bool) (s : Situation) (moment : ℕ) (event : EventData) → IsNear s.standing (decided (if test then in_state state.Open moment s else s) moment event).next 2
+at_moment_near : (test : Bool) (s : Situation) (moment : ℕ) (event : EventData) → IsNear s.standing (decided meant (if test then in_state state.Open moment s else s) moment event).next 2
 at_moment_near true s moment event =
     let near = decided_near (in_state state.Open moment s) moment event in
     record { least = omega (arith, near.least); most = omega (arith, near.most); same = λ e. absurd (omega (arith, e, near.least)) }
@@ -137,12 +137,12 @@ at_moment_near false s moment event =
     let near = decided_near s moment event in
     record { least = omega (arith, near.least); most = omega (arith, near.most); same = near.same }
 
-full_near : (test : Bool) (s : Situation) (moment : ℕ) (event : EventData) → IsNear s.standing (if test then refused s.standing refusal.JournalFull else decided (at_moment s moment) moment event).next 2
+full_near : (test : Bool) (s : Situation) (moment : ℕ) (event : EventData) → IsNear s.standing (if test then refused s.standing refusal.JournalFull else decided meant (at_moment s moment) moment event).next 2
 full_near true s moment event = near_none s.standing 2
 full_near false s moment event = at_moment_near (overstays s moment) s moment event
 
 pub decision_near : (s : Situation) (moment : ℕ) (event : EventData) → IsNear s.standing (decision s moment event).next 2
-unfolding decision
+unfolding decision_by
 decision_near s moment event = full_near (is_full s event) s moment event
 
 -- ---- what the reply can be
@@ -274,7 +274,7 @@ unignored true false verdict.Ignored e = absurd (not_recorded fate.Ignored e (in
 unignored true false verdict.Success e = refl
 unignored true false verdict.Failure e = refl
 
-finished_by_shape : (s : Situation) (moment : ℕ) (t : OpenTicket) (work : JudgedData) (ticket : ℕ) (program : Option VerifiedProgram) → program_from s.first_version s.programs t.version ≡ program → is_open s.open_tickets ticket ≡ true → open_ticket s.open_tickets ticket ≡ Some t → Shape s (finishes work ticket) (finished_by s moment t work program)
+finished_by_shape : (s : Situation) (moment : ℕ) (t : OpenTicket) (work : JudgedData) (ticket : ℕ) (program : Option VerifiedProgram) → program_from s.first_version s.programs t.version ≡ program → is_open s.open_tickets ticket ≡ true → open_ticket s.open_tickets ticket ≡ Some t → Shape s (finishes work ticket) (finished_by meant s moment t work program)
 finished_by_shape s moment t work ticket None held there found = unentered_shape s (finishes work ticket) s.standing refusal.Stranger refl
 finished_by_shape s moment t work ticket (Some program) held there found =
     let j : Judgement = judgement program work.outcome in
@@ -287,13 +287,13 @@ finished_by_shape s moment t work ticket (Some program) held there found =
     (λ e. unentered_shape s (finishes work ticket) s.standing refusal.Stranger refl)
 
 finished_under_shape : (s : Situation) (moment : ℕ) (work : JudgedData) (ticket : ℕ) (found : Option OpenTicket)
-    → (nat_lt (most_entries - 1) (used s) && not (is_open s.open_tickets ticket)) ≡ false → open_ticket s.open_tickets ticket ≡ found → Shape s (finishes work ticket) (finished_under s moment work found)
+    → (nat_lt (most_entries - 1) (used s) && not (is_open s.open_tickets ticket)) ≡ false → open_ticket s.open_tickets ticket ≡ found → Shape s (finishes work ticket) (finished_under meant s moment work found)
 finished_under_shape s moment work ticket None full e = refused_shape s (finishes work ticket) s.standing refusal.TicketSpent (closed_room s ticket full (lost_closed s.open_tickets ticket e))
 finished_under_shape s moment work ticket (Some t) full e = finished_by_shape s moment t work ticket (program_from s.first_version s.programs t.version) refl (found_open s.open_tickets ticket t e) e
 
-finished_shape : (s : Situation) (moment : ℕ) (work : JudgedData) (ticket : ℕ) → (nat_lt (most_entries - 1) (used s) && not (is_open s.open_tickets ticket)) ≡ false → OpenAreIssued s → Shape s (finishes work ticket) (finished s moment work ticket)
+finished_shape : (s : Situation) (moment : ℕ) (work : JudgedData) (ticket : ℕ) → (nat_lt (most_entries - 1) (used s) && not (is_open s.open_tickets ticket)) ≡ false → OpenAreIssued s → Shape s (finishes work ticket) (finished meant s moment work ticket)
 finished_shape s moment work ticket full issued =
-    either_shape (is_issued s ticket) s (finishes work ticket) (finished_under s moment work (open_ticket s.open_tickets ticket)) (refused s.standing refusal.NoTicket)
+    either_shape (is_issued s ticket) s (finishes work ticket) (finished_under meant s moment work (open_ticket s.open_tickets ticket)) (refused s.standing refusal.NoTicket)
     (λ e. finished_under_shape s moment work ticket (open_ticket s.open_tickets ticket) full refl)
     (λ e. refused_shape s (finishes work ticket) s.standing refusal.NoTicket (closed_room s ticket full (unissued_closed s ticket issued e)))
 
@@ -315,7 +315,7 @@ installed_shape s program room =
     (λ e. unentered_shape s (installs program) s.standing refusal.VersionsFull refl)
     (λ e. takes_in program (s.first_version + length s.programs) program.budget refl refl (leb-false most_versions (length s.programs - s.dropped) e) room)
 
-decided_shape : (s : Situation) (moment : ℕ) (event : EventData) → is_full s event ≡ false → OpenAreIssued s → Shape s event (decided s moment event)
+decided_shape : (s : Situation) (moment : ℕ) (event : EventData) → is_full s event ≡ false → OpenAreIssued s → Shape s event (decided meant s moment event)
 decided_shape s moment acquires full issued = acquired_shape s moment (ltb-false (most_entries - 2) (used s) full)
 decided_shape s moment (finishes work ticket) full issued = finished_shape s moment work ticket full issued
 decided_shape s moment (releases ticket) full issued = released_shape s ticket full issued
@@ -345,15 +345,15 @@ after_expiry s moment event d near (lets_go ticket st e r there) = lets_go ticke
 after_expiry s moment event d near (takes_in program version budget e r less room) = takes_in program version budget e r less room
 after_expiry s moment event d near (turns st period e room) = turns st period e room
 
-by_stay : (test : Bool) (s : Situation) (moment : ℕ) (event : EventData) → is_full s event ≡ false → OpenAreIssued s → Shape s event (decided (if test then in_state state.Open moment s else s) moment event)
+by_stay : (test : Bool) (s : Situation) (moment : ℕ) (event : EventData) → is_full s event ≡ false → OpenAreIssued s → Shape s event (decided meant (if test then in_state state.Open moment s else s) moment event)
 by_stay true s moment event full issued =
-    after_expiry s moment event (decided (in_state state.Open moment s) moment event) (decided_near (in_state state.Open moment s) moment event)
+    after_expiry s moment event (decided meant (in_state state.Open moment s) moment event) (decided_near (in_state state.Open moment s) moment event)
     (decided_shape (in_state state.Open moment s) moment event (full_in_open s moment event full) issued)
 by_stay false s moment event full issued = decided_shape s moment event full issued
 
 pub decision_shape : (s : Situation) (moment : ℕ) (event : EventData) → OpenAreIssued s → Shape s event (decision s moment event)
-unfolding decision
+unfolding decision_by
 decision_shape s moment event issued =
-    either_shape (is_full s event) s event (refused s.standing refusal.JournalFull) (decided (at_moment s moment) moment event)
+    either_shape (is_full s event) s event (refused s.standing refusal.JournalFull) (decided meant (at_moment s moment) moment event)
     (λ e. unentered_shape s event s.standing refusal.JournalFull refl)
     (λ e. by_stay (overstays s moment) s moment event e issued)

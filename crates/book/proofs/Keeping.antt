@@ -1,5 +1,5 @@
 -- Every legal history stays sound with one line more.
-use Rattle.std.proofs.Common.{◌≡◌, ℕ, ◌+◌, ◌-◌, ◌^◌, ◌≤◌, ◌<◌, ◌==◌, nat_le, nat_lt, ◌&&◌, ◌||◌, not, Bool, true, false, List, [], ◌∷◌, ◌++◌, length, Option, Some, None, option_to_list, arith, refl, ap, sym, ◌∙◌, subst, length-append, append-nil}
+use Rattle.std.proofs.Common.{◌≡◌, ℕ, ◌+◌, ◌-◌, ◌≤◌, ◌<◌, ◌==◌, nat_le, nat_lt, ◌&&◌, ◌||◌, not, Bool, true, false, List, [], ◌∷◌, ◌++◌, length, Option, Some, None, option_to_list, arith, refl, ap, sym, ◌∙◌, subst, length-append, append-nil}
 use Rattle.std.specs.List.{filter, AllByRecursion}
 use Rattle.std.proofs.lemmas.Bool.{le-leb, lt-ltb}
 use Rattle.std.proofs.lemmas.Bool.Decides.{Decides-eqb}
@@ -275,7 +275,7 @@ ticket_periods_step past line sound follows =
     subst (λ (ts : List OpenTicket). AllByRecursion test ts) (sym (tickets_there past line sound follows)) all
 
 some_permitted : (past : Past) → IsSound past → 1 ≤ past.opening.config.permitted_number_of_calls_in_half_open_state
-some_permitted past sound = within_least 1 10000 past.opening.config.permitted_number_of_calls_in_half_open_state (ranges (2 ^ 40) past.opening.config sound.opening.config).permitted
+some_permitted past sound = within_least 1 10000 past.opening.config.permitted_number_of_calls_in_half_open_state (ranges past.opening.config sound.opening.config).permitted
 
 permissions_step : (past : Past) (line : EntryData) → IsSound past → Follows past line → is_half_open (next_standing past line).state ≡ true
     → permissions_held (next_standing past line).period (open_of (passed past line).stages) + length (notes_of (passed past line)) ≤ past.opening.config.permitted_number_of_calls_in_half_open_state

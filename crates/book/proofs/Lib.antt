@@ -6,6 +6,7 @@ pub mod Meaning
 pub mod SafeEvents
 pub mod Passing
 pub mod Planned
+pub mod Finds
 pub mod Permissions
 pub mod Held
 pub mod Versions
@@ -16,6 +17,7 @@ pub mod Effected
 pub mod Applying
 pub mod Openings
 pub mod Worlds
+pub mod Courses
 pub mod Cuts
 pub mod Lawful
 pub mod Seats

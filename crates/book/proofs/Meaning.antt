@@ -45,7 +45,7 @@ found_there keep (t ∷ tickets) number u e = kept_head t u (keep t) tickets (fi
 
 -- ---- later versions and tickets change nothing
 
-later_held : (test : Bool) (programs more : List VerifiedProgram) (place : ℕ) (program : VerifiedProgram) → (if test then slice_get programs place else None) ≡ Some program → (if test then slice_get (programs ++ more) place else None) ≡ Some program
+pub later_held : (test : Bool) (programs more : List VerifiedProgram) (place : ℕ) (program : VerifiedProgram) → (if test then slice_get programs place else None) ≡ Some program → (if test then slice_get (programs ++ more) place else None) ≡ Some program
 later_held true programs more place program e = still_there programs more place program e
 later_held false programs more place program e = e
 

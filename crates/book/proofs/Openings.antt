@@ -19,7 +19,6 @@ use Rattle.service_profile.specs.Configuration.{bad_field}
 use Rattle.service_profile.specs.Histories.{Past, opened, past_of, situation_of, raised, refused_of, next_line, IsLegal}
 use Rattle.book.specs.Sound.{IsSound}
 use Rattle.book.proofs.Applying.{same_opening, stage_count}
-use Rattle.book.proofs.Configured.{in_range}
 
 pub sound_opened : (opening : Opening) (rolled : Rolled) → IsOpening opening → IsSafeProgram opening.program → IsSound (opened rolled opening)
 sound_opened opening rolled good program = record {
@@ -42,7 +41,7 @@ sound_opened opening rolled good program = record {
 
 pub is_first : (config : ConfigParts) (program : VerifiedProgram) → bad_field config ≡ None → IsOpening (first_opening config program)
 is_first config program good = record {
-  config = in_range config good;
+  config = good;
   version = omega arith;
   first_version = omega arith;
   period = omega arith;

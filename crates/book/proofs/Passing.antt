@@ -123,7 +123,7 @@ listed_step numbers o number =
     ∙ not_or (is_listed numbers number) (is_listed (option_to_list o) number)
     ∙ ap (λ (b : Bool). not (is_listed numbers number) && not b) (listed_or_number o number)
 
-unlisted : (bound : ℕ) (numbers : List ℕ) → AllByRecursion (λ number. number < bound) numbers → is_listed numbers bound ≡ false
+pub unlisted : (bound : ℕ) (numbers : List ℕ) → AllByRecursion (λ number. number < bound) numbers → is_listed numbers bound ≡ false
 unlisted bound [] h = refl
 unlisted bound (n ∷ numbers) h = rw (eqb_false_after bound n h.0) (unlisted bound numbers h.1)
 

@@ -79,7 +79,7 @@ held_after_end period tickets n = ap (permissions_held period) (append-nil (filt
 
 -- ---- which replies make no note
 
-note_refused : (config : ConfigParts) (moment : ℕ) (event : EventData) (number : RefusalNumber) → note_by config moment event (reply.Refused number) ≡ None
+pub note_refused : (config : ConfigParts) (moment : ℕ) (event : EventData) (number : RefusalNumber) → note_by config moment event (reply.Refused number) ≡ None
 note_refused config moment acquires number = refl
 note_refused config moment (finishes work ticket) number = refl
 note_refused config moment (releases ticket) number = refl
@@ -87,7 +87,7 @@ note_refused config moment (installs program) number = refl
 note_refused config moment (moves to) number = refl
 note_refused config moment resets number = refl
 
-note_moved : (config : ConfigParts) (moment : ℕ) (event : EventData) (s : State) (period : ℕ) → note_by config moment event (reply.Moved s period) ≡ None
+pub note_moved : (config : ConfigParts) (moment : ℕ) (event : EventData) (s : State) (period : ℕ) → note_by config moment event (reply.Moved s period) ≡ None
 note_moved config moment acquires s period = refl
 note_moved config moment (finishes work ticket) s period = refl
 note_moved config moment (releases ticket) s period = refl

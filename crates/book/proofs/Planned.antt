@@ -18,7 +18,7 @@ use Rattle.service_profile.specs.Rates.{after_notes}
 use Rattle.service_profile.specs.declared.standings.Standing.{Standing}
 use Rattle.service_profile.specs.declared.tickets.OpenTicket.{OpenTicket}
 use Rattle.service_profile.specs.Events.{EventData, acquires, finishes, releases, installs, moves, resets}
-use Rattle.service_profile.specs.Machine.{Situation, refused, permission_in, permissions_held, admitted, acquired, current_version, judged_as, fate_of, note_of, next_by, finished_reply, concluded, same_program, program_from, is_issued, open_ticket, finished, finished_by, finished_under, released, installed, is_full, decided, at_moment, decision}
+use Rattle.service_profile.specs.Machine.{Situation, refused, permission_in, permissions_held, admitted, acquired, current_version, judged_as, fate_of, note_of, next_by, finished_reply, concluded, same_program, program_from, is_issued, open_ticket, finished, finished_by, finished_under, released, installed, is_full, decided, at_moment, decision, meant, decision_by}
 use Rattle.book.specs.declared.plans.Plan.{Plan}
 use Rattle.book.specs.Effects.{planned, permitted_plan, refused_plan, reported_plan}
 
@@ -44,11 +44,11 @@ found_number [] number ticket e = let bad : ◌≡◌ {A = Option OpenTicket} No
 found_number (t ∷ tickets) number ticket e = found_head t ticket number (t.number == number) (open_ticket tickets number) refl (found_number tickets number ticket) e
 
 pub finished_under_plan : (s : Situation) (moment : ℕ) (work : JudgedData) (number : ℕ) (ticket : OpenTicket) (plan : Plan) → is_issued s number ≡ true → open_ticket s.open_tickets number ≡ Some ticket
-    → plan ≡ planned s.config moment (finishes work ticket.number) (finished_under s moment work (Some ticket))
-    → plan ≡ planned s.config moment (finishes work number) (finished s moment work number)
+    → plan ≡ planned s.config moment (finishes work ticket.number) (finished_under meant s moment work (Some ticket))
+    → plan ≡ planned s.config moment (finishes work number) (finished meant s moment work number)
 finished_under_plan s moment work number ticket plan issued found e =
-    let decided : finished s moment work number ≡ finished_under s moment work (Some ticket) = rw (issued, found) refl in
-    e ∙ ap (λ (n : ℕ). planned s.config moment (finishes work n) (finished_under s moment work (Some ticket))) (found_number s.open_tickets number ticket found) ∙ ap (planned s.config moment (finishes work number)) (sym decided)
+    let decided : finished meant s moment work number ≡ finished_under meant s moment work (Some ticket) = rw (issued, found) refl in
+    e ∙ ap (λ (n : ℕ). planned s.config moment (finishes work n) (finished_under meant s moment work (Some ticket))) (found_number s.open_tickets number ticket found) ∙ ap (planned s.config moment (finishes work number)) (sym decided)
 
 -- ---- what is planned of a call that asks
 
@@ -110,25 +110,25 @@ verdict_unrecorded s moment ticket work f plan is other e =
 
 -- ---- what is planned under a ticket
 
-pub no_ticket : (s : Situation) (moment : ℕ) (work : JudgedData) (number : ℕ) (plan : Plan) → is_issued s number ≡ false → plan ≡ refused_plan s.standing refusal.NoTicket → plan ≡ planned s.config moment (finishes work number) (finished s moment work number)
+pub no_ticket : (s : Situation) (moment : ℕ) (work : JudgedData) (number : ℕ) (plan : Plan) → is_issued s number ≡ false → plan ≡ refused_plan s.standing refusal.NoTicket → plan ≡ planned s.config moment (finishes work number) (finished meant s moment work number)
 no_ticket s moment work number plan none e =
-    let d : finished s moment work number ≡ refused s.standing refusal.NoTicket = rw none refl in
+    let d : finished meant s moment work number ≡ refused s.standing refusal.NoTicket = rw none refl in
     e ∙ ap (planned s.config moment (finishes work number)) (sym d)
 
 pub ticket_spent : (s : Situation) (moment : ℕ) (work : JudgedData) (number : ℕ) (plan : Plan) → is_issued s number ≡ true → open_ticket s.open_tickets number ≡ None → plan ≡ refused_plan s.standing refusal.TicketSpent
-    → plan ≡ planned s.config moment (finishes work number) (finished s moment work number)
+    → plan ≡ planned s.config moment (finishes work number) (finished meant s moment work number)
 ticket_spent s moment work number plan issued spent e =
-    let d : finished s moment work number ≡ refused s.standing refusal.TicketSpent = rw (issued, spent) refl in
+    let d : finished meant s moment work number ≡ refused s.standing refusal.TicketSpent = rw (issued, spent) refl in
     e ∙ ap (planned s.config moment (finishes work number)) (sym d)
 
 pub no_program : (s : Situation) (moment : ℕ) (work : JudgedData) (ticket : OpenTicket) (plan : Plan) → program_from s.first_version s.programs ticket.version ≡ None → plan ≡ refused_plan s.standing refusal.Stranger
-    → plan ≡ planned s.config moment (finishes work ticket.number) (finished_under s moment work (Some ticket))
-no_program s moment work ticket plan none e = e ∙ ap (λ (p : Option VerifiedProgram). planned s.config moment (finishes work ticket.number) (finished_by s moment ticket work p)) (sym none)
+    → plan ≡ planned s.config moment (finishes work ticket.number) (finished_under meant s moment work (Some ticket))
+no_program s moment work ticket plan none e = e ∙ ap (λ (p : Option VerifiedProgram). planned s.config moment (finishes work ticket.number) (finished_by meant s moment ticket work p)) (sym none)
 
 pub of_stranger : (s : Situation) (moment : ℕ) (work : JudgedData) (ticket : OpenTicket) (program : VerifiedProgram) (plan : Plan) → same_program work.program program ≡ false → plan ≡ refused_plan s.standing refusal.Stranger
-    → plan ≡ planned s.config moment (finishes work ticket.number) (finished_by s moment ticket work (Some program))
+    → plan ≡ planned s.config moment (finishes work ticket.number) (finished_by meant s moment ticket work (Some program))
 of_stranger s moment work ticket program plan other e =
-    let d : finished_by s moment ticket work (Some program) ≡ refused s.standing refusal.Stranger = rw other refl in
+    let d : finished_by meant s moment ticket work (Some program) ≡ refused s.standing refusal.Stranger = rw other refl in
     e ∙ ap (planned s.config moment (finishes work ticket.number)) (sym d)
 
 pub release_of_none : (s : Situation) (moment number : ℕ) (plan : Plan) → is_issued s number ≡ false → plan ≡ refused_plan s.standing refusal.NoTicket → plan ≡ planned s.config moment (releases number) (released s number)
@@ -167,13 +167,13 @@ version_given s moment program count version budget standing is few v b same =
 -- ---- what is planned of any event
 
 pub full_plan : (s : Situation) (moment : ℕ) (event : EventData) (plan : Plan) → is_full s event ≡ true → plan ≡ refused_plan s.standing refusal.JournalFull → plan ≡ planned s.config moment event (decision s moment event)
-unfolding decision
+unfolding decision_by
 full_plan s moment event plan full e =
     e ∙ refused_planned s.config moment event s.standing refusal.JournalFull
-    ∙ ap (λ (b : Bool). planned s.config moment event (if b then refused s.standing refusal.JournalFull else decided (at_moment s moment) moment event)) (sym full)
+    ∙ ap (λ (b : Bool). planned s.config moment event (if b then refused s.standing refusal.JournalFull else decided meant (at_moment s moment) moment event)) (sym full)
 
-pub decided_plan : (s : Situation) (moment : ℕ) (event : EventData) (plan : Plan) → is_full s event ≡ false → at_moment s moment ≡ s → plan ≡ planned s.config moment event (decided s moment event) → plan ≡ planned s.config moment event (decision s moment event)
-unfolding decision
-decided_plan s moment event plan full same e =
-    e ∙ ap (λ (t : Situation). planned s.config moment event (decided t moment event)) (sym same)
-    ∙ ap (λ (b : Bool). planned s.config moment event (if b then refused s.standing refusal.JournalFull else decided (at_moment s moment) moment event)) (sym full)
+pub decided_plan : (s : Situation) (moment : ℕ) (event : EventData) (plan : Plan) → is_full s event ≡ false → plan ≡ planned s.config moment event (decided meant (at_moment s moment) moment event) → plan ≡ planned s.config moment event (decision s moment event)
+unfolding decision_by
+decided_plan s moment event plan full e =
+    e
+    ∙ ap (λ (b : Bool). planned s.config moment event (if b then refused s.standing refusal.JournalFull else decided meant (at_moment s moment) moment event)) (sym full)

@@ -12,7 +12,7 @@ use Rattle.service_profile.specs.Limits.{most_entries, most_versions}
 use Rattle.service_profile.specs.Events.{EventData, acquires, finishes, releases, installs, moves, resets, EntryData, Rolled, History, rolled_to}
 use Rattle.service_profile.specs.Answers.{answer, taken_up_to}
 use Rattle.service_profile.specs.Histories.{Past, situation_of, machine, raised, opened, passed, past_of, Follows, AreLegal, IsLegal}
-use Rattle.service_profile.specs.Machine.{Situation, refused, in_state, overstays, at_moment, installed, decided, decision, is_full, is_open, is_entered}
+use Rattle.service_profile.specs.Machine.{Situation, refused, in_state, overstays, at_moment, installed, decided, decision, is_full, is_open, is_entered, meant, decision_by}
 use Rattle.book.specs.Rolling.{IsFurther, with_rolled, endless_answer}
 
 -- ---- one decision
@@ -21,7 +21,7 @@ abbrev pub holding : ℕ → Situation → Situation
 holding n s = record s { held = n }
 
 decided_holding : (test : Bool) (n : ℕ) (s : Situation) (moment : ℕ) (event : EventData)
-    → decided (if test then in_state state.Open moment (holding n s) else holding n s) moment event ≡ decided (if test then in_state state.Open moment s else s) moment event
+    → decided meant (if test then in_state state.Open moment (holding n s) else holding n s) moment event ≡ decided meant (if test then in_state state.Open moment s else s) moment event
 decided_holding true n s moment acquires = refl
 decided_holding true n s moment (finishes work ticket) = refl
 decided_holding true n s moment (releases ticket) = refl
@@ -58,9 +58,9 @@ chosen false false refusing a b f e = inr e
 -- with fewer lines held the decision is the same, unless the journal was full
 pub decision_holding : (n : ℕ) (s : Situation) (moment : ℕ) (event : EventData) → n ≤ s.held
     → (decision s moment event ≡ refused s.standing refusal.JournalFull) ⊎ (decision (holding n s) moment event ≡ decision s moment event)
-unfolding decision
+unfolding decision_by
 decision_holding n s moment event le =
-    chosen (is_full s event) (is_full (holding n s) event) (refused s.standing refusal.JournalFull) (decided (at_moment (holding n s) moment) moment event) (decided (at_moment s moment) moment event)
+    chosen (is_full s event) (is_full (holding n s) event) (refused s.standing refusal.JournalFull) (decided meant (at_moment (holding n s) moment) moment event) (decided meant (at_moment s moment) moment event)
     (full_holding n s event le) (decided_holding (overstays s moment) n s moment event)
 
 -- ---- programs that were dropped
@@ -85,8 +85,8 @@ installed_dropping n s program le =
     (record { reply = reply.Installed (s.first_version + length s.programs) program.budget; next = s.standing }) refl (fewer_held (length s.programs) n s.dropped le)
 
 decided_dropping : (test : Bool) (n : ℕ) (s : Situation) (moment : ℕ) (event : EventData) → s.dropped ≤ n
-    → SaysFull (decided (if test then in_state state.Open moment s else s) moment event)
-    ⊎ (decided (if test then in_state state.Open moment (dropping n s) else dropping n s) moment event ≡ decided (if test then in_state state.Open moment s else s) moment event)
+    → SaysFull (decided meant (if test then in_state state.Open moment s else s) moment event)
+    ⊎ (decided meant (if test then in_state state.Open moment (dropping n s) else dropping n s) moment event ≡ decided meant (if test then in_state state.Open moment s else s) moment event)
 decided_dropping true n s moment acquires le = inr refl
 decided_dropping true n s moment (finishes work ticket) le = inr refl
 decided_dropping true n s moment (releases ticket) le = inr refl
@@ -117,9 +117,9 @@ whether_full false true refusing a b same e = let bad : ◌≡◌ {A = Bool} tru
 -- with more programs dropped the decision is the same, unless the list of versions was full
 pub decision_dropping : (n : ℕ) (s : Situation) (moment : ℕ) (event : EventData) → s.dropped ≤ n
     → SaysFull (decision s moment event) ⊎ (decision (dropping n s) moment event ≡ decision s moment event)
-unfolding decision
+unfolding decision_by
 decision_dropping n s moment event le =
-    whether_full (is_full s event) (is_full (dropping n s) event) (refused s.standing refusal.JournalFull) (decided (at_moment (dropping n s) moment) moment event) (decided (at_moment s moment) moment event)
+    whether_full (is_full s event) (is_full (dropping n s) event) (refused s.standing refusal.JournalFull) (decided meant (at_moment (dropping n s) moment) moment event) (decided meant (at_moment s moment) moment event)
     (full_dropping n s event) (decided_dropping (overstays s moment) n s moment event le)
 
 -- ---- both

@@ -1,5 +1,5 @@
 -- After a roll of all entries no event meets a full journal.
-use Rattle.std.proofs.Common.{◌≡◌, ℕ, suc, ◌+◌, ◌-◌, ◌^◌, ◌≤◌, ◌<◌, nat_le, ◌&&◌, not, Bool, true, false, if◌then◌else◌, Option, Some, None, [], length, arith, refl, ap, sym, ◌∙◌, subst}
+use Rattle.std.proofs.Common.{◌≡◌, ℕ, suc, ◌+◌, ◌-◌, ◌≤◌, ◌<◌, nat_le, ◌&&◌, not, Bool, true, false, if◌then◌else◌, Option, Some, None, [], length, arith, refl, ap, sym, ◌∙◌, subst}
 use Rattle.std.proofs.lemmas.Bool.{le-ltb, lt-leb}
 use Rattle.bpf_profile.specs.JudgedWork.{JudgedData}
 use Rattle.bpf_profile.specs.Programs.{VerifiedProgram}
@@ -15,8 +15,8 @@ use Rattle.service_profile.specs.declared.states.State.TheVariants as state
 use Rattle.service_profile.specs.Answers.{answer, least_version, least_needed, count_unneeded, taken_up_to, rolled_up_to}
 use Rattle.service_profile.specs.Events.{EventData, acquires, finishes, releases, installs, moves, resets, Rolled, History}
 use Rattle.service_profile.specs.Histories.{Past, past_of, situation_of, programs_of, raised, IsLegal}
-use Rattle.service_profile.specs.Machine.{Situation, refused, in_state, overstays, at_moment, is_full, is_open, used, is_issued, open_ticket, program_from, same_program, placed, admitted, permission_in, permissions_held, concluded, finished_by, finished_under, released_under, current_version, decided, decision}
-use Rattle.service_profile.specs.Verdicts.{judgement}
+use Rattle.service_profile.specs.Machine.{Situation, Judging, refused, in_state, overstays, at_moment, is_full, is_open, used, is_issued, open_ticket, program_from, same_program, placed, admitted, permission_in, permissions_held, concluded, finished_by, finished_under, released_under, current_version, decided, decision, meant, decision_by}
+use Rattle.book.specs.Interleavings.{replied, lacks_memory}
 use Rattle.book.specs.Rolling.{with_rolled, rolled_whole, versions_needed}
 use Rattle.book.specs.Sound.{IsSound}
 use Rattle.book.proofs.Applying.{stage_count, same_rolled}
@@ -36,14 +36,14 @@ roomy s (installs program) le = le-ltb (most_entries - 1) (used s) (omega (arith
 roomy s (moves to) le = le-ltb (most_entries - 1) (used s) (omega (arith, le))
 roomy s resets le = le-ltb (most_entries - 1) (used s) (omega (arith, le))
 
--- ---- where there is room, no event is answered that there is none
+-- ---- where there is room, no event is answered that there is none; nor is one refused for want of memory, however work is judged
 
 abbrev says_full : Reply → Bool
 says_full (reply.Refused refusal.JournalFull) = true
 says_full other = false
 
 abbrev IsOther : Decision → Type 0
-IsOther d = says_full d.reply ≡ false
+IsOther d = (says_full d.reply ≡ false) × (lacks_memory (replied d.reply) ≡ false)
 
 either : (test : Bool) (d e : Decision) → IsOther d → IsOther e → IsOther (if test then d else e)
 either true d e f g = f
@@ -52,47 +52,57 @@ either false d e f g = g
 placed_other : (s : Situation) (standing : Standing) → IsOther (placed s standing)
 placed_other s standing =
     either (nat_le s.config.max_concurrent_calls (length s.open_tickets)) (refused standing refusal.BulkheadFull)
-    (record { reply = reply.Permitted s.next_ticket (current_version s) standing.state; next = standing }) refl refl
+    (record { reply = reply.Permitted s.next_ticket (current_version s) standing.state; next = standing }) (refl, refl) (refl, refl)
 
 admitted_other : (s : Situation) (permission : Permission) → IsOther (admitted s permission)
 admitted_other s permission =
-    either permission.given (placed s permission.standing) (refused permission.standing refusal.CallNotPermitted) (placed_other s permission.standing) refl
+    either permission.given (placed s permission.standing) (refused permission.standing refusal.CallNotPermitted) (placed_other s permission.standing) (refl, refl)
 
-finished_by_other : (s : Situation) (moment : ℕ) (ticket : OpenTicket) (work : JudgedData) (program : Option VerifiedProgram) → IsOther (finished_by s moment ticket work program)
-finished_by_other s moment ticket work None = refl
-finished_by_other s moment ticket work (Some program) =
-    either (same_program work.program program) (concluded s moment ticket work.outcome (judgement program work.outcome)) (refused s.standing refusal.Stranger) refl refl
+finished_by_other : (judging : Judging) (s : Situation) (moment : ℕ) (ticket : OpenTicket) (work : JudgedData) (program : Option VerifiedProgram) → IsOther (finished_by judging s moment ticket work program)
+finished_by_other judging s moment ticket work None = (refl, refl)
+finished_by_other judging s moment ticket work (Some program) =
+    either (same_program work.program program) (concluded s moment ticket work.outcome (judging program work)) (refused s.standing refusal.Stranger) (refl, refl) (refl, refl)
 
-finished_under_other : (s : Situation) (moment : ℕ) (work : JudgedData) (ticket : Option OpenTicket) → IsOther (finished_under s moment work ticket)
-finished_under_other s moment work None = refl
-finished_under_other s moment work (Some ticket) = finished_by_other s moment ticket work (program_from s.first_version s.programs ticket.version)
+finished_under_other : (judging : Judging) (s : Situation) (moment : ℕ) (work : JudgedData) (ticket : Option OpenTicket) → IsOther (finished_under judging s moment work ticket)
+finished_under_other judging s moment work None = (refl, refl)
+finished_under_other judging s moment work (Some ticket) = finished_by_other judging s moment ticket work (program_from s.first_version s.programs ticket.version)
 
 released_under_other : (s : Situation) (ticket : Option OpenTicket) → IsOther (released_under s ticket)
-released_under_other s None = refl
-released_under_other s (Some ticket) = refl
+released_under_other s None = (refl, refl)
+released_under_other s (Some ticket) = (refl, refl)
 
-decided_other : (s : Situation) (moment : ℕ) (event : EventData) → IsOther (decided s moment event)
-decided_other s moment acquires = admitted_other s (permission_in s.standing.state s.config s.standing (length s.notes) (permissions_held s.standing.period s.open_tickets) moment)
-decided_other s moment (finishes work ticket) =
-    either (is_issued s ticket) (finished_under s moment work (open_ticket s.open_tickets ticket)) (refused s.standing refusal.NoTicket)
-    (finished_under_other s moment work (open_ticket s.open_tickets ticket)) refl
-decided_other s moment (releases ticket) =
+decided_other : (judging : Judging) (s : Situation) (moment : ℕ) (event : EventData) → IsOther (decided judging s moment event)
+decided_other judging s moment acquires = admitted_other s (permission_in s.standing.state s.config s.standing (length s.notes) (permissions_held s.standing.period s.open_tickets) moment)
+decided_other judging s moment (finishes work ticket) =
+    either (is_issued s ticket) (finished_under judging s moment work (open_ticket s.open_tickets ticket)) (refused s.standing refusal.NoTicket)
+    (finished_under_other judging s moment work (open_ticket s.open_tickets ticket)) (refl, refl)
+decided_other judging s moment (releases ticket) =
     either (is_issued s ticket) (released_under s (open_ticket s.open_tickets ticket)) (refused s.standing refusal.NoTicket)
-    (released_under_other s (open_ticket s.open_tickets ticket)) refl
-decided_other s moment (installs program) =
+    (released_under_other s (open_ticket s.open_tickets ticket)) (refl, refl)
+decided_other judging s moment (installs program) =
     either (nat_le most_versions (length s.programs - s.dropped)) (refused s.standing refusal.VersionsFull)
-    (record { reply = reply.Installed (s.first_version + length s.programs) program.budget; next = s.standing }) refl refl
-decided_other s moment (moves to) = refl
-decided_other s moment resets = refl
+    (record { reply = reply.Installed (s.first_version + length s.programs) program.budget; next = s.standing }) (refl, refl) (refl, refl)
+decided_other judging s moment (moves to) = (refl, refl)
+decided_other judging s moment resets = (refl, refl)
 
 decision_other : (s : Situation) (moment : ℕ) (event : EventData) → is_full s event ≡ false → IsOther (decision s moment event)
-unfolding decision
+unfolding decision_by
 decision_other s moment event room =
-    subst (λ (b : Bool). IsOther (if b then refused s.standing refusal.JournalFull else decided (at_moment s moment) moment event)) (sym room)
-    (decided_other (at_moment s moment) moment event)
+    subst (λ (b : Bool). IsOther (if b then refused s.standing refusal.JournalFull else decided meant (at_moment s moment) moment event)) (sym room)
+    (decided_other meant (at_moment s moment) moment event)
 
 not_full : (r : Reply) → says_full r ≡ false → r ≡ reply.Refused refusal.JournalFull → ⊥
 not_full r other e = let bad : ◌≡◌ {A = Bool} false true = sym other ∙ ap says_full e in cc
+
+full_or_other : (test : Bool) (standing : Standing) (d : Decision) → lacks_memory (replied d.reply) ≡ false → lacks_memory (replied (if test then refused standing refusal.JournalFull else d).reply) ≡ false
+full_or_other true standing d other = refl
+full_or_other false standing d other = other
+
+-- the machine refuses nothing for want of memory
+pub decision_has_memory : (judging : Judging) (s : Situation) (moment : ℕ) (event : EventData) → lacks_memory (replied (decision_by judging s moment event).reply) ≡ false
+unfolding decision_by
+decision_has_memory judging s moment event =
+    full_or_other (is_full s event) s.standing (decided judging (at_moment s moment) moment event) (decided_other judging (at_moment s moment) moment event).1
 
 -- ---- a history
 
@@ -100,7 +110,7 @@ roomy_after : (history : History) (event : EventData) → IsLegal history → Is
 roomy_after history event legal sound there =
     let past : Past = past_of history in
     let all : Rolled = record { lines = length history.lines; programs = history.rolled.programs } in
-    let few = few_places (2 ^ 40) past.opening.config sound.opening.config in
+    let few = few_places past.opening.config sound.opening.config in
     ap (λ (p : Past). is_full (situation_of p) event) (rolled_legal history all legal (record { lines = there; programs = omega arith })).1
     ∙ roomy (situation_of (with_rolled all past)) event (omega (arith, few, sound.places, stage_count history.opening history.lines history.rolled))
 
@@ -109,7 +119,7 @@ pub rolled_roomy : (history : History) (moment : ℕ) (event : EventData) → Is
 rolled_roomy history moment event legal sound there =
     let past : Past = past_of (rolled_whole history) in
     not_full (answer (rolled_whole history) moment event).reply
-    (decision_other (situation_of past) (raised past moment) event (roomy_after history event legal sound there))
+    (decision_other (situation_of past) (raised past moment) event (roomy_after history event legal sound there)).0
 
 -- ---- versions
 
@@ -118,7 +128,7 @@ installed_other true standing version budget room e = let bad : ◌≡◌ {A = B
 installed_other false standing version budget room e = let bad : ◌≡◌ {A = Reply} (reply.Installed version budget) (reply.Refused refusal.VersionsFull) = e in cc
 
 late_or_not : (test : Bool) (s : Situation) (moment : ℕ) (program : VerifiedProgram) → length s.programs - s.dropped < most_versions
-    → (decided (if test then in_state state.Open moment s else s) moment (installs program)).reply ≡ reply.Refused refusal.VersionsFull → ⊥
+    → (decided meant (if test then in_state state.Open moment s else s) moment (installs program)).reply ≡ reply.Refused refusal.VersionsFull → ⊥
 late_or_not true s moment program few e =
     installed_other (nat_le most_versions (length s.programs - s.dropped)) (in_state state.Open moment s).standing (s.first_version + length s.programs) program.budget (lt-leb most_versions (length s.programs - s.dropped) few) e
 late_or_not false s moment program few e =
@@ -129,9 +139,9 @@ full_or_not true standing d other e = let bad : ◌≡◌ {A = Reply} (reply.Ref
 full_or_not false standing d other e = other e
 
 few_install : (s : Situation) (moment : ℕ) (program : VerifiedProgram) → length s.programs - s.dropped < most_versions → (decision s moment (installs program)).reply ≡ reply.Refused refusal.VersionsFull → ⊥
-unfolding decision
+unfolding decision_by
 few_install s moment program few e =
-    full_or_not (is_full s (installs program)) s.standing (decided (at_moment s moment) moment (installs program)) (late_or_not (overstays s moment) s moment program few) e
+    full_or_not (is_full s (installs program)) s.standing (decided meant (at_moment s moment) moment (installs program)) (late_or_not (overstays s moment) s moment program few) e
 
 pub versions_roomy : (history : History) (last moment : ℕ) (program : VerifiedProgram) → IsLegal history → versions_needed (situation_of (past_of history)) < most_versions
     → (answer (rolled_up_to history last) moment (installs program)).reply ≡ reply.Refused refusal.VersionsFull → ⊥

@@ -11,17 +11,17 @@ use Rattle.refusals.specs.declared.RefusalNumber.{RefusalNumber}
 use Rattle.refusals.specs.declared.RefusalNumber.TheVariants as refusal
 use Rattle.bpf_profile.specs.Programs.{VerifiedProgram}
 use Rattle.service_profile.specs.declared.decisions.Decision.{Decision}
+use Rattle.service_profile.specs.declared.replies.Reply.{Reply}
 use Rattle.service_profile.specs.declared.tickets.OpenTicket.{OpenTicket}
 use Rattle.service_profile.specs.declared.states.State.TheVariants as state
-use Rattle.service_profile.specs.Answers.{looked_up, looked_under, looked, last_of, current_program, is_past_the_limit, is_worn_out, is_some_open, reopened, cut, roll, taken_up_to}
-use Rattle.service_profile.specs.Events.{EventData, acquires, finishes, releases, installs, moves, resets, EntryData, Opening, Rolled, nothing_rolled}
-use Rattle.service_profile.specs.Histories.{Past, past_of, situation_of, machine, raised, greatest, next_line, install_at, Follows}
-use Rattle.book.specs.Interleavings.{carried_by, carried_under, carried_finish, carried, Hands, World, Step, acquire, look, judge, finish, release, install, move, reset, read, cut_off, roll_up_to, Turn, Memory, ample, wanting, starved, turned_with, turned, written, entered_by, answered, happens, holding, with_program, with_work, looking, work_of, judging, finishing, cutting, rolling, taken, Act, preceded, course, begun, IsStep, AreSteps, AreHands, IsWorld}
-use Rattle.service_profile.specs.Machine.{Situation, decision, refused, is_full, in_state, overstays, at_moment, is_issued, open_ticket, program_from, same_program, bytes_of, judged_as, concluded, finished_by, finished_under, finished, is_entered, current_version}
+use Rattle.service_profile.specs.Answers.{answer_by, with_line, line_of, IsAppliedBy, as_documented, out_of_memory, IsApplied, looked_up, looked_under, IsLooked, looks, no_owner, last_of, current_program, is_past_the_limit, is_worn_out, is_some_open, reopened, cut, after_cut, IsCut, cuts, no_room, roll, after_roll, taken_up_to, IsRolled, rolls}
+use Rattle.service_profile.specs.Events.{EventData, acquires, finishes, releases, installs, moves, resets, EntryData, line, Opening, Rolled, nothing_rolled, History}
+use Rattle.service_profile.specs.Histories.{Past, past_of, situation_of, programs_of, machine, raised, greatest, next_line, install_at, Follows, IsLegal}
+use Rattle.book.specs.Interleavings.{Hands, World, Step, acquire, look, judge, finish, release, install, move, reset, read, page, cut_off, roll_up_to, Given, replied, found, shown, handed, nothing, IsEventTaken, holding, with_found, work_of, with_judged, IsFinish, IsTaken, Act, IsCourse, begun, IsStep, AreSteps, AreHands, IsWorld}
+use Rattle.service_profile.specs.Machine.{Situation, Judging, meant, carried, decision_by, refused, is_full, in_state, overstays, at_moment, is_issued, open_ticket, program_from, same_program, bytes_of, concluded, finished_by, finished_under, finished, is_entered, current_version}
 use Rattle.book.specs.Safe.{IsSafeProgram, AreSafePrograms, IsJudged, IsSafeEvent}
 use Rattle.service_profile.specs.Openings.{IsOpening}
 use Rattle.book.specs.Sound.{IsSound}
-use Rattle.service_profile.specs.Verdicts.{judgement}
 use Rattle.book.specs.Rolling.{IsFurther, with_rolled}
 use Rattle.book.proofs.Applying.{legal_step, past_with, same_rolled}
 use Rattle.book.proofs.Rolled.{rolled_legal, roll_goes_further}
@@ -31,68 +31,111 @@ use Rattle.book.proofs.Lists.{all_append, got}
 use Rattle.book.proofs.Openings.{sound_opened, legal_opened}
 use Rattle.book.proofs.SafeEvents.{Safely, safe_program, acquire_safe, release_safe, move_safe, reset_safe, install_safe, finish_safe}
 
--- ---- verdicts
+-- ---- verdicts: what judged work carries is what the meaning says
 
-pub same_slots_there : (a b : VerifiedProgram) → IsSafeProgram a → IsSafeProgram b → same_program a b ≡ true → a.slots ≡ b.slots
+same_slots_there : (a b : VerifiedProgram) → IsSafeProgram a → IsSafeProgram b → same_program a b ≡ true → a.slots ≡ b.slots
 same_slots_there a b p q e =
     slots_by_bytes a b (bytes_of a) (bytes_of b) (record { program = p.program_there; text = refl }) (record { program = q.program_there; text = refl })
     ((bytes_eq-Decides (bytes_of a) (bytes_of b)).0 e)
 
 same_answer : (s : Situation) (moment : ℕ) (ticket : OpenTicket) (work : JudgedData) (program : VerifiedProgram) (same : Bool) → same_program work.program program ≡ same → IsJudged work → IsSafeProgram program
-    → (if same then concluded s moment ticket work.outcome (judged_as work) else refused s.standing refusal.Stranger)
-    ≡ (if same then concluded s moment ticket work.outcome (judgement program work.outcome) else refused s.standing refusal.Stranger)
+    → (if same then concluded s moment ticket work.outcome (carried program work) else refused s.standing refusal.Stranger)
+    ≡ (if same then concluded s moment ticket work.outcome (meant program work) else refused s.standing refusal.Stranger)
 same_answer s moment ticket work program true e judged_ accepted_ =
     let slots = same_slots_there work.program program judged_.program accepted_ e in
     let same = judgement_by_slots program work.program.slots work.outcome work.verdict work.steps slots accepted_.safe judged_.outcome judged_.tied in
     ap (concluded s moment ticket work.outcome) (sym same)
 same_answer s moment ticket work program false e judged_ accepted_ = refl
 
-carried_by_is : (s : Situation) (moment : ℕ) (ticket : OpenTicket) (work : JudgedData) (program : Option VerifiedProgram) → ((p : VerifiedProgram) → program ≡ Some p → IsSafeProgram p) → IsJudged work
-    → carried_by s moment ticket work program ≡ finished_by s moment ticket work program
-carried_by_is s moment ticket work None all judged_ = refl
-carried_by_is s moment ticket work (Some program) all judged_ = same_answer s moment ticket work program (same_program work.program program) refl judged_ (all program refl)
+finished_by_same : (s : Situation) (moment : ℕ) (ticket : OpenTicket) (work : JudgedData) (program : Option VerifiedProgram) → ((p : VerifiedProgram) → program ≡ Some p → IsSafeProgram p) → IsJudged work
+    → finished_by carried s moment ticket work program ≡ finished_by meant s moment ticket work program
+finished_by_same s moment ticket work None all judged_ = refl
+finished_by_same s moment ticket work (Some program) all judged_ = same_answer s moment ticket work program (same_program work.program program) refl judged_ (all program refl)
 
-carried_under_is : (s : Situation) (moment : ℕ) (work : JudgedData) (ticket : Option OpenTicket) → AreSafePrograms s.programs → IsJudged work → carried_under s moment work ticket ≡ finished_under s moment work ticket
-carried_under_is s moment work None all judged_ = refl
-carried_under_is s moment work (Some ticket) all judged_ =
-    carried_by_is s moment ticket work (program_from s.first_version s.programs ticket.version) (λ p e. program_safe s.first_version s.programs ticket.version p all e) judged_
+finished_under_same : (s : Situation) (moment : ℕ) (work : JudgedData) (ticket : Option OpenTicket) → AreSafePrograms s.programs → IsJudged work → finished_under carried s moment work ticket ≡ finished_under meant s moment work ticket
+finished_under_same s moment work None all judged_ = refl
+finished_under_same s moment work (Some ticket) all judged_ =
+    finished_by_same s moment ticket work (program_from s.first_version s.programs ticket.version) (λ p e. program_safe s.first_version s.programs ticket.version p all e) judged_
 
-carried_finish_is : (s : Situation) (moment : ℕ) (work : JudgedData) (ticket : ℕ) → AreSafePrograms s.programs → IsJudged work → carried_finish s moment work ticket ≡ finished s moment work ticket
-carried_finish_is s moment work ticket all judged_ =
-    ap (λ (d : Decision). if is_issued s ticket then d else refused s.standing refusal.NoTicket) (carried_under_is s moment work (open_ticket s.open_tickets ticket) all judged_)
+finished_same : (s : Situation) (moment : ℕ) (work : JudgedData) (ticket : ℕ) → AreSafePrograms s.programs → IsJudged work → finished carried s moment work ticket ≡ finished meant s moment work ticket
+finished_same s moment work ticket all judged_ =
+    ap (λ (d : Decision). if is_issued s ticket then d else refused s.standing refusal.NoTicket) (finished_under_same s moment work (open_ticket s.open_tickets ticket) all judged_)
 
 at_moment_safe : (test : Bool) (s : Situation) (moment : ℕ) → AreSafePrograms s.programs → AreSafePrograms (if test then in_state state.Open moment s else s).programs
 at_moment_safe true s moment all = all
 at_moment_safe false s moment all = all
 
-pub carried_is : (s : Situation) (moment : ℕ) (work : JudgedData) (ticket : ℕ) → AreSafePrograms s.programs → IsJudged work → carried s moment (finishes work ticket) ≡ decision s moment (finishes work ticket)
-unfolding decision
-carried_is s moment work ticket all judged_ =
+decision_same : (s : Situation) (moment : ℕ) (event : EventData) → AreSafePrograms s.programs → IsSafeEvent event → decision_by carried s moment event ≡ decision_by meant s moment event
+unfolding decision_by
+decision_same s moment (finishes work ticket) all safe_ =
     ap (λ (d : Decision). if is_full s (finishes work ticket) then refused s.standing refusal.JournalFull else d)
-    (carried_finish_is (at_moment s moment) moment work ticket (at_moment_safe (overstays s moment) s moment all) judged_)
+    (finished_same (at_moment s moment) moment work ticket (at_moment_safe (overstays s moment) s moment all) (safe_.judged work ticket refl))
+decision_same s moment acquires all safe_ = refl
+decision_same s moment (releases ticket) all safe_ = refl
+decision_same s moment (installs program) all safe_ = refl
+decision_same s moment (moves to) all safe_ = refl
+decision_same s moment resets all safe_ = refl
+
+-- on safe programs and judged work it decides as the documented machine does
+abbrev pub DecidesAlike : Judging → Type 0
+DecidesAlike judging = (s : Situation) (moment : ℕ) (event : EventData) → AreSafePrograms s.programs → IsSafeEvent event → decision_by judging s moment event ≡ decision_by meant s moment event
+
+pub carried_alike : DecidesAlike carried
+carried_alike = decision_same
+
+pub meant_alike : DecidesAlike meant
+meant_alike s moment event all safe_ = refl
 
 -- ---- an event
 
-entered_world : (w : World) (actor moment : ℕ) (event : EventData) (entered : Bool) → is_entered (machine (past_of w.history) (raised (past_of w.history) moment) event).reply ≡ entered → IsWorld w → moment < 2 ^ 64 → actor < 2 ^ 32 → IsSafeEvent event
-    → IsWorld (entered_by entered w (written w.history actor moment event (machine (past_of w.history) (raised (past_of w.history) moment) event).reply))
-entered_world w actor moment event false e whole word seat safe_ = whole
-entered_world w actor moment event true e whole word seat safe_ =
-    let past : Past = past_of w.history in
-    let line : EntryData = written w.history actor moment event (machine past (raised past moment) event).reply in
-    let follows : Follows past line = record { numbered = refl; raises = le-max_right moment (greatest past); replied = refl; entered = e } in
-    let bound : raised past moment ≤ 18446744073709551615 = max-le (omega (arith, word)) (omega (arith, whole.sound.moment)) in
-    record {
-      legal = legal_step w.history.opening w.history.lines w.history.rolled line whole.legal follows;
-      sound = subst (λ (p : Past). IsSound p) (sym (past_with w.history.opening w.history.lines w.history.rolled line)) (sound_step past line whole.sound follows (record { word = omega (arith, bound); seat = seat; event = safe_ }));
-      hands = entered_hands w line true whole.hands;
-    }
-  where
-    entered_hands : (w : World) (line : EntryData) (b : Bool) → ((actor : ℕ) → AreHands (w.hands actor)) → (actor : ℕ) → AreHands ((entered_by b w line).hands actor)
-    entered_hands w line true h = h
-    entered_hands w line false h = h
+applied_same : (one other : Judging) (history : History) (seat moment : ℕ) (event : EventData) (r : Reply) (after : History) → answer_by one history moment event ≡ answer_by other history moment event
+    → IsAppliedBy one history seat moment event r after → IsAppliedBy other history seat moment event r after
+applied_same one other history seat moment event r after same (as_documented is leads) =
+    as_documented (is ∙ ap (λ (d : Decision). d.reply) same)
+    (leads ∙ ap (λ (d : Decision). if is_entered d.reply then with_line history (line (next_line (past_of history)) seat event (raised (past_of history) moment) d.reply) else history) same)
+applied_same one other history seat moment event r after same (out_of_memory is entered stays) = out_of_memory is (ap (λ (d : Decision). is_entered d.reply) (sym same) ∙ entered) stays
 
-pub event_world : (w : World) (actor moment : ℕ) (event : EventData) → IsWorld w → moment < 2 ^ 64 → actor < 2 ^ 32 → IsSafeEvent event → IsWorld (happens decision w actor moment event).world
-event_world w actor moment event whole word seat safe_ = entered_world w actor moment event (is_entered (machine (past_of w.history) (raised (past_of w.history) moment) event).reply) refl whole word seat safe_
+-- a legal and sound history
+pub record IsKept (history : History) : Type 0 where
+  pub legal : IsLegal history
+  pub sound : IsSound (past_of history)
+
+entered_kept : (history : History) (seat moment : ℕ) (event : EventData) (entered : Bool) → is_entered (machine (past_of history) (raised (past_of history) moment) event).reply ≡ entered → IsKept history → moment < 2 ^ 64 → seat < 2 ^ 32 → IsSafeEvent event
+    → IsKept (if entered then with_line history (line_of history seat moment event) else history)
+entered_kept history seat moment event false e kept word bits safe_ = kept
+entered_kept history seat moment event true e kept word bits safe_ =
+    let past : Past = past_of history in
+    let l : EntryData = line_of history seat moment event in
+    let follows : Follows past l = record { numbered = refl; raises = le-max_right moment (greatest past); replied = refl; entered = e } in
+    let bound : raised past moment ≤ 18446744073709551615 = max-le (omega (arith, word)) (omega (arith, kept.sound.moment)) in
+    record {
+      legal = legal_step history.opening history.lines history.rolled l kept.legal follows;
+      sound = subst (λ (p : Past). IsSound p) (sym (past_with history.opening history.lines history.rolled l)) (sound_step past l kept.sound follows (record { word = omega (arith, bound); seat = bits; event = safe_ }));
+    }
+
+applied_kept : (history : History) (seat moment : ℕ) (event : EventData) (r : Reply) (after : History) → IsKept history → moment < 2 ^ 64 → seat < 2 ^ 32 → IsSafeEvent event → IsApplied history seat moment event r after → IsKept after
+applied_kept history seat moment event r after kept word bits safe_ (as_documented is leads) =
+    subst IsKept (sym leads) (entered_kept history seat moment event (is_entered (machine (past_of history) (raised (past_of history) moment) event).reply) refl kept word bits safe_)
+applied_kept history seat moment event r after kept word bits safe_ (out_of_memory is entered stays) = subst IsKept (sym stays) kept
+
+kept_in : (w : World) → IsWorld w → IsKept w.history
+kept_in w whole = record { legal = whole.legal; sound = whole.sound }
+
+-- where hands stay as they are, the world is as good as its history
+same_hands : (w after : World) → IsWorld w → IsKept after.history → after.hands ≡ w.hands → IsWorld after
+same_hands w after whole kept e = record { legal = kept.legal; sound = kept.sound; hands = λ actor. subst (λ (all : ℕ → Hands). AreHands (all actor)) (sym e) (whole.hands actor) }
+
+answered_well : (one other : Judging) → DecidesAlike one → DecidesAlike other → (w : World) (actor moment : ℕ) (event : EventData) (r : Reply) (after : World)
+    → IsWorld w → moment < 2 ^ 64 → actor < 2 ^ 32 → IsSafeEvent event → IsEventTaken one w actor moment event r after
+    → IsEventTaken other w actor moment event r after × IsWorld after
+answered_well one other p q w actor moment event r after whole word seat safe_ answered =
+    let past : Past = past_of w.history in
+    let mine = p (situation_of past) (raised past moment) event whole.sound.programs safe_ in
+    let theirs = q (situation_of past) (raised past moment) event whole.sound.programs safe_ in
+    let documented = applied_same one meant w.history actor moment event r after.history mine answered.0 in (
+      (applied_same one other w.history actor moment event r after.history (mine ∙ sym theirs) answered.0, answered.1),
+      same_hands w after whole (applied_kept w.history actor moment event r after.history (kept_in w whole) word seat safe_ documented) answered.1,
+    )
 
 -- ---- hands
 
@@ -115,29 +158,24 @@ looked_by : (test : Bool) (s : Situation) (ticket : Option OpenTicket) (program 
 looked_by true s ticket program all e = looked_under_accepted s ticket program all e
 looked_by false s ticket program all e = let bad : ◌≡◌ {A = Result VerifiedProgram RefusalNumber} (Err refusal.NoTicket) (Ok program) = e in cc
 
-looking_world : (w : World) (actor : ℕ) (r : Result VerifiedProgram RefusalNumber) → ((p : VerifiedProgram) → r ≡ Ok p → IsSafeProgram p) → IsWorld w → IsWorld (looking w actor r).world
-looking_world w actor (Ok program) all whole =
-    held_world w actor (with_program (w.hands actor) program) whole
+looked_safe : (history : History) (ticket : ℕ) (result : Result VerifiedProgram RefusalNumber) (program : VerifiedProgram) → AreSafePrograms (programs_of (past_of history)) → IsLooked history ticket result → result ≡ Ok program → IsSafeProgram program
+looked_safe history ticket result program all (looks is) e =
+    let s : Situation = situation_of (past_of history) in
+    looked_by (is_issued s ticket) s (open_ticket s.open_tickets ticket) program all (sym is ∙ e)
+looked_safe history ticket result program all (no_owner other is there) e = let bad : ◌≡◌ {A = Result VerifiedProgram RefusalNumber} (Err refusal.ServiceOutOfMemory) (Ok program) = sym is ∙ e in cc
+
+found_world : (w : World) (actor : ℕ) (result : Result VerifiedProgram RefusalNumber) → ((p : VerifiedProgram) → result ≡ Ok p → IsSafeProgram p) → IsWorld w → IsWorld (with_found w actor result)
+found_world w actor (Ok program) all whole =
+    held_world w actor _ whole
     (record { programs = all_append IsSafeProgram (w.hands actor).programs (program ∷ []) (whole.hands actor).programs (all program refl, tt); works = (whole.hands actor).works })
-looking_world w actor (Err number) all whole = whole
+found_world w actor (Err number) all whole = whole
 
-judging_world : (w : World) (actor : ℕ) (outcome : Outcome) (o : Option VerifiedProgram) → ((p : VerifiedProgram) → o ≡ Some p → IsSafeProgram p) → IsOutcome context_size outcome → IsWorld w → IsWorld (judging w actor outcome o).world
-judging_world w actor outcome None all fits whole = whole
-judging_world w actor outcome (Some program) all fits whole =
+judged_world : (w : World) (actor : ℕ) (outcome : Outcome) (o : Option VerifiedProgram) → ((p : VerifiedProgram) → o ≡ Some p → IsSafeProgram p) → IsOutcome context_size outcome → IsWorld w → IsWorld (with_judged w actor outcome o)
+judged_world w actor outcome None all fits whole = whole
+judged_world w actor outcome (Some program) all fits whole =
     let judged_ : IsJudged (work_of program outcome) = record { program = all program refl; outcome = fits; tied = judgement_judges program outcome (all program refl) fits } in
-    held_world w actor (with_work (w.hands actor) (work_of program outcome)) whole
+    held_world w actor _ whole
     (record { programs = (whole.hands actor).programs; works = all_append IsJudged (w.hands actor).works (work_of program outcome ∷ []) (whole.hands actor).works (judged_, tt) })
-
-finishing_world : (w : World) (actor moment ticket : ℕ) (o : Option JudgedData) → ((work : JudgedData) → o ≡ Some work → IsJudged work) → IsWorld w → moment < 2 ^ 64 → actor < 2 ^ 32 → IsWorld (finishing decision w actor moment ticket o).world
-finishing_world w actor moment ticket None all whole word seat = whole
-finishing_world w actor moment ticket (Some work) all whole word seat = event_world w actor moment (finishes work ticket) whole word seat (finish_safe work ticket (all work refl))
-
-finishing_same : (w : World) (actor moment ticket : ℕ) (o : Option JudgedData) → ((work : JudgedData) → o ≡ Some work → IsJudged work) → IsWorld w → finishing carried w actor moment ticket o ≡ finishing decision w actor moment ticket o
-finishing_same w actor moment ticket None all whole = refl
-finishing_same w actor moment ticket (Some work) all whole =
-    let past : Past = past_of w.history in
-    ap (answered w actor moment (finishes work ticket))
-    (carried_is (situation_of past) (raised past moment) work ticket whole.sound.programs (all work refl))
 
 -- ---- cuts
 
@@ -197,9 +235,14 @@ program_by_cut past false false opening sound f =
 pub cut_program : (past : Past) (opening : Opening) → IsSound past → cut past ≡ Ok opening → IsSafeProgram opening.program
 cut_program past opening sound e = program_by_cut past (is_worn_out past) (is_some_open (situation_of past).open_tickets) opening sound e
 
-cutting_world : (w : World) (r : Result Opening RefusalNumber) → ((o : Opening) → r ≡ Ok o → IsOpening o) → ((o : Opening) → r ≡ Ok o → IsSafeProgram o.program) → IsWorld w → IsWorld (cutting w r).world
-cutting_world w (Ok opening) good safe_ whole = record { legal = legal_opened opening; sound = sound_opened opening nothing_rolled (good opening refl) (safe_ opening refl); hands = whole.hands }
-cutting_world w (Err number) good safe_ whole = whole
+cut_kept : (history : History) (r : Result Opening RefusalNumber) → ((o : Opening) → r ≡ Ok o → IsOpening o) → ((o : Opening) → r ≡ Ok o → IsSafeProgram o.program) → IsKept history → IsKept (after_cut history r)
+cut_kept history (Ok opening) good safe_ kept = record { legal = legal_opened opening; sound = sound_opened opening nothing_rolled (good opening refl) (safe_ opening refl) }
+cut_kept history (Err number) good safe_ kept = kept
+
+cut_world : (history : History) (result : Result (List EntryData) RefusalNumber) (after : History) → IsKept history → IsCut history result after → IsKept after
+cut_world history result after kept (cuts is leads) =
+    subst IsKept (sym leads) (cut_kept history (cut (past_of history)) (λ o e. cut_opening (past_of history) o kept.sound e) (λ o e. cut_program (past_of history) o kept.sound e) kept)
+cut_world history result after kept (no_room opening there is stays) = subst IsKept (sym stays) kept
 
 -- ---- rolls
 
@@ -222,89 +265,56 @@ sound_rolled past rolled sound further = record {
   moment = sound.moment;
 }
 
-rolling_world : (w : World) (last : ℕ) (r : Result (List EntryData) RefusalNumber) → IsWorld w → IsWorld (rolling w last r).world
-rolling_world w last (Err number) whole = whole
-rolling_world w last (Ok lines) whole =
-    let taken_ : Rolled = taken_up_to w.history last in
-    let further = roll_goes_further w.history last in
-    let legal = rolled_legal w.history taken_ whole.legal further in
-    let kept : IsFurther (past_of w.history).rolled taken_ = subst (λ (r : Rolled). IsFurther r taken_) (sym (same_rolled w.history.opening w.history.lines w.history.rolled)) further in
-    record { legal = legal.0; sound = subst (λ (p : Past). IsSound p) (sym legal.1) (sound_rolled (past_of w.history) taken_ whole.sound kept); hands = whole.hands }
+roll_kept : (history : History) (last : ℕ) (r : Result (List EntryData) RefusalNumber) → IsKept history → IsKept (after_roll history last r)
+roll_kept history last (Err number) kept = kept
+roll_kept history last (Ok lines) kept =
+    let taken_ : Rolled = taken_up_to history last in
+    let further = roll_goes_further history last in
+    let legal = rolled_legal history taken_ kept.legal further in
+    let more : IsFurther (past_of history).rolled taken_ = subst (λ (r : Rolled). IsFurther r taken_) (sym (same_rolled history.opening history.lines history.rolled)) further in
+    record { legal = legal.0; sound = subst (λ (p : Past). IsSound p) (sym legal.1) (sound_rolled (past_of history) taken_ kept.sound more) }
 
--- ---- steps
+roll_world : (history : History) (last : ℕ) (result : Result (List EntryData) RefusalNumber) (after : History) → IsKept history → IsRolled history last result after → IsKept after
+roll_world history last result after kept (rolls is leads) = subst IsKept (sym leads) (roll_kept history last (roll history last) kept)
+roll_world history last result after kept (no_room lines there some is stays) = subst IsKept (sym stays) kept
 
-pub step_world : Safely → (w : World) (actor : ℕ) (step : Step) → IsWorld w → actor < 2 ^ 32 → IsStep step → IsWorld (taken decision w actor step).world
-step_world safely w actor (acquire moment) whole seat good = event_world w actor moment acquires whole good seat acquire_safe
-step_world safely w actor (look ticket) whole seat good =
-    looking_world w actor (looked (situation_of (past_of w.history)) ticket)
-    (λ p e. looked_by (is_issued (situation_of (past_of w.history)) ticket) (situation_of (past_of w.history)) (open_ticket (situation_of (past_of w.history)).open_tickets ticket) p whole.sound.programs e) whole
-step_world safely w actor (judge place outcome) whole seat good =
-    judging_world w actor outcome (slice_get (w.hands actor).programs place) (λ p e. got IsSafeProgram (w.hands actor).programs place p (whole.hands actor).programs e) good whole
-step_world safely w actor (finish moment place ticket) whole seat good =
-    finishing_world w actor moment ticket (slice_get (w.hands actor).works place) (λ work e. got IsJudged (w.hands actor).works place work (whole.hands actor).works e) whole good seat
-step_world safely w actor (release moment ticket) whole seat good = event_world w actor moment (releases ticket) whole good seat (release_safe ticket)
-step_world safely w actor (install moment program) whole seat good = event_world w actor moment (installs program) whole good.0 seat (install_safe program (safe_program safely program good.1))
-step_world safely w actor (move moment s) whole seat good = event_world w actor moment (moves s) whole good seat (move_safe s)
-step_world safely w actor (reset moment) whole seat good = event_world w actor moment resets whole good seat reset_safe
-step_world safely w actor (read moment) whole seat good = whole
-step_world safely w actor cut_off whole seat good = cutting_world w (cut (past_of w.history)) (λ o e. cut_opening (past_of w.history) o whole.sound e) (λ o e. cut_program (past_of w.history) o whole.sound e) whole
-step_world safely w actor (roll_up_to last) whole seat good = rolling_world w last (roll w.history last) whole
+-- ---- a step
 
--- for want of memory nothing changes but what judging gives
-turned_world : Safely → (m : Memory) (w : World) (actor : ℕ) (step : Step) → IsWorld w → actor < 2 ^ 32 → IsStep step → IsWorld (turned_with m decision w actor step).world
-turned_world safely ample w actor step whole seat good = step_world safely w actor step whole seat good
-turned_world safely wanting w actor (judge place outcome) whole seat good = step_world safely w actor (judge place outcome) whole seat good
-turned_world safely wanting w actor (acquire moment) whole seat good = whole
-turned_world safely wanting w actor (look ticket) whole seat good = whole
-turned_world safely wanting w actor (finish moment place ticket) whole seat good = whole
-turned_world safely wanting w actor (release moment ticket) whole seat good = whole
-turned_world safely wanting w actor (install moment program) whole seat good = whole
-turned_world safely wanting w actor (move moment s) whole seat good = whole
-turned_world safely wanting w actor (reset moment) whole seat good = whole
-turned_world safely wanting w actor (read moment) whole seat good = whole
-turned_world safely wanting w actor cut_off whole seat good = whole
-turned_world safely wanting w actor (roll_up_to last) whole seat good = whole
+finish_well : (one other : Judging) → DecidesAlike one → DecidesAlike other → (w : World) (actor moment ticket : ℕ) (o : Option JudgedData) (given : Given) (after : World) → IsWorld w → moment < 2 ^ 64 → actor < 2 ^ 32 → ((work : JudgedData) → o ≡ Some work → IsJudged work)
+    → IsFinish one w actor moment ticket o given after → IsFinish other w actor moment ticket o given after × IsWorld after
+finish_well one other p q w actor moment ticket None nothing after whole word seat all is = (is, subst IsWorld (sym is) whole)
+finish_well one other p q w actor moment ticket (Some work) (replied r) after whole word seat all is = answered_well one other p q w actor moment (finishes work ticket) r after whole word seat (finish_safe work ticket (all work refl)) is
+finish_well one other p q w actor moment ticket o given after whole word seat all is = absurd is
 
-step_same : (w : World) (actor : ℕ) (step : Step) → IsWorld w → taken carried w actor step ≡ taken decision w actor step
-step_same w actor (acquire moment) whole = refl
-step_same w actor (look ticket) whole = refl
-step_same w actor (judge place outcome) whole = refl
-step_same w actor (finish moment place ticket) whole = finishing_same w actor moment ticket (slice_get (w.hands actor).works place) (λ work e. got IsJudged (w.hands actor).works place work (whole.hands actor).works e) whole
-step_same w actor (release moment ticket) whole = refl
-step_same w actor (install moment program) whole = refl
-step_same w actor (move moment s) whole = refl
-step_same w actor (reset moment) whole = refl
-step_same w actor (read moment) whole = refl
-step_same w actor cut_off whole = refl
-step_same w actor (roll_up_to last) whole = refl
-
-turned_same : (m : Memory) (w : World) (actor : ℕ) (step : Step) → IsWorld w → turned_with m carried w actor step ≡ turned_with m decision w actor step
-turned_same ample w actor step whole = step_same w actor step whole
-turned_same wanting w actor (judge place outcome) whole = refl
-turned_same wanting w actor (acquire moment) whole = refl
-turned_same wanting w actor (look ticket) whole = refl
-turned_same wanting w actor (finish moment place ticket) whole = ap (starved w) (step_same w actor (finish moment place ticket) whole)
-turned_same wanting w actor (release moment ticket) whole = refl
-turned_same wanting w actor (install moment program) whole = refl
-turned_same wanting w actor (move moment s) whole = refl
-turned_same wanting w actor (reset moment) whole = refl
-turned_same wanting w actor (read moment) whole = refl
-turned_same wanting w actor cut_off whole = refl
-turned_same wanting w actor (roll_up_to last) whole = refl
+taken_well : Safely → (one other : Judging) → DecidesAlike one → DecidesAlike other → (w : World) (actor : ℕ) (step : Step) (given : Given) (after : World) → IsWorld w → actor < 2 ^ 32 → IsStep step → IsTaken one w actor step given after
+    → IsTaken other w actor step given after × IsWorld after
+taken_well safely one other p q w actor (acquire moment) (replied r) after whole seat good is = answered_well one other p q w actor moment acquires r after whole good seat acquire_safe is
+taken_well safely one other p q w actor (look ticket) (found result) after whole seat good is =
+    (is, subst IsWorld (sym is.1) (found_world w actor result (λ p e. looked_safe w.history ticket result p whole.sound.programs is.0 e) whole))
+taken_well safely one other p q w actor (judge place outcome) nothing after whole seat good is =
+    (is, subst IsWorld (sym is) (judged_world w actor outcome (slice_get (w.hands actor).programs place) (λ p e. got IsSafeProgram (w.hands actor).programs place p (whole.hands actor).programs e) good whole))
+taken_well safely one other p q w actor (finish moment place ticket) given after whole seat good is =
+    finish_well one other p q w actor moment ticket (slice_get (w.hands actor).works place) given after whole good seat (λ work e. got IsJudged (w.hands actor).works place work (whole.hands actor).works e) is
+taken_well safely one other p q w actor (release moment ticket) (replied r) after whole seat good is = answered_well one other p q w actor moment (releases ticket) r after whole good seat (release_safe ticket) is
+taken_well safely one other p q w actor (install moment program) (replied r) after whole seat good is = answered_well one other p q w actor moment (installs program) r after whole good.0 seat (install_safe program (safe_program safely program good.1)) is
+taken_well safely one other p q w actor (move moment s) (replied r) after whole seat good is = answered_well one other p q w actor moment (moves s) r after whole good seat (move_safe s) is
+taken_well safely one other p q w actor (reset moment) (replied r) after whole seat good is = answered_well one other p q w actor moment resets r after whole good seat reset_safe is
+taken_well safely one other p q w actor (read moment) (shown now) after whole seat good is = (is, subst IsWorld (sym is.1) whole)
+taken_well safely one other p q w actor (page from) (handed lines) after whole seat good is = (is, subst IsWorld (sym is.1) whole)
+taken_well safely one other p q w actor cut_off (handed lines) after whole seat good is = (is, same_hands w after whole (cut_world w.history lines after.history (kept_in w whole) is.0) is.1)
+taken_well safely one other p q w actor (roll_up_to last) (handed lines) after whole seat good is = (is, same_hands w after whole (roll_world w.history last lines after.history (kept_in w whole) is.0) is.1)
+taken_well safely one other p q w actor step given after whole seat good is = absurd is
 
 -- ---- lists of steps
 
-pub course_same : Safely → (w : World) (acts : List Act) → IsWorld w → AreSteps acts → course carried w acts ≡ course decision w acts
-unfolding course
-course_same safely w [] whole good = refl
-course_same safely w (act ∷ acts) whole good =
-    ap (λ (t : Turn). preceded t.given (course carried t.world acts)) (turned_same act.memory w act.actor act.step whole)
-    ∙ ap (preceded (turned decision w act).given) (course_same safely (turned decision w act).world acts (turned_world safely act.memory w act.actor act.step whole good.0.0 good.0.1) good.1)
-
-pub course_world : Safely → (w : World) (acts : List Act) → IsWorld w → AreSteps acts → IsWorld (course decision w acts).world
-unfolding course
-course_world safely w [] whole good = whole
-course_world safely w (act ∷ acts) whole good = course_world safely (turned decision w act).world acts (turned_world safely act.memory w act.actor act.step whole good.0.0 good.0.1) good.1
+pub course_well : Safely → (one other : Judging) → DecidesAlike one → DecidesAlike other → (w : World) (acts : List Act) (given : List Given) (after : World) → IsWorld w → AreSteps acts → IsCourse one w acts given after
+    → IsCourse other w acts given after × IsWorld after
+course_well safely one other p q w [] [] after whole good is = (is, subst IsWorld (sym is) whole)
+course_well safely one other p q w (act ∷ acts) (first ∷ more) after whole good is =
+    let step = taken_well safely one other p q w act.actor act.step first is.0 whole good.0.0 good.0.1 is.1 in
+    let rest = course_well safely one other p q is.0 acts more after step.1 good.1 is.2 in
+    ((is.0, step.0, rest.0), rest.1)
+course_well safely one other p q w acts given after whole good is = absurd is
 
 pub begun_world : (opening : Opening) → IsOpening opening → IsSafeProgram opening.program → IsWorld (begun opening)
 begun_world opening good program = record { legal = legal_opened opening; sound = sound_opened opening nothing_rolled good program; hands = λ actor. record { programs = tt; works = tt } }

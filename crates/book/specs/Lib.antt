@@ -3,6 +3,7 @@ pub mod Sound
 pub mod Following
 pub mod Effects
 pub mod Situations
+pub mod Finding
 pub mod Interleavings
 pub mod Laws
 pub mod Books

@@ -1,6 +1,6 @@
 //! Laws of the documented machine, of its histories, and of all that workers and operators may do in
 //! any order.
-ghost use Rattle.std.specs.Prelude.{◌≡◌, ◌≢◌, ◌≤◌, ◌<◌, ◌+◌, ◌⊎◌, ◌++◌, ℕ, suc, List, [], length, drop, Some, None, Ok, true, false, slice_get};
+ghost use Rattle.std.specs.Prelude.{◌≡◌, ◌≢◌, ◌≤◌, ◌<◌, ◌+◌, ◌⊎◌, ◌↔◌, ◌++◌, ℕ, suc, List, [], map, length, drop, Some, None, Ok, true, false, slice_get};
 ghost use Rattle.std.specs.List.{AllByRecursion};
 ghost use Rattle.bpf_profile.specs.declared.machine.Verdict.TheVariants as verdict;
 ghost use Rattle.bpf_profile.specs.Limits.{context_size};
@@ -13,11 +13,11 @@ ghost use Rattle.service_profile.specs.declared.replies.Reply.TheVariants as rep
 ghost use Rattle.service_profile.specs.declared.states.State.{State};
 ghost use Rattle.service_profile.specs.Events.{EntryData, EventData, Opening, Rolled, History, installs, rolled_to};
 ghost use Rattle.service_profile.specs.Histories.{Stage, past_of, situation_of, programs_of, issued, open_of, ended, notes_of, is_listed, note_by, Follows, IsLegal};
-ghost use Rattle.book.specs.Interleavings.{Act, AreSteps, IsWorld, carried, course, begun};
+ghost use Rattle.book.specs.Interleavings.{World, Given, Act, AreSteps, IsCourse, lacks_memory, HaveMemory, IsWorld, begun};
 ghost use Rattle.book.specs.Laws.{IsService, HasMeantNote};
 ghost use Rattle.book.specs.Rolling.{IsFurther, with_rolled, rolled_whole, versions_needed, endless_answer, Ask, heard, history_after, without_rolls, NeverFull, PagesAreHeld, pieces};
 ghost use Rattle.service_profile.specs.Limits.{most_versions};
-ghost use Rattle.service_profile.specs.Machine.{decision, refused, is_open, permissions_held};
+ghost use Rattle.service_profile.specs.Machine.{Judging, carried, meant, refused, is_open, permissions_held};
 ghost use Rattle.service_profile.specs.Answers.{answer, held_lines, cut, rolled_up_to};
 ghost use Rattle.book.specs.Safe.{IsVerifiedProgram, AreSafePrograms};
 ghost use Rattle.service_profile.specs.Openings.{IsOpening};
@@ -37,12 +37,15 @@ pub fn judgements_are_the_meaning()
 }
 
 /// The headline, the half about answers: for every list of atomic steps of workers and operators on a
-/// service, from a good opening on, each answer that the world gives, on the verdicts that judged work
-/// carries, is the documented machine's, on the verdicts that the meaning gives for the version of each
-/// ticket. Steps that were refused for want of memory stand in the list too. What an operator installs
-/// is verified: decoding, flow and the analysis accept its bytes.
+/// service, from a good opening on, what the steps may give on the verdicts that judged work carries is just
+/// what the documented machine may give on the verdicts that the meaning gives for the version of each ticket.
+/// On the meaning's verdicts each step gives, and leaves, what the clause of its call says (`Book::apply`,
+/// `look`, `read`, `page`, `cut`, `roll`), by the very relations that these clauses cite; want of memory is a
+/// case of them. So what the code does is said by the calls' clauses, and this law says that they hold in any
+/// order, for any actors, and that to take the verdict off the work that is brought, as the code does, comes to
+/// the same. `judge`, `read`, and a step that is refused with no entry want no memory. What an operator installs is verified: decoding, flow and the analysis accept its bytes.
 pub fn interleavings_are_documented()
-    ensures { (opening : Opening) (acts : List Act) → IsOpening opening → IsVerifiedProgram opening.program → AreSteps acts → course carried (begun opening) acts ≡ course decision (begun opening) acts }
+    ensures { (opening : Opening) (acts : List Act) (given : List Given) (after : World) → IsOpening opening → IsVerifiedProgram opening.program → AreSteps acts → IsCourse carried (begun opening) acts given after ↔ IsCourse meant (begun opening) acts given after }
 {
     accepted_programs_are_safe();
 }
@@ -52,10 +55,24 @@ pub fn interleavings_are_documented()
 /// finished call carries the meaning's verdict for the version of its ticket, and so does all work that
 /// was judged.
 pub fn interleavings_are_legal()
-    ensures { (opening : Opening) (acts : List Act) → IsOpening opening → IsVerifiedProgram opening.program → AreSteps acts → IsWorld (course carried (begun opening) acts).world }
+    ensures { (opening : Opening) (acts : List Act) (given : List Given) (after : World) → IsOpening opening → IsVerifiedProgram opening.program → AreSteps acts → IsCourse meant (begun opening) acts given after → IsWorld after }
 {
     accepted_programs_are_safe();
 }
+
+/// Neither half is empty: whatever verdicts are taken, every list of steps can be taken to its end from every
+/// world, and no step of it has to be refused for want of memory.
+pub fn interleavings_go_on()
+    ensures { (judging : Judging) (world : World) (acts : List Act) → (given : List Given) × (after : World) × IsCourse judging world acts given after × HaveMemory given }
+{}
+
+/// What steps give is settled, but for want of memory: by which steps are refused for it. Two times that a list of
+/// steps is taken from the same world, and the same of them are refused for want of memory, all others give the
+/// same, and the world is the same in the end. So a step that isn't refused for want of memory gives what the
+/// machine answers, whatever else is refused.
+pub fn answers_are_settled()
+    ensures { (judging : Judging) (world : World) (acts : List Act) (given other : List Given) (after end : World) → IsCourse judging world acts given after → IsCourse judging world acts other end → map lacks_memory given ≡ map lacks_memory other → (given ≡ other) × (after ≡ end) }
+{}
 
 /// What every legal history keeps.
 pub fn legal_histories_are_sound()

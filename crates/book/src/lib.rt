@@ -6,6 +6,7 @@ mod books;
 mod changes;
 mod cutting;
 mod events;
+mod found;
 pub mod laws;
 mod machine;
 mod paging;

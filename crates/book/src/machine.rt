@@ -2,14 +2,16 @@
 //! effects. Each step is the documented machine's, in any situation that the service's parts stand for.
 ghost use Rattle.std.specs.Prelude.{◌≡◌, ◌+◌, ◌<◌, ◌≤◌, ◌^◌, ℕ, true, Some};
 ghost use Rattle.service_profile.specs.Events.{EventData, acquires, finishes, releases, installs, moves, resets};
-ghost use Rattle.service_profile.specs.Machine.{Situation, judged_as, acquired, same_program, fate_of, note_of, concluded, finished, finished_by, finished_under, released, installed, moved_to, is_full, decided, decision, is_entered, is_entered_refusal};
+ghost use Rattle.service_profile.specs.Machine.{Situation, judged_as, acquired, same_program, fate_of, note_of, concluded, finished, finished_by, finished_under, released, installed, moved_to, is_full, decided, decision, is_entered, is_entered_refusal, meant};
 ghost use Rattle.windows.specs.Notes.{AreNotAfter};
 ghost use Rattle.book.specs.Effects.{permitted_plan, planned, reported_plan};
 ghost use Rattle.book.specs.Seen.{seen};
 ghost use Rattle.book.specs.Situations.{HasSituation, StandsFor};
+ghost use Rattle.book.specs.Finding.{IsFoundAs, HasFound};
 
-use crate::changes::{know_config, know_program, know_work};
+use crate::changes::{know_program, know_work};
 use crate::events::Event;
+use crate::found::FoundService;
 use crate::plans::{Effects, Plan};
 use crate::service::Service;
 use bpf_profile::Verdict;
@@ -42,37 +44,23 @@ fn permitted(standing: Standing, ticket: OpenTicket) -> Plan
 }
 
 /// The breaker is asked first, then the bulkhead.
-fn acquired(service: &Service, moment: u64) -> Plan
-    requires { HasSituation service.now }
-    ensures { (held : ℕ) (s : Situation) → StandsFor service.now held s → result ≡ planned s.config moment acquires (acquired s moment) }
+fn acquired(found: &FoundService<'_>, moment: u64) -> Plan
+    requires { HasFound found.now }
+    ensures { (held : ℕ) (s : Situation) → IsFoundAs found.now held s → result ≡ planned s.config moment acquires (acquired s moment) }
 {
-    let permission = service.permission(moment);
+    let permission = found.permission(moment);
     if !permission.given {
         return Plan::refused(permission.standing, RefusalNumber::CallNotPermitted);
     }
-    if service.is_taken() {
+    if found.is_taken() {
         return Plan::refused(permission.standing, RefusalNumber::BulkheadFull);
     }
     let ticket = OpenTicket {
-        number: service.next_ticket(),
-        version: service.current_version(),
+        number: found.next_ticket(),
+        version: found.current_version(),
         period: permission.standing.period,
     };
     permitted(permission.standing, ticket)
-}
-
-/// What becomes of a verdict under a ticket of a period.
-fn fate_of(standing: Standing, period: u64, verdict: Verdict) -> Fate
-    ensures { result ≡ fate_of standing period verdict }
-{
-    if period != standing.period {
-        return Fate::Stale;
-    }
-    match (standing.state, verdict) {
-        (State::Disabled, _) => Fate::Off,
-        (_, Verdict::Ignored) => Fate::Ignored,
-        _ => Fate::Recorded,
-    }
 }
 
 /// The note of a verdict.
@@ -119,18 +107,18 @@ fn reported(
 }
 
 /// The answer under a ticket to work that its program judged.
-fn concluded(service: &Service, moment: u64, ticket: OpenTicket, judged: &Judged) -> Plan
-    requires { HasSituation service.now }
-    ensures { (held : ℕ) (s : Situation) → StandsFor service.now held s → AreNotAfter moment s.notes → result ≡ planned s.config moment (finishes judged.now ticket.number) (concluded s moment ticket judged.now.outcome (judged_as judged.now)) }
+fn concluded(found: &FoundService<'_>, moment: u64, ticket: OpenTicket, judged: &Judged) -> Plan
+    requires { HasFound found.now }
+    ensures { (held : ℕ) (s : Situation) → IsFoundAs found.now held s → AreNotAfter moment s.notes → result ≡ planned s.config moment (finishes judged.now ticket.number) (concluded s moment ticket judged.now.outcome (judged_as judged.now)) }
 {
-    let standing = service.standing();
+    let standing = found.standing();
     let verdict = judged.verdict();
-    let fate = fate_of(standing, ticket.period, verdict);
+    let fate = standing.fate_of(ticket.period, verdict);
     match fate {
         Fate::Recorded => {
-            let parts = service.config.parts();
+            let parts = found.parts();
             let note = note_of(&parts, moment, verdict, judged.outcome());
-            let next = service.after_note(note);
+            let next = found.after_note(note);
             reported(ticket, judged, fate, Some(note), next)
         }
         _ => reported(ticket, judged, fate, None, standing),
@@ -147,58 +135,63 @@ fn same_program(left: &Verified, right: &Verified) -> bool
 
 /// The answer under a ticket whose version has this program.
 fn finished_by(
-    service: &Service,
+    found: &FoundService<'_>,
     moment: u64,
     ticket: OpenTicket,
     judged: &Judged,
     program: &Verified,
 ) -> Plan
-    requires { HasSituation service.now }
-    ensures { (held : ℕ) (s : Situation) → StandsFor service.now held s → AreNotAfter moment s.notes → result ≡ planned s.config moment (finishes judged.now ticket.number) (finished_by s moment ticket judged.now (Some program.now)) }
+    requires { HasFound found.now }
+    ensures { (held : ℕ) (s : Situation) → IsFoundAs found.now held s → AreNotAfter moment s.notes → result ≡ planned s.config moment (finishes judged.now ticket.number) (finished_by meant s moment ticket judged.now (Some program.now)) }
 {
     // That the program is safe and the record is one makes the verdict the only one.
     know_program(program);
     know_work(judged);
     if !same_program(judged.program(), program) {
-        return Plan::refused(service.standing(), RefusalNumber::Stranger);
+        return Plan::refused(found.standing(), RefusalNumber::Stranger);
     }
-    concluded(service, moment, ticket, judged)
+    concluded(found, moment, ticket, judged)
 }
 
 /// The answer under an open ticket, whose version was not dropped.
-fn finished_under(service: &Service, moment: u64, judged: &Judged, ticket: OpenTicket) -> Plan
-    requires { HasSituation service.now }
-    ensures { (held : ℕ) (s : Situation) → StandsFor service.now held s → AreNotAfter moment s.notes → s.first_version + s.dropped ≤ ticket.version → result ≡ planned s.config moment (finishes judged.now ticket.number) (finished_under s moment judged.now (Some ticket)) }
+fn finished_under(
+    found: &FoundService<'_>,
+    moment: u64,
+    judged: &Judged,
+    ticket: OpenTicket,
+) -> Plan
+    requires { HasFound found.now }
+    ensures { (held : ℕ) (s : Situation) → IsFoundAs found.now held s → AreNotAfter moment s.notes → s.first_version + s.dropped ≤ ticket.version → result ≡ planned s.config moment (finishes judged.now ticket.number) (finished_under meant s moment judged.now (Some ticket)) }
 {
-    match service.program(ticket.version) {
-        Some(program) => finished_by(service, moment, ticket, judged, program),
-        None => Plan::refused(service.standing(), RefusalNumber::Stranger),
+    match found.program(ticket.version) {
+        Some(program) => finished_by(found, moment, ticket, judged, program),
+        None => Plan::refused(found.standing(), RefusalNumber::Stranger),
     }
 }
 
 /// The answer to an outcome under a ticket.
-fn finished(service: &Service, moment: u64, judged: &Judged, ticket: u64) -> Plan
-    requires { HasSituation service.now }
-    ensures { (held : ℕ) (s : Situation) → StandsFor service.now held s → AreNotAfter moment s.notes → result ≡ planned s.config moment (finishes judged.now ticket) (finished s moment judged.now ticket) }
+fn finished(found: &FoundService<'_>, moment: u64, judged: &Judged, ticket: u64) -> Plan
+    requires { HasFound found.now }
+    ensures { (held : ℕ) (s : Situation) → IsFoundAs found.now held s → AreNotAfter moment s.notes → result ≡ planned s.config moment (finishes judged.now ticket) (finished meant s moment judged.now ticket) }
 {
-    if !service.is_issued(ticket) {
-        return Plan::refused(service.standing(), RefusalNumber::NoTicket);
+    if !found.is_issued(ticket) {
+        return Plan::refused(found.standing(), RefusalNumber::NoTicket);
     }
-    match service.open_ticket(ticket) {
-        Some(open) => finished_under(service, moment, judged, open),
-        None => Plan::refused(service.standing(), RefusalNumber::TicketSpent),
+    match found.open_ticket(ticket) {
+        Some(open) => finished_under(found, moment, judged, open),
+        None => Plan::refused(found.standing(), RefusalNumber::TicketSpent),
     }
 }
 
 /// The answer to the end of a ticket with no outcome.
-fn released(service: &Service, ticket: u64) -> Plan
-    ensures { (moment : ℕ) (held : ℕ) (s : Situation) → StandsFor service.now held s → result ≡ planned s.config moment (releases ticket) (released s ticket) }
+fn released(found: &FoundService<'_>, ticket: u64) -> Plan
+    ensures { (moment : ℕ) (held : ℕ) (s : Situation) → IsFoundAs found.now held s → result ≡ planned s.config moment (releases ticket) (released s ticket) }
 {
-    let standing = service.standing();
-    if !service.is_issued(ticket) {
+    let standing = found.standing();
+    if !found.is_issued(ticket) {
         return Plan::refused(standing, RefusalNumber::NoTicket);
     }
-    if service.open_ticket(ticket).is_none() {
+    if found.open_ticket(ticket).is_none() {
         return Plan::refused(standing, RefusalNumber::TicketSpent);
     }
     let mut effects = Effects::NONE;
@@ -215,11 +208,11 @@ fn released(service: &Service, ticket: u64) -> Plan
 }
 
 /// The answer to a program.
-fn installed(service: &Service, program: &Verified) -> Plan
-    ensures { (moment : ℕ) (held : ℕ) (s : Situation) → StandsFor service.now held s → result ≡ planned s.config moment (installs program.now) (installed s program.now) }
+fn installed(found: &FoundService<'_>, program: &Verified) -> Plan
+    ensures { (moment : ℕ) (held : ℕ) (s : Situation) → IsFoundAs found.now held s → result ≡ planned s.config moment (installs program.now) (installed s program.now) }
 {
-    let standing = service.standing();
-    if service.version_count() >= MOST_VERSIONS {
+    let standing = found.standing();
+    if found.version_count() >= MOST_VERSIONS {
         return Plan::refused(standing, RefusalNumber::VersionsFull);
     }
     let mut effects = Effects::NONE;
@@ -227,7 +220,7 @@ fn installed(service: &Service, program: &Verified) -> Plan
     Plan {
         decision: Decision {
             reply: Reply::Installed {
-                version: service.next_version(),
+                version: found.next_version(),
                 budget: program.budget(),
             },
             next: standing,
@@ -237,12 +230,12 @@ fn installed(service: &Service, program: &Verified) -> Plan
 }
 
 /// The answer to a move, which every state allows, or to a reset.
-fn moved_to(service: &Service, moment: u64, state: State) -> Plan
-    requires { HasSituation service.now }
-    ensures moves { (held : ℕ) (s : Situation) → StandsFor service.now held s → result ≡ planned s.config moment (moves state) (moved_to s moment state) }
-    ensures resets { (held : ℕ) (s : Situation) → StandsFor service.now held s → result ≡ planned s.config moment resets (moved_to s moment state) }
+fn moved_to(found: &FoundService<'_>, moment: u64, state: State) -> Plan
+    requires { HasFound found.now }
+    ensures moves { (held : ℕ) (s : Situation) → IsFoundAs found.now held s → result ≡ planned s.config moment (moves state) (moved_to s moment state) }
+    ensures resets { (held : ℕ) (s : Situation) → IsFoundAs found.now held s → result ≡ planned s.config moment resets (moved_to s moment state) }
 {
-    let next = service.standing().moved(state, moment);
+    let next = found.standing().moved(state, moment);
     Plan {
         decision: Decision {
             reply: Reply::Moved {
@@ -272,17 +265,17 @@ fn is_full(service: &Service, held: usize, event: &Event) -> bool
 }
 
 /// What is decided where the journal has room.
-fn decided(service: &Service, moment: u64, event: &Event) -> Plan
-    requires { HasSituation service.now }
-    ensures { (held : ℕ) (s : Situation) → StandsFor service.now held s → AreNotAfter moment s.notes → result ≡ planned s.config moment (seen event.now) (decided s moment (seen event.now)) }
+fn decided(found: &FoundService<'_>, moment: u64, event: &Event) -> Plan
+    requires { HasFound found.now }
+    ensures { (held : ℕ) (s : Situation) → IsFoundAs found.now held s → AreNotAfter moment s.notes → result ≡ planned s.config moment (seen event.now) (decided meant s moment (seen event.now)) }
 {
     match event {
-        Event::Acquire => acquired(service, moment),
-        Event::Finish(judged, ticket) => finished(service, moment, judged, *ticket),
-        Event::Release(ticket) => released(service, *ticket),
-        Event::Install(program) => installed(service, program),
-        Event::Move(state) => moved_to(service, moment, *state),
-        Event::Reset => moved_to(service, moment, State::Closed),
+        Event::Acquire => acquired(found, moment),
+        Event::Finish(judged, ticket) => finished(found, moment, judged, *ticket),
+        Event::Release(ticket) => released(found, *ticket),
+        Event::Install(program) => installed(found, program),
+        Event::Move(state) => moved_to(found, moment, *state),
+        Event::Reset => moved_to(found, moment, State::Closed),
     }
 }
 
@@ -293,11 +286,10 @@ pub(crate) fn decide(service: &Service, held: usize, moment: u64, event: &Event)
     requires held { held < 2 ^ 32 }
     ensures { (s : Situation) → StandsFor service.now held s → AreNotAfter moment s.notes → result ≡ planned s.config moment (seen event.now) (decision s moment (seen event.now)) }
 {
-    know_config(&service.config);
     if is_full(service, held, event) {
         return Plan::refused(service.standing(), RefusalNumber::JournalFull);
     }
-    decided(service, moment, event)
+    decided(&service.at_moment(moment), moment, event)
 }
 
 fn is_entered_refusal(number: RefusalNumber) -> bool

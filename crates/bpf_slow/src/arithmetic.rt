@@ -3,7 +3,7 @@ ghost use Rattle.std.specs.Prelude.{◌≡◌};
 ghost use Rattle.bpf_profile.specs.Machine.{◌>>=◌ as and_then, read_register, number_or, moved_pointer, added_pointer, computed, moved, arithmetic_value, number_value};
 ghost use Rattle.bpf_profile.specs.Words.{negation, moved_signed, converted};
 
-use crate::machine::Machine;
+use crate::machine::PlainMachine;
 use crate::registers::number_or;
 use bpf_profile::{
     ByteOrder, Operand, Operation, Region, Register, Size, TrapReason, Value, Width,
@@ -77,7 +77,7 @@ fn moved(width: Width, value: Value) -> Result<Value, TrapReason>
     }
 }
 
-impl Machine {
+impl PlainMachine {
     /// The operation on the destination and the operand. A move alone doesn't read its destination.
     pub(crate) fn arithmetic_value(
         &self,

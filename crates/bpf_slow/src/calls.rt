@@ -6,7 +6,7 @@ ghost use Rattle.bpf_profile.specs.Helpers.{stack_offset, number_argument, stret
 ghost use Rattle.bpf_slow.specs.Progress.{effect_of_step, answer_with};
 
 use crate::cells::{read_bytes, write_bytes};
-use crate::machine::Machine;
+use crate::machine::PlainMachine;
 use crate::memory::place_of;
 use crate::progress::Progress;
 use crate::registers::number_or;
@@ -45,7 +45,7 @@ fn stack_offset(value: Value) -> Result<u64, TrapReason>
     }
 }
 
-impl Machine {
+impl PlainMachine {
     /// An argument that is a number.
     fn number_argument(&self, register: Register) -> Result<u64, TrapReason>
         ensures { result ≡ number_argument self.now register }

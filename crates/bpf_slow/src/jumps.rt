@@ -4,13 +4,13 @@ ghost use Rattle.bpf_profile.specs.Limits.{most_slots};
 ghost use Rattle.bpf_profile.specs.Machine.{branched, exited};
 ghost use Rattle.bpf_slow.specs.Progress.{effect_of_step};
 
-use crate::machine::Machine;
+use crate::machine::PlainMachine;
 use crate::progress::Progress;
 use crate::registers::number_or;
 use bpf_profile::{Comparison, Operand, Register, TrapReason, Width};
 use bpf_words::{holds, target_of};
 
-impl Machine {
+impl PlainMachine {
     /// Goes to the target where the comparison holds, else to the next slot.
     pub(crate) fn branch(
         &mut self,

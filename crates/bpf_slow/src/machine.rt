@@ -12,13 +12,13 @@ use std::marker::Model;
 /// A slot, eleven registers, and the cells of the stack's offsets from -512 to -1. Contracts see the
 /// state of the definitions.
 #[derive(Drop)]
-pub(crate) struct Machine {
+pub(crate) struct PlainMachine {
     slot: usize,
     registers: [Value; Register::COUNT],
     stack: Vec<Cell>,
 }
 
-impl Model for Machine {
+impl Model for PlainMachine {
     ghost use Rattle.std.specs.Prelude.{◌≡◌, length};
     ghost use Rattle.bpf_profile.specs.Limits.{stack_size};
     ghost use Rattle.bpf_profile.specs.Machine.{State};
@@ -30,16 +30,16 @@ impl Model for Machine {
     ghost invariant = { λ m. length m.stack.items ≡ stack_size };
 }
 
-impl Machine {
+impl PlainMachine {
     /// The state before the first step.
-    pub(crate) fn new(alloc: Global) -> Result<Machine, AllocError>
+    pub(crate) fn new(alloc: Global) -> Result<PlainMachine, AllocError>
         ensures { IfOk result (λ machine. machine ≡ entry) }
     {
         let mut registers = [Value::Unset; Register::COUNT];
         registers[1] = Value::Pointer(Region::Context, 0);
         registers[10] = Value::Pointer(Region::Stack, 0);
         let stack = vec![in alloc; Cell::Unset; STACK_SIZE]?;
-        Ok(Machine {
+        Ok(PlainMachine {
             slot: 0,
             registers,
             stack,

@@ -6,7 +6,7 @@ ghost use Rattle.bpf_profile.specs.Words.{bytes_in};
 ghost use Rattle.bpf_slow.specs.Progress.{effect_of_step};
 
 use crate::cells::{value_of_cells, write_value};
-use crate::machine::Machine;
+use crate::machine::PlainMachine;
 use crate::progress::Progress;
 use bpf_profile::{
     CONTEXT_SIZE, Cell, Extension, Operand, Region, Register, STACK_SIZE, Size, TrapReason, Value,
@@ -87,7 +87,7 @@ fn is_stack(region: Region) -> bool
     matches!(region, Region::Stack)
 }
 
-impl Machine {
+impl PlainMachine {
     /// What stands at a place of a region.
     fn loaded(
         &self,

@@ -2,7 +2,7 @@
 ghost use Rattle.std.specs.Prelude.{◌≡◌};
 ghost use Rattle.bpf_profile.specs.Machine.{set_value, read_register, read_operand, number_or};
 
-use crate::machine::Machine;
+use crate::machine::PlainMachine;
 use bpf_profile::{Operand, Register, TrapReason, Value};
 
 /// The value, which has to be set.
@@ -25,7 +25,7 @@ pub(crate) fn number_or(reason: TrapReason, value: Value) -> Result<u64, TrapRea
     }
 }
 
-impl Machine {
+impl PlainMachine {
     /// The value of a register that is set.
     pub(crate) fn read_register(&self, register: Register) -> Result<Value, TrapReason>
         ensures { result ≡ read_register self.now register }

@@ -5,13 +5,13 @@ ghost use Rattle.bpf_profile.specs.Machine.{goes};
 ghost use Rattle.bpf_profile.specs.Meaning.{sets, effect_of, step};
 ghost use Rattle.bpf_slow.specs.Progress.{effect_of_step};
 
-use crate::machine::Machine;
+use crate::machine::PlainMachine;
 use crate::progress::Progress;
 use bpf_profile::{Instruction, Operand, Register, Slot, TrapReason, Value, instruction_at};
 use bpf_words::target_of;
 use helpers::Record;
 
-impl Machine {
+impl PlainMachine {
     /// Goes to the next slot with this value in the register.
     fn set(
         &mut self,

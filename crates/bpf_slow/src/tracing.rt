@@ -4,7 +4,7 @@ ghost use Rattle.bpf_slow.specs.Ending.{IsEnd};
 ghost use Rattle.bpf_profile.specs.Limits.{context_size};
 
 use crate::ending::End;
-use crate::machine::Machine;
+use crate::machine::PlainMachine;
 use crate::progress::Progress;
 use bpf_decode::Program;
 use helpers::Record;
@@ -23,7 +23,7 @@ pub fn trace(
 ) -> Result<End, AllocError>
     ensures { IfOk result (λ end. IsEnd context_size program.now outcome.now limit end) }
 {
-    let mut machine = Machine::new(alloc)?;
+    let mut machine = PlainMachine::new(alloc)?;
     let slots = program.slots();
     for done in 0..limit {
         let slot = machine.slot();

@@ -10,7 +10,8 @@ use Rattle.service_profile.specs.declared.replies.Fate.{Fate}
 use Rattle.service_profile.specs.declared.replies.Fate.TheVariants as fate
 use Rattle.service_profile.specs.declared.standings.Standing.{Standing}
 use Rattle.service_profile.specs.declared.states.State.{State}
-use Rattle.service_profile.specs.Machine.{permission_in, fate_of}
+use Rattle.service_profile.specs.declared.states.State.TheVariants as state
+use Rattle.service_profile.specs.Machine.{permission_in, fate_of, has_overstayed}
 use Rattle.service_profile.specs.Rates.{after_notes, minimum, shown_rate}
 use Rattle.service_profile.specs.Standings.{moved}
 use Rattle.service_profile.specs.Windows.{totals_of, windowed}
@@ -41,6 +42,15 @@ with_permission s = record s { held = s.held + 1 }
 -- one permission less is held
 abbrev pub without_permission : BreakerSituation → BreakerSituation
 without_permission s = record s { held = s.held - 1 }
+
+-- ---- a stay in HALF_OPEN ends
+
+-- where an event at a moment finds a breaker whose longest stay is over: in OPEN, in a new period; None where no stay ends
+abbrev pub after_stay : ℕ → BreakerSituation → Option Standing
+after_stay moment s = if has_overstayed s.config s.standing moment then Some (moved state.Open moment s.standing) else None
+
+abbrev pub expired : ℕ → BreakerSituation → BreakerSituation
+expired moment s = if has_overstayed s.config s.standing moment then begun (moved state.Open moment s.standing) s else s
 
 -- ---- a call is asked for
 

@@ -1,30 +1,30 @@
-//! The calls of a breaker that decide and commit at once.
+//! The calls of a breaker that decide and commit at once. A book has to decide on more than its breaker before anything
+//! changes: it takes the steps of which these calls are made, and calls `give_back` and `metrics` alone of them.
 ghost use Rattle.std.specs.Prelude.{◌≡◌};
-ghost use Rattle.breaker.specs.Calls.{fate_in};
 
 use crate::machine::Breaker;
 use crate::metrics::Metrics;
+use crate::permissions::has_overstayed;
 use crate::rates::{minimum, shown_rate};
+use bpf_profile::Verdict;
 use service_profile::{Fate, Note, Standing, State};
-
-/// What becomes of a verdict that is not ignored, under a permission of a period.
-fn fate_in(standing: Standing, period: u64) -> Fate
-    ensures { result ≡ fate_in standing period }
-{
-    if period != standing.period {
-        return Fate::Stale;
-    }
-    match standing.state {
-        State::Disabled => Fate::Off,
-        _ => Fate::Recorded,
-    }
-}
 
 impl Breaker {
     ghost use Rattle.std.specs.Prelude.{◌≡◌, ◌<◌, ◌+◌, ◌-◌, ◌^◌};
     ghost use Rattle.breaker.specs.Situations.{BreakerSituation, StandsFor, HasRoom};
-    ghost use Rattle.breaker.specs.Calls.{permission_of, permitted_period, permitted, fate_in, recorded, given_back, moved_to, metrics_of};
+    ghost use Rattle.breaker.specs.Calls.{permission_of, expired, permitted_period, permitted, fate_in, recorded, given_back, moved_to, metrics_of};
     ghost use Rattle.windows.specs.Notes.{AreNotAfter};
+
+    /// Ends a stay in HALF_OPEN that has lasted as long as it may at a moment, in milliseconds: a period in OPEN begins.
+    /// Elsewhere, and before that, nothing changes. A book takes `after_stay` in its place.
+    pub fn expire(&mut self, moment: u64)
+        requires { self.old.standing.period + 1 < 2 ^ 64 }
+        ensures { (s : BreakerSituation) → StandsFor self.old s → StandsFor self.new (expired moment s) }
+    {
+        if has_overstayed(&self.config.parts(), self.standing, moment) {
+            self.move_to(moment, State::Open);
+        }
+    }
 
     /// The period of the permission that is given to a call at a moment, in milliseconds; none where the
     /// breaker refuses it. Once the wait in OPEN is over it begins a period in HALF_OPEN.
@@ -57,7 +57,7 @@ impl Breaker {
             failed,
             slow,
         };
-        let fate = fate_in(self.standing, period);
+        let fate = self.standing.fate_of(period, Verdict::Success);
         match fate {
             Fate::Stale => {}
             Fate::Recorded => {

@@ -4,16 +4,6 @@ ghost use Rattle.service_profile.specs.Windows.{with_note, AreTotals};
 
 use service_profile::{Note, Totals};
 
-/// The totals of no note.
-pub(crate) const NO_TOTALS: Totals = Totals {
-    total: 0,
-    failed: 0,
-    slow: 0,
-};
-
-/// How many notes there may be before one more.
-pub(crate) const MOST_NOTES: u64 = u64::MAX - 8;
-
 /// The totals with one note more.
 pub(crate) fn with_note(totals: Totals, note: Note) -> Totals
     requires { AreTotals (2 ^ 64 - 9) totals }

@@ -2,11 +2,11 @@
 ghost use Rattle.std.specs.Prelude.{◌≡◌, ◌<◌, ◌≤◌, ◌+◌, ◌-◌, ◌^◌, ◌++◌, ◌∷◌, [], IsTrue, ◌↔◌, IfOk, IfSome, OnSome};
 ghost use Rattle.service_profile.specs.Standings.{is_half_open};
 
-use crate::counters::{MOST_NOTES, NO_TOTALS, with_note};
-use crate::permissions::permission_in;
+use crate::counters::with_note;
+use crate::permissions::{has_overstayed, permission_in};
 use crate::rates::after_totals;
 use crate::sliding::SlidingWindow;
-use service_profile::{Config, Note, Permission, Standing, State, Totals};
+use service_profile::{Config, MOST_NOTES, Note, Permission, Standing, State, Totals};
 use std::alloc::{AllocError, Global};
 use std::marker::Model;
 use windows::Window;
@@ -46,7 +46,7 @@ pub(crate) fn is_half_open(state: State) -> bool
 impl Breaker {
     ghost use Rattle.std.specs.Prelude.{◌≡◌, ◌<◌, ◌≤◌, ◌+◌, ◌-◌, ◌^◌, ◌++◌, ◌∷◌, [], IsTrue, ◌↔◌, IfOk, IfSome, OnSome};
     ghost use Rattle.breaker.specs.Situations.{BreakerSituation, StandsFor, HasRoom, first_situation};
-    ghost use Rattle.breaker.specs.Calls.{permission_of, after_note_in, begun, with_note_in, followed, with_permission, without_permission};
+    ghost use Rattle.breaker.specs.Calls.{permission_of, after_stay, after_note_in, begun, with_note_in, followed, with_permission, without_permission};
     ghost use Rattle.service_profile.specs.Windows.{totals_of, windowed, AreTotals};
     ghost use Rattle.windows.specs.Notes.{AreNotAfter};
 
@@ -68,7 +68,7 @@ impl Breaker {
                 since,
             },
             window,
-            half_open: NO_TOTALS,
+            half_open: Totals::NONE,
             held: 0,
         })
     }
@@ -109,6 +109,32 @@ impl Breaker {
         } else {
             self.window.has_room_for_note()
         }
+    }
+
+    /// Where an event at a moment, in milliseconds, finds a breaker whose longest stay in HALF_OPEN is over: in OPEN, in a new
+    /// period that begins with this moment. None where no stay ends. It changes nothing.
+    pub fn after_stay(&self, moment: u64) -> Option<Standing>
+        requires { self.now.standing.period + 1 < 2 ^ 64 }
+        ensures { (s : BreakerSituation) → StandsFor self.now s → result ≡ after_stay moment s }
+    {
+        // A breaker in another state is known by one test.
+        if !is_half_open(self.standing.state) {
+            return None;
+        }
+        if has_overstayed(&self.config.parts(), self.standing, moment) {
+            Some(self.standing.moved(State::Open, moment))
+        } else {
+            None
+        }
+    }
+
+    /// What the breaker says to a call at a moment, where the call finds it at the beginning of a period, with no notes and no
+    /// permission held. It changes nothing.
+    pub fn permission_in_new_period(&self, standing: Standing, moment: u64) -> Permission
+        requires { standing.period + 1 < 2 ^ 64 }
+        ensures { (s : BreakerSituation) → StandsFor self.now s → result ≡ permission_of moment (begun standing s) }
+    {
+        permission_in(&self.config.parts(), standing, 0, 0, moment)
     }
 
     /// What the breaker says to a call at a moment, in milliseconds. It changes nothing.
@@ -170,7 +196,7 @@ impl Breaker {
     {
         self.standing = standing;
         self.window.clear();
-        self.half_open = NO_TOTALS;
+        self.half_open = Totals::NONE;
         self.held = 0;
     }
 

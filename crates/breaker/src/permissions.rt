@@ -1,7 +1,8 @@
 //! Whether a call is permitted.
 ghost use Rattle.std.specs.Prelude.{◌≡◌, ◌<◌, ◌+◌, ◌^◌};
-ghost use Rattle.service_profile.specs.Machine.{half_open_permission, open_permission, permission_in};
+ghost use Rattle.service_profile.specs.Machine.{half_open_permission, open_permission, permission_in, has_overstayed};
 
+use crate::machine::is_half_open;
 use service_profile::{ConfigParts, Permission, Standing, State};
 
 /// In HALF_OPEN the notes and the permissions that are held are at most the permitted number of calls.
@@ -59,4 +60,12 @@ pub(crate) fn permission_in(
         State::Open => open_permission(config, standing, moment),
         State::HalfOpen => half_open_permission(config, standing, noted, held),
     }
+}
+
+/// Whether a breaker has stood in HALF_OPEN for its longest stay; with a longest stay of 0 it never has.
+pub(crate) fn has_overstayed(config: &ConfigParts, standing: Standing, moment: u64) -> bool
+    ensures { result ≡ has_overstayed config.now standing moment }
+{
+    let longest = config.max_wait_duration_in_half_open_state;
+    longest > 0 && is_half_open(standing.state) && moment.saturating_sub(standing.since) >= longest
 }

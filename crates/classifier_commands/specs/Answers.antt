@@ -13,7 +13,7 @@ use Rattle.bpf_profile.specs.Programs.{VerifiedProgram}
 use Rattle.verifier.specs.Verifying.{IsVerification, IsRefused}
 use Rattle.classifier_commands.specs.declared.answer.Answer.{Answer}
 use Rattle.classifier_commands.specs.declared.answer.Answer.TheVariants as answer
-use Rattle.classifier_commands.specs.declared.answer.Fault.{Fault}
+use Rattle.classifier_commands.specs.declared.answer.CommandRefusal.{CommandRefusal}
 use Rattle.texts.specs.Hexadecimal.{hex_of}
 
 -- ---- programs
@@ -28,7 +28,7 @@ abbrev pub IsAccepted : List ℕ → Type 0
 IsAccepted text = (slots : List Slot) × (budget : ℕ) × IsAdmitted text slots budget
 
 -- why the text is no program that is accepted: memory ran out, it is no hexadecimal, or its bytes are refused for their first fault
-abbrev pub IsTextRefused : List ℕ → Fault → Type 0
+abbrev pub IsTextRefused : List ℕ → CommandRefusal → Type 0
 IsTextRefused text fault =
     (fault.number ≡ ProgramOutOfMemory)
     ⊎ ((fault.number ≡ BadHex) × (hex_of text ≡ None))
@@ -47,7 +47,7 @@ abbrev pub IsOutcomeRead : List ℕ → Outcome → Type 0
 IsOutcomeRead text outcome = (d : Data) × (json_of text ≡ Some d) × (outcome_of d ≡ Some outcome)
 
 -- why the text is no outcome: it is no JSON, or that is no outcome
-abbrev pub IsOutcomeRefused : List ℕ → Fault → Type 0
+abbrev pub IsOutcomeRefused : List ℕ → CommandRefusal → Type 0
 IsOutcomeRefused text fault =
     ((fault.number ≡ BadJson) × (json_of text ≡ None))
     ⊎ ((d : Data) × (fault.number ≡ BadValue) × (json_of text ≡ Some d) × (outcome_of d ≡ None))

@@ -34,6 +34,6 @@ IsCauseOf error.WriteFailed reads reads_after writes writes_after = (reads_after
 IsCauseOf error.OutOfMemory reads reads_after writes writes_after = (reads_after ≡ reads) × (writes_after ≡ writes)
 
 -- an error is answered where one more read failed, one more write failed, or memory ran out; else no call failed
-abbrev pub IsCause : {X : Type 0} → Result X CommandError → ℕ → ℕ → ℕ → ℕ → Type 0
-IsCause (Ok x) reads reads_after writes writes_after = (reads_after ≡ reads) × (writes_after ≡ writes)
-IsCause (Err e) reads reads_after writes writes_after = IsCauseOf e reads reads_after writes writes_after
+abbrev pub IsCommandCause : {X : Type 0} → Result X CommandError → ℕ → ℕ → ℕ → ℕ → Type 0
+IsCommandCause (Ok x) reads reads_after writes writes_after = (reads_after ≡ reads) × (writes_after ≡ writes)
+IsCommandCause (Err e) reads reads_after writes writes_after = IsCauseOf e reads reads_after writes writes_after

@@ -4,7 +4,7 @@ use Rattle.std.specs.Borrow.{Bor}
 use Rattle.std.specs.Io.KnownBytes.{Appends}
 use Rattle.classifier_commands.specs.declared.answer.Answer.{Answer}
 use Rattle.classifier_commands.specs.declared.answer.Answer.TheVariants as answer
-use Rattle.classifier_commands.specs.declared.answer.Fault.{Fault}
+use Rattle.classifier_commands.specs.declared.answer.CommandRefusal.{CommandRefusal}
 use Rattle.classifier_commands.specs.declared.error.CommandError.{CommandError}
 use Rattle.classifier_commands.specs.declared.error.CommandError.TheVariants as error
 use Rattle.classifier_commands.specs.declared.commands.Request.{Request}
@@ -96,13 +96,13 @@ abbrev pub HasAssembled : Option (List ℕ) → Status → Option (List ℕ) →
 HasAssembled known ended before after =
     (text : List ℕ) × IsAllOf known text
     × (((hex : List ℕ) × IsAssembled text hex × (ended ≡ status.Done) × Appends before after (hex ++ 10 ∷ []))
-    ⊎ ((fault : Fault) × IsAssemblyRefused text fault × IsPrinted (answer.Refused fault) ended before after))
+    ⊎ ((fault : CommandRefusal) × IsAssemblyRefused text fault × IsPrinted (answer.Refused fault) ended before after))
 
 -- the lines of the program, or its refusal
 abbrev pub HasDisassembled : List ℕ → Status → Option (List ℕ) → Option (List ℕ) → Type 0
 HasDisassembled program ended before after =
     ((lines : List ℕ) × IsDisassembled program lines × (ended ≡ status.Done) × Appends before after lines)
-    ⊎ ((fault : Fault) × IsDisassemblyRefused program fault × IsPrinted (answer.Refused fault) ended before after)
+    ⊎ ((fault : CommandRefusal) × IsDisassemblyRefused program fault × IsPrinted (answer.Refused fault) ended before after)
 
 -- what was asked for was done, where the reader has these bytes
 abbrev pub IsDone : Request → Option (List ℕ) → Status → Option (List ℕ) → Option (List ℕ) → Type 0

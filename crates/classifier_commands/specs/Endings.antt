@@ -15,11 +15,11 @@ IsUsageShown status.UsageFailed before after failures failures_after = AppendsPa
 IsUsageShown other before after failures failures_after = ⊥
 
 -- an end that is a failure comes where one more read failed, one more write failed, or memory ran out; else no call failed
-abbrev pub IsEnded : Status → ℕ → ℕ → ℕ → ℕ → Type 0
-IsEnded status.ReadFailed reads reads_after writes writes_after = (reads_after ≡ one_more reads) × (writes_after ≡ writes)
-IsEnded status.WriteFailed reads reads_after writes writes_after = (reads_after ≡ reads) × (writes_after ≡ one_more writes)
-IsEnded status.TooLong reads reads_after writes writes_after = ⊥
-IsEnded other reads reads_after writes writes_after = (reads_after ≡ reads) × (writes_after ≡ writes)
+abbrev pub IsCommandEnd : Status → ℕ → ℕ → ℕ → ℕ → Type 0
+IsCommandEnd status.ReadFailed reads reads_after writes writes_after = (reads_after ≡ one_more reads) × (writes_after ≡ writes)
+IsCommandEnd status.WriteFailed reads reads_after writes writes_after = (reads_after ≡ reads) × (writes_after ≡ one_more writes)
+IsCommandEnd status.TooLong reads reads_after writes writes_after = ⊥
+IsCommandEnd other reads reads_after writes writes_after = (reads_after ≡ reads) × (writes_after ≡ writes)
 
 -- ---- where a command failed
 

@@ -10,7 +10,7 @@ use verifier::Refusal;
 
 /// Why a command is refused.
 #[derive(Clone, Copy)]
-pub struct Fault {
+pub struct CommandRefusal {
     /// The refusal.
     pub number: RefusalNumber,
     /// The slot of a program's fault, from 0 to 4,095, or the line of a text's, from 1 on; 0 where the
@@ -37,60 +37,60 @@ pub enum Answer {
         slots: usize,
     },
     /// The command was refused.
-    Refused(Fault),
+    Refused(CommandRefusal),
 }
 
-impl From<RefusalNumber> for Fault {
+impl From<RefusalNumber> for CommandRefusal {
     ghost use Rattle.std.specs.Prelude.{◌≡◌};
 
     ghost from_gives = { λ number e. e ≡ record { number = number; place = 0 } };
 
     /// A refusal that has no place.
-    fn from(number: RefusalNumber) -> Fault {
-        Fault { number, place: 0 }
+    fn from(number: RefusalNumber) -> CommandRefusal {
+        CommandRefusal { number, place: 0 }
     }
 }
 
-impl From<Refusal> for Fault {
+impl From<Refusal> for CommandRefusal {
     ghost use Rattle.std.specs.Prelude.{◌≡◌};
 
     ghost from_gives = { λ refusal e. e ≡ record { number = refusal.number; place = refusal.slot } };
 
-    fn from(refusal: Refusal) -> Fault {
-        Fault {
+    fn from(refusal: Refusal) -> CommandRefusal {
+        CommandRefusal {
             number: refusal.number,
             place: refusal.slot as usize,
         }
     }
 }
 
-impl From<DecodeError> for Fault {
+impl From<DecodeError> for CommandRefusal {
     ghost use Rattle.std.specs.Prelude.{◌≡◌};
 
     ghost from_gives = { λ error e. e ≡ record { number = error.number; place = error.slot } };
 
-    fn from(error: DecodeError) -> Fault {
-        Fault {
+    fn from(error: DecodeError) -> CommandRefusal {
+        CommandRefusal {
             number: error.number,
             place: error.slot as usize,
         }
     }
 }
 
-impl From<AsmError> for Fault {
+impl From<AsmError> for CommandRefusal {
     ghost use Rattle.std.specs.Prelude.{◌≡◌};
 
     ghost from_gives = { λ error e. e ≡ record { number = error.kind; place = error.line } };
 
-    fn from(error: AsmError) -> Fault {
-        Fault {
+    fn from(error: AsmError) -> CommandRefusal {
+        CommandRefusal {
             number: error.kind,
             place: error.line,
         }
     }
 }
 
-impl fmt::Display for Fault {
+impl fmt::Display for CommandRefusal {
     ghost use Rattle.std.specs.Prelude.{Some};
     ghost use Rattle.refusals.specs.Texts.{refusal_text};
 

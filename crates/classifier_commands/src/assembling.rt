@@ -2,7 +2,7 @@
 ghost use Rattle.std.specs.Prelude.{◌≡◌, ◌≤◌, ◌==◌, length, filter, MatchResult, IfOk, string_bytes};
 ghost use Rattle.classifier_commands.specs.Assembling.{IsAssembled, IsAssemblyRefused, IsTextAssembled, IsTextFault, IsHexadecimalOf, IsDecoded, IsDisassembled, IsDisassemblyRefused, line_at};
 
-use crate::answer::Fault;
+use crate::answer::CommandRefusal;
 use crate::hexadecimal::hex_bytes;
 use bpf_asm::{assemble, disassemble};
 use bpf_decode::Program;
@@ -33,24 +33,24 @@ fn hexadecimal(alloc: Global, program: &Program) -> Result<String, AllocError>
 }
 
 /// The hexadecimal of the program that assembler text stands for, or the first fault.
-fn assembled_text(alloc: Global, text: &str) -> Result<String, Fault>
+fn assembled_text(alloc: Global, text: &str) -> Result<String, CommandRefusal>
     ensures { MatchResult result (λ hex. IsTextAssembled text.now (string_bytes hex)) (λ fault. IsTextFault text.now fault) }
 {
     let program = assemble(alloc, text)?;
     match hexadecimal(alloc, &program) {
         Ok(hex) => Ok(hex),
-        Err(_) => Err(Fault::from(RefusalNumber::AssemblerOutOfMemory)),
+        Err(_) => Err(CommandRefusal::from(RefusalNumber::AssemblerOutOfMemory)),
     }
 }
 
 /// The hexadecimal of the program that bytes are the assembler text of, or the first fault: at the line
 /// of the first byte that is no UTF-8, or of the text.
-pub(crate) fn assembled(alloc: Global, bytes: &[u8]) -> Result<String, Fault>
+pub(crate) fn assembled(alloc: Global, bytes: &[u8]) -> Result<String, CommandRefusal>
     ensures { MatchResult result (λ hex. IsAssembled bytes.now (string_bytes hex)) (λ fault. IsAssemblyRefused bytes.now fault) }
 {
     match str::from_utf8(bytes) {
         Ok(text) => assembled_text(alloc, text),
-        Err(error) => Err(Fault {
+        Err(error) => Err(CommandRefusal {
             number: RefusalNumber::UnknownWord,
             place: line_at(bytes, error.valid_up_to()),
         }),
@@ -58,7 +58,7 @@ pub(crate) fn assembled(alloc: Global, bytes: &[u8]) -> Result<String, Fault>
 }
 
 /// The program that hexadecimal spells; it is decoded alone.
-fn decoded(alloc: Global, text: &str) -> Result<Program, Fault>
+fn decoded(alloc: Global, text: &str) -> Result<Program, CommandRefusal>
     ensures { MatchResult result (λ program. IsDecoded text.now program) (λ fault. IsDisassemblyRefused text.now fault) }
 {
     let bytes = hex_bytes(alloc, text)?;
@@ -66,12 +66,12 @@ fn decoded(alloc: Global, text: &str) -> Result<Program, Fault>
 }
 
 /// The canonical lines of a program in hexadecimal, or why it is refused.
-pub(crate) fn disassembled(alloc: Global, text: &str) -> Result<String, Fault>
+pub(crate) fn disassembled(alloc: Global, text: &str) -> Result<String, CommandRefusal>
     ensures { MatchResult result (λ lines. IsDisassembled text.now (string_bytes lines)) (λ fault. IsDisassemblyRefused text.now fault) }
 {
     let program = decoded(alloc, text)?;
     match disassemble(alloc, &program) {
         Ok(lines) => Ok(lines),
-        Err(_) => Err(Fault::from(RefusalNumber::ProgramOutOfMemory)),
+        Err(_) => Err(CommandRefusal::from(RefusalNumber::ProgramOutOfMemory)),
     }
 }

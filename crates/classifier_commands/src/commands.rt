@@ -2,10 +2,10 @@
 ghost use Rattle.std.specs.Prelude.{◌≡◌, IsNone, IfOk, IfErr, IfSome};
 ghost use Rattle.std.specs.Io.KnownBytes.{Appends};
 ghost use Rattle.counted_io.specs.Counting.{AtMostOneMore};
-ghost use Rattle.classifier_commands.specs.Causes.{IsCause, IsWriteCause};
+ghost use Rattle.classifier_commands.specs.Causes.{IsCommandCause, IsWriteCause};
 ghost use Rattle.classifier_commands.specs.Answers.{IsAccepted};
 ghost use Rattle.classifier_commands.specs.Commands.{NamesNone, AsksForInput, WantsInput, IsRequest, IsDone, HasJudged, HasAssembled, HasDisassembled, usage, code_of, status_of_error, IsSettled, HasAnswered};
-ghost use Rattle.classifier_commands.specs.Endings.{IsUsageShown, IsEnded, IsUnanswered, IsInPart, IsAnsweredInPart, IsCut};
+ghost use Rattle.classifier_commands.specs.Endings.{IsUsageShown, IsCommandEnd, IsUnanswered, IsInPart, IsAnsweredInPart, IsCut};
 
 use crate::answer::Answer;
 use crate::assembling::{assembled, disassembled};
@@ -56,7 +56,7 @@ impl<'a> Request<'a> {
         ensures settled { IfOk result IsSettled }
         ensures part { IfErr result (λ error. IsCut error out.old out.new (IsInPart (IsDone self.now (R.remaining reader.old.inner)) (O.contents out.old.inner) (O.contents out.new.inner))) }
         ensures unread { (WantsInput self.now → ⊥) → reader.new ≡ reader.old }
-        ensures cause { IsCause result reader.old.failures reader.new.failures out.old.failures out.new.failures }
+        ensures cause { IsCommandCause result reader.old.failures reader.new.failures out.old.failures out.new.failures }
         ensures ends { AtMostOneMore reader.old.ends reader.new.ends }
     {
         match self {
@@ -144,7 +144,7 @@ fn judge_outcome<R: Read, O: Write>(
     ensures settled { IfOk result IsSettled }
     ensures part { IfErr result (λ error. IsCut error out.old out.new (IsInPart (HasJudged program.now (R.remaining reader.old.inner)) (O.contents out.old.inner) (O.contents out.new.inner))) }
     ensures unread { (IsAccepted program.now → ⊥) → reader.new ≡ reader.old }
-    ensures cause { IsCause result reader.old.failures reader.new.failures out.old.failures out.new.failures }
+    ensures cause { IsCommandCause result reader.old.failures reader.new.failures out.old.failures out.new.failures }
     ensures ends { AtMostOneMore reader.old.ends reader.new.ends }
 {
     let answer = judge(alloc, program, reader)?;
@@ -160,7 +160,7 @@ fn assemble_text<R: Read, O: Write>(
     ensures assembled { IfOk result (λ status. HasAssembled (R.remaining reader.old.inner) status (O.contents out.old.inner) (O.contents out.new.inner)) }
     ensures settled { IfOk result IsSettled }
     ensures part { IfErr result (λ error. IsCut error out.old out.new (IsInPart (HasAssembled (R.remaining reader.old.inner)) (O.contents out.old.inner) (O.contents out.new.inner))) }
-    ensures cause { IsCause result reader.old.failures reader.new.failures out.old.failures out.new.failures }
+    ensures cause { IsCommandCause result reader.old.failures reader.new.failures out.old.failures out.new.failures }
     ensures ends { AtMostOneMore reader.old.ends reader.new.ends }
 {
     let text = read_all(alloc, reader)?;
@@ -229,7 +229,7 @@ pub fn command<R: Read, O: Write, E: Write>(
     // Words that name a command write nothing on `err`.
     ensures quiet { (NamesNone words.now → ⊥) → err.new ≡ err.old }
     // A failed read or write is answered where that count went up by one, and in no other case.
-    ensures cause { IsEnded result reader.old.failures reader.new.failures out.old.failures out.new.failures }
+    ensures cause { IsCommandEnd result reader.old.failures reader.new.failures out.old.failures out.new.failures }
     // The end of the input is met once at most: no read is made behind it.
     ensures ends { AtMostOneMore reader.old.ends reader.new.ends }
 {

@@ -6,7 +6,7 @@ ghost use Rattle.serde_json.specs.View.{view};
 ghost use Rattle.classifier_commands.specs.Answers.{IsAdmitted, IsAccepted, IsTextRefused, IsOutcomeRead, IsOutcomeRefused, IsVerifyAnswer, IsJudgement, IsReadJudgement, IsJudgeAnswer};
 ghost use Rattle.classifier_commands.specs.Causes.{IsReadCause};
 
-use crate::answer::{Answer, Fault};
+use crate::answer::{Answer, CommandRefusal};
 use crate::error::CommandError;
 use crate::hexadecimal::hex_bytes;
 use crate::input::read_all;
@@ -21,7 +21,7 @@ use texts::json;
 use verifier::Verified;
 
 /// The verified program of hexadecimal text.
-fn admitted(alloc: Global, text: &str) -> Result<Verified, Fault>
+fn admitted(alloc: Global, text: &str) -> Result<Verified, CommandRefusal>
     ensures ok { IfOk result (λ program. IsAdmitted text.now program.slots program.budget) }
     ensures err { IfErr result (λ fault. IsTextRefused text.now fault) }
 {
@@ -43,24 +43,24 @@ pub(crate) fn verify(alloc: Global, text: &str) -> Answer
 }
 
 /// The record of the outcome that a JSON value describes.
-fn outcome_in(value: &Value) -> Result<Record, Fault>
+fn outcome_in(value: &Value) -> Result<Record, CommandRefusal>
     ensures ok { IfOk result (λ outcome. outcome_of (view value.now) ≡ Some outcome) }
     ensures err { IfErr result (λ fault. (fault.number ≡ RefusalNumber.BadValue) × (outcome_of (view value.now) ≡ None)) }
 {
     match Record::from_json(value) {
         Ok(outcome) => Ok(outcome),
-        Err(error) => Err(Fault::from(error.number)),
+        Err(error) => Err(CommandRefusal::from(error.number)),
     }
 }
 
 /// The record of an outcome's JSON, or why it is refused. The outer error is want of memory.
-fn outcome(alloc: Global, text: &[u8]) -> Result<Result<Record, Fault>, AllocError>
+fn outcome(alloc: Global, text: &[u8]) -> Result<Result<Record, CommandRefusal>, AllocError>
     ensures ok { IfOk result (λ answer. IfOk answer (λ outcome. IsOutcomeRead text.now outcome)) }
     ensures err { IfOk result (λ answer. IfErr answer (λ fault. IsOutcomeRefused text.now fault)) }
 {
     match json(alloc, text)? {
         Some(value) => Ok(outcome_in(&value)),
-        None => Ok(Err(Fault::from(RefusalNumber::BadJson))),
+        None => Ok(Err(CommandRefusal::from(RefusalNumber::BadJson))),
     }
 }
 

@@ -10,7 +10,7 @@ mod input;
 mod judging;
 mod printing;
 
-pub use answer::{Answer, Fault};
+pub use answer::{Answer, CommandRefusal};
 pub use commands::{Status, command};
 pub use error::CommandError;
 pub use printing::print;

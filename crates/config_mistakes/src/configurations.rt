@@ -35,7 +35,7 @@ const RANGES: &[Range] = &[
     Range {
         key: "maxWaitDurationInHalfOpenState",
         least: 0,
-        most: 0,
+        most: 1 << 40,
     },
     Range {
         key: "minimumNumberOfCalls",

@@ -1,10 +1,11 @@
 -- One piece after another.
-use Rattle.std.proofs.Common.{ne_eqb, ◌≡◌, ◌≢◌, ℕ, ◌+◌, ◌-◌, ◌≤◌, ◌==◌, ◌&&◌, nat_lt, List, [], ◌++◌, length, take, drop, Option, Some, None, ap, sym, ◌∙◌, append_assoc, arith}
+use Rattle.std.proofs.Common.{refl, ne_eqb, ◌≡◌, ◌≢◌, ℕ, ◌+◌, ◌-◌, ◌≤◌, ◌<◌, ◌==◌, ◌&&◌, nat_lt, List, [], ◌∷◌, ◌++◌, length, take, drop, Option, Some, None, Result, Ok, Err, ap, subst, sym, ◌∙◌, append_assoc, arith}
 use Rattle.std.proofs.lemmas.Grind.{common_steps}
 use Rattle.std.proofs.lemmas.List.{append-nil, take-append-drop}
 use Rattle.std.proofs.Math.Seq.{take-add}
+use Rattle.std.specs.Result.{OnErr}
 use Rattle.std.specs.Io.KnownBytes.{Appends, Keeps}
-use Rattle.counted_io.specs.Counting.{counted, AppendsPart}
+use Rattle.counted_io.specs.Counting.{counted, AppendsPart, IsProperBeginning, AppendsProperPart}
 
 pub appends_none : (v : Option (List ℕ)) → Appends v v []
 appends_none None = tt
@@ -33,6 +34,22 @@ sent_fits s i n h k = grind (arith, common_steps)
 
 pub taken_part : (a b : Option (List ℕ)) (s : List ℕ) (i : ℕ) → Appends a b (take i s) → AppendsPart a b s
 taken_part a b s i h = (take i s, (drop i s, sym (take-append-drop i s)), h)
+
+lacks_some : (s rest : List ℕ) (i : ℕ) → i < length s → drop i s ≡ rest → IsProperBeginning (take i s) s
+lacks_some s [] i more is = absurd (let none : length (drop i s) ≡ 0 = ap length is in grind (arith, common_steps))
+lacks_some s (byte ∷ rest) i more is = (byte, rest, sym (take-append-drop i s) ∙ ap (λ t. take i s ++ t) is)
+
+-- the first pieces went out, and some is left
+pub taken_proper_part : (a b : Option (List ℕ)) (s : List ℕ) (i : ℕ) → i < length s → Appends a b (take i s) → AppendsProperPart a b s
+taken_proper_part a b s i more h = (take i s, lacks_some s (drop i s) i more refl, h)
+
+-- a write that took nothing adds nothing
+pub nothing_more : (a b : Option (List ℕ)) (s : List ℕ) (i n : ℕ) → n ≡ 0 → Appends a b (take (i + n) s) → Appends a b (take i s)
+nothing_more a b s i n none h = let same : i + n ≡ i = omega (arith, none) in subst (λ k. Appends a b (take k s)) same h
+
+pub on_err : {A E P : Type 0} (r : Result A E) → P → OnErr r P
+on_err (Ok a) p = tt
+on_err (Err e) p = p
 
 -- a write that counts took something, and no failure
 pub no_failure : (n size failures after : ℕ) → n ≢ 0 → after ≡ counted ((n == 0) && nat_lt 0 size) failures → after ≡ failures

@@ -49,3 +49,11 @@ IsBeginning part whole = (rest : List ℕ) × (whole ≡ part ++ rest)
 -- a beginning of a text was written, or all of it
 abbrev pub AppendsPart : Option (List ℕ) → Option (List ℕ) → List ℕ → Type 0
 AppendsPart before after text = (part : List ℕ) × IsBeginning part text × Appends before after part
+
+-- a beginning of a text that lacks a byte of it, at least
+abbrev pub IsProperBeginning : List ℕ → List ℕ → Type 0
+IsProperBeginning part whole = (byte : ℕ) × (rest : List ℕ) × (whole ≡ part ++ byte ∷ rest)
+
+-- a beginning of a text was written, and not all of it
+abbrev pub AppendsProperPart : Option (List ℕ) → Option (List ℕ) → List ℕ → Type 0
+AppendsProperPart before after text = (part : List ℕ) × IsProperBeginning part text × Appends before after part

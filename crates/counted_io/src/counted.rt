@@ -16,7 +16,7 @@ use std::marker::Model;
 #[derive(Drop)]
 pub struct Counted<T> {
     inner: T,
-    /// How many reads and writes answered an error, or wrote nothing of a piece that isn't empty.
+    /// How many reads, writes and flushes answered an error, or wrote nothing of a piece that isn't empty.
     failures: u64,
     /// How many reads gave nothing of a piece that isn't empty: the input had ended.
     ends: u64,
@@ -51,7 +51,7 @@ impl<T> Counted<T> {
         &self.inner
     }
 
-    /// How many reads and writes failed.
+    /// How many reads, writes and flushes failed.
     pub fn failures(&self) -> u64
         ensures { result ≡ self.now.failures }
     {
@@ -122,10 +122,14 @@ impl<W: Write> Write for Counted<W> {
 
     fn flush(&mut self) -> io::Result<()>
         ensures bytes { Keeps (W.contents self.old.inner) (W.contents self.new.inner) }
-        // A flush counts nothing, also where it failed.
-        ensures failures { self.new.failures ≡ self.old.failures }
+        // A failed flush counts, and no other. What was written stays, also where it failed.
+        ensures failures { self.new.failures ≡ counted (is_err result) self.old.failures }
         ensures ends { self.new.ends ≡ self.old.ends }
     {
-        self.inner.flush()
+        let result = self.inner.flush();
+        if result.is_err() {
+            self.failures = self.failures.wrapping_add(1);
+        }
+        result
     }
 }

@@ -50,6 +50,7 @@ impl<W: Write> Write for FailsOnce<W> {
     }
 
     fn flush(&mut self) -> io::Result<()> {
+        self.count()?;
         self.inner.flush()
     }
 }
@@ -174,11 +175,30 @@ fn a_write_fails(rt: &impl Abort, alloc: Global, kind: ErrorKind) -> io::Result<
     Ok(())
 }
 
+/// A flush that fails is the error, counts, and leaves what was written; the next one doesn't count, and what is sent
+/// behind it goes on there.
+fn a_flush_fails(rt: &impl Abort, alloc: Global, kind: ErrorKind) -> io::Result<()> {
+    let mut writer = Counted::new(FailsOnce {
+        inner: Vec::new(alloc),
+        calls_before: 1,
+        kind,
+    });
+    writer.send(b"abc")?;
+    same(rt, kind_of(writer.flush()), Some(kind));
+    same(rt, writer.failures(), 1);
+    writer.flush()?;
+    writer.send(b"de")?;
+    same(rt, (writer.failures(), writer.ends()), (1, 0));
+    same(rt, writer.inner().inner.as_slice(), b"abcde".as_slice());
+    Ok(())
+}
+
 #[test]
 fn each_kind_of_error_is_passed_on(rt: HostRuntime) -> Result<(), Fail> {
     for kind in KINDS {
         a_read_fails(&rt, *kind)?;
         a_write_fails(&rt, rt.alloc(), *kind)?;
+        a_flush_fails(&rt, rt.alloc(), *kind)?;
     }
     Ok(())
 }

@@ -1,7 +1,7 @@
 //! Reading byte by byte, and writing whole texts. One failed call ends each.
-ghost use Rattle.std.specs.Prelude.{◌≡◌, Ok, None, is_err, IfOk, OnOk};
+ghost use Rattle.std.specs.Prelude.{◌≡◌, Ok, None, is_err, IfOk, OnOk, OnErr};
 ghost use Rattle.std.specs.Io.KnownBytes.{Appends, IsAtEnd};
-ghost use Rattle.counted_io.specs.Counting.{counted, is_end_found, TakesByte, AppendsPart};
+ghost use Rattle.counted_io.specs.Counting.{counted, is_end_found, TakesByte, AppendsPart, AppendsProperPart};
 
 use crate::Counted;
 use std::io;
@@ -28,10 +28,11 @@ impl<R: Read> Counted<R> {
 
 impl<W: Write> Counted<W> {
     /// Writes a text. Where a write fails, also where it was interrupted, a beginning of the text
-    /// was written, and that failure is the error.
+    /// was written, but not all of it, and that failure is the error.
     pub fn send(&mut self, text: &[u8]) -> io::Result<()>
         ensures whole { OnOk result (Appends (W.contents self.old.inner) (W.contents self.new.inner) text.now) }
         ensures part { AppendsPart (W.contents self.old.inner) (W.contents self.new.inner) text.now }
+        ensures cut { OnErr result (AppendsProperPart (W.contents self.old.inner) (W.contents self.new.inner) text.now) }
         ensures failures { self.new.failures ≡ counted (is_err result) self.old.failures }
         ensures ends { self.new.ends ≡ self.old.ends }
     {

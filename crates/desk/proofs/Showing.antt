@@ -5,7 +5,7 @@ use denote.RattleType.{RattleType}
 use denote.Param.Send.{IsSend, IsSync, part_keyless, sendable}
 use Rattle.std.proofs.Crossing.{crosses}
 use Rattle.desk.specs.contracts.desks.Desk as desk
-use Rattle.desk.specs.contracts.desks.Service as service
+use Rattle.desk.specs.contracts.desks.LockedService as service
 use Rattle.desk.specs.contracts.kept.Kept as kept
 use Rattle.desk.specs.contracts.seats.Seat as seat
 use Rattle.desk.specs.contracts.tokens.Tokens as tokens

@@ -3,4 +3,5 @@ pub mod Seats
 pub mod Desks
 pub mod Kept
 pub mod AfterSome
+pub mod Calls
 pub mod Closing

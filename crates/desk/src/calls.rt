@@ -50,7 +50,7 @@ impl<L: Ledger, M: Ledger + Offered> Desk<L, M> {
         kept.look(ticket)
     }
 
-    /// Asks for a ticket, before a call.
+    /// Asks for a ticket, before a call. The program asks through `service::ask`, and doesn't call this.
     pub fn acquire<R: Wait>(
         &self,
         rt: &R,
@@ -66,7 +66,7 @@ impl<L: Ledger, M: Ledger + Offered> Desk<L, M> {
         self.apply(rt, seat, service, moment, Event::Acquire)
     }
 
-    /// Ends a ticket without an outcome.
+    /// Ends a ticket without an outcome. The program asks through `service::ask`, and doesn't call this.
     pub fn release<R: Wait>(
         &self,
         rt: &R,
@@ -83,7 +83,7 @@ impl<L: Ledger, M: Ledger + Offered> Desk<L, M> {
         self.apply(rt, seat, service, moment, Event::Release(ticket))
     }
 
-    /// Makes a program the current version.
+    /// Makes a program the current version. The program asks through `service::ask`, and doesn't call this.
     pub fn install<R: Wait>(
         &self,
         rt: &R,
@@ -100,7 +100,7 @@ impl<L: Ledger, M: Ledger + Offered> Desk<L, M> {
         self.apply(rt, seat, service, moment, Event::Install(program))
     }
 
-    /// Moves the breaker to a state.
+    /// Moves the breaker to a state. The program asks through `service::ask`, and doesn't call this.
     pub fn move_to<R: Wait>(
         &self,
         rt: &R,
@@ -117,7 +117,7 @@ impl<L: Ledger, M: Ledger + Offered> Desk<L, M> {
         self.apply(rt, seat, service, moment, Event::Move(state))
     }
 
-    /// Moves the breaker to CLOSED.
+    /// Moves the breaker to CLOSED. The program asks through `service::ask`, and doesn't call this.
     pub fn reset<R: Wait>(
         &self,
         rt: &R,

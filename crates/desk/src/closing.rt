@@ -4,7 +4,7 @@ ghost use Rattle.std.specs.List.{AllByRecursion};
 ghost use Rattle.desk.specs.Kept.{IsGood, AreOfSome, last_number, most_numbers, most_cuts};
 ghost use Rattle.desk.specs.Closing.{IsUnclosed};
 
-use crate::desks::{Desk, Service};
+use crate::desks::{Desk, LockedService};
 use crate::offered::Offered;
 use crate::seats::Seat;
 use book::Book;
@@ -84,7 +84,7 @@ fn merge_seats<L: Ledger, M: Ledger>(
 fn merge_services<L: Ledger, M: Ledger + Offered>(
     entries: &mut Share<L>,
     cuts: &mut Share<M>,
-    mut services: Vec<Service<L, M>>,
+    mut services: Vec<LockedService<L, M>>,
     books: &mut Vec<Book>,
 )
     requires room { vec_len services ≤ vec_capacity books.old }

@@ -43,7 +43,15 @@ impl Model for ServiceId {
 }
 
 impl ServiceId {
-    pub(crate) fn place(self) -> usize
+    /// The service at a place, from 0 on, in the order in which the desk opened them.
+    pub fn at(place: usize) -> ServiceId
+        ensures { result ≡ place }
+    {
+        ServiceId { place }
+    }
+
+    /// Where the service stands.
+    pub fn place(self) -> usize
         ensures { result ≡ self }
     {
         self.place
@@ -52,7 +60,7 @@ impl ServiceId {
 
 /// A service: its name, and what lies under its lock.
 #[derive(Drop)]
-pub(crate) struct Service<L: Ledger, M: Ledger + Offered> {
+pub(crate) struct LockedService<L: Ledger, M: Ledger + Offered> {
     pub name: String,
     pub kept: Mutex<Kept<L, M>>,
 }
@@ -62,7 +70,7 @@ pub(crate) struct Service<L: Ledger, M: Ledger + Offered> {
 /// threads may change at any time.
 #[derive(Drop)]
 pub struct Desk<L: Ledger, M: Ledger + Offered> {
-    pub(crate) services: Vec<Service<L, M>>,
+    pub(crate) services: Vec<LockedService<L, M>>,
     pub(crate) given: u32,
     pub(crate) entries: Tokens<L>,
     pub(crate) cuts: Tokens<M>,
@@ -142,7 +150,10 @@ impl<L: Ledger, M: Ledger + Offered> Desk<L, M> {
 }
 
 /// Where the first service of a name stands.
-fn place_of<L: Ledger, M: Ledger + Offered>(services: &[Service<L, M>], name: &str) -> Option<usize>
+fn place_of<L: Ledger, M: Ledger + Offered>(
+    services: &[LockedService<L, M>],
+    name: &str,
+) -> Option<usize>
     ensures { result ≡ position (λ service. bytes_eq (string_bytes service.name) name.now) services.now }
 {
     services
@@ -182,7 +193,7 @@ fn behind_locks<L: Ledger, M: Ledger + Offered>(
     entries: &mut Tokens<L>,
     cuts: &mut Tokens<M>,
     services: Vec<(String, Config, Verified)>,
-) -> Result<Vec<Service<L, M>>, AllocError>
+) -> Result<Vec<LockedService<L, M>>, AllocError>
     requires entry_parts { vec_len services < entries.old.left.parts }
     requires no_entry { entries.old.left.amount ≡ 0 }
     requires cut_parts { vec_len services < cuts.old.left.parts }
@@ -199,7 +210,7 @@ fn behind_locks<L: Ledger, M: Ledger + Offered>(
     let mut behind = Vec::new(alloc);
     for (name, config, program) in services {
         let kept = Mutex::new(opened(alloc, entries, cuts, config, program)?);
-        behind.push(Service { name, kept })?;
+        behind.push(LockedService { name, kept })?;
     }
     Ok(behind)
 }

@@ -9,10 +9,12 @@ mod kept;
 mod offered;
 mod reports;
 mod seats;
+mod service_place;
 mod tokens;
 
 pub use closing::Unclosed;
 pub use desks::{Desk, ServiceId};
 pub use offered::Offered;
-pub use reports::Gate;
 pub use seats::Seat;
+pub use service::Gate;
+pub use service_place::ServicePlace;

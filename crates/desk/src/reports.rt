@@ -7,23 +7,17 @@ ghost use Rattle.desk.specs.AfterSome.{IsReported};
 use crate::desks::{Desk, ServiceId};
 use crate::offered::Offered;
 use crate::seats::Seat;
-use book::{Event, Reply};
-use bpf_run::judge;
+use crate::service_place::ServicePlace;
+use book::Reply;
 use helpers::Record;
+use service::{Gate, Report, report};
 use std::sync::Wait;
 use std::sync::ledger::Ledger;
-
-/// What is called in the middle of a report, while no lock is held. A server's does nothing; a test may
-/// hold a report there until another one was answered.
-pub trait Gate {
-    /// Called once the outcome was judged under this ticket, and before the finish.
-    fn between(&self, ticket: u64);
-}
 
 impl<L: Ledger, M: Ledger + Offered> Desk<L, M> {
     /// Judges the outcome of a call by its ticket's classifier, and ends the ticket. The look at the ticket
     /// and the finish hold the service's lock, each for itself; while the outcome is judged no lock is held.
-    /// A look that is refused makes no entry.
+    /// A look that is refused makes no entry. The program asks through `service::ask`, and doesn't call this.
     pub fn report<R: Wait, G: Gate>(
         &self,
         rt: &R,
@@ -39,13 +33,7 @@ impl<L: Ledger, M: Ledger + Offered> Desk<L, M> {
         ensures reported { IsReported self.now.services seat.old moment ticket outcome result seat.new }
         ensures counted { IsCounted seat.old.count result seat.new.count }
     {
-        match self.look(rt, service, ticket) {
-            Ok(program) => {
-                let judged = judge(program, outcome);
-                gate.between(ticket);
-                self.apply(rt, seat, service, moment, Event::Finish(judged, ticket))
-            }
-            Err(number) => Reply::Refused(number),
-        }
+        let place = ServicePlace::new(rt, self, service);
+        report(seat, &place, moment, Report { ticket, outcome }, gate)
     }
 }

@@ -1,9 +1,13 @@
 //! Seats: who makes calls.
-ghost use Rattle.std.specs.Prelude.{◌≡◌, ◌+◌, ◌<◌, ◌≤◌, ◌^◌};
+ghost use Rattle.std.specs.Prelude.{◌≡◌, ◌+◌, ◌-◌, ◌<◌, ◌≤◌, ◌^◌, true, false};
+ghost use Rattle.desk.specs.Calls.{IsFull};
 ghost use Rattle.desk.specs.Seats.{seat_of};
 
 use std::marker::Model;
 use std::sync::ledger::{Ledger, Share};
+
+/// A seat may make an event only while its count is below this.
+const FULL_COUNT: u64 = u64::MAX - 7;
 
 /// Who makes calls at a desk. Contracts see its number, and how many entries and how many cuts its calls have made. It
 /// counts by tokens that it was given for them by the services, so that no entry is counted that no journal has, and no
@@ -81,6 +85,14 @@ impl<L: Ledger, M: Ledger> Seat<L, M> {
         ensures { result ≡ self.now.number }
     {
         self.number
+    }
+
+    /// Whether its count leaves no room for another entry.
+    pub(crate) fn is_full(&self) -> bool
+        ensures full { result ≡ true → IsFull self.now }
+        ensures room { result ≡ false → self.now.count < 2 ^ 64 - 8 }
+    {
+        self.count >= FULL_COUNT
     }
 
     /// How many entries its calls have made, in all journals of its desk.

@@ -6,7 +6,7 @@ use Rattle.std.proofs.Crossing.{crosses}
 use Rattle.std.specs.declared.sync.ledger.Ledger.{Ghosts}
 use Rattle.desk.specs.declared.offered.Offered as offered
 use Rattle.desk.proofs.Showing.{seat_field_send, desk_field_sync}
-use Rattle.http_desk.specs.contracts.seated.OpenGate as gate
+use Rattle.service.specs.contracts.gate.OpenGate as gate
 use Rattle.http_desk.specs.contracts.seated.SeatedAnswerer as answerer
 
 module _ (κ : NamedLft) (S T G R : RattleType) (g : Ghosts S.Denot) (h : Ghosts T.Denot) (o : offered.Ghosts T.Denot) where

@@ -1,5 +1,5 @@
 -- What contracts see of an answerer with a seat at a desk.
-use Rattle.std.specs.Prelude.{ℕ, List, Bool, position, bytes_eq, is_some}
+use Rattle.std.specs.Prelude.{List}
 use Rattle.desk.specs.Seats.{SeatData}
 use Rattle.desk.specs.Services.{ServiceData}
 
@@ -10,7 +10,3 @@ pub record SeatedData : Type 0 where
 
 abbrev pub seated : List ServiceData → SeatData → SeatedData
 seated services seat = record { services = services; seat = seat }
-
--- there is a service of this name
-abbrev pub holds_at : List ServiceData → List ℕ → Bool
-holds_at services name = is_some (position (λ service. bytes_eq service.name name) services)

@@ -1,7 +1,6 @@
 //! Services behind a desk, as an answerer over HTTP: each worker asks by a seat of its own.
 #![tactic(auto)]
 
-mod asking;
 mod seated;
 
-pub use seated::{OpenGate, SeatedAnswerer};
+pub use seated::SeatedAnswerer;

@@ -1,1 +1,2 @@
 pub mod LostAnswers
+pub mod Phrases

@@ -1,70 +1,110 @@
 //! Who answers.
-ghost use Rattle.std.specs.Prelude.{◌≡◌, ℕ, List, Bool, true};
-ghost use Rattle.service.specs.Asked.{RequestData, acquire, report, release, install, move, reset, read, page, cut, roll, ResponseData, response_data};
+ghost use Rattle.std.specs.Prelude.{◌≡◌, ℕ, List, Option, IfSome};
+ghost use Rattle.service.specs.Asked.{RequestData, request_data, acquire, report, release, install, move, reset, read, page, cut, roll, ResponseData, response_data};
 
 use book::State;
-use service::{Report, Response};
+use service::{Report, Request, Response};
 
-/// Answers what services are asked for: one function for each route. A service is given by its name, and
-/// a moment in milliseconds. Want of memory is a refusal like others.
+/// Answers what services are asked for. A service is found once by its name, and then asked at its place, at a moment
+/// in milliseconds. Want of memory is a refusal like others. Below the two functions that an answerer has to have stands one
+/// for each route; the front asks by `ask` alone.
 pub trait Answerer {
-    // whether a state has a service of this name
-    ghost holds: { Self → List ℕ → Bool };
+    // where the first service of a name stands, if there is one
+    ghost place_of: { Self → List ℕ → Option ℕ };
 
-    // how a state, a service, a moment and what is asked for are related to what is answered and the state after it
-    ghost answers: { Self → List ℕ → ℕ → RequestData → ResponseData → Self → Type 0 };
+    // whether a service stands at a place
+    ghost has: { Self → ℕ → Type 0 };
 
-    /// Whether there is a service of this name. It takes no memory.
-    fn find(&self, service: &str) -> bool
-        ensures { result ≡ holds self.now service.now };
+    // how a state, a service's place, a moment and what is asked for are related to what is answered and the state after it
+    ghost answers: { Self → ℕ → ℕ → RequestData → ResponseData → Self → Type 0 };
+
+    /// Where the service of this name stands, if there is one. It takes no memory.
+    fn find(&self, service: &str) -> Option<usize>
+        ensures found { result ≡ place_of self.now service.now }
+        ensures held { IfSome result (has self.now) };
+
+    /// Asks the service at a place.
+    fn ask(&mut self, place: usize, moment: u64, request: Request) -> Response
+        requires held { has self.old place }
+        ensures { answers self.old place moment (request_data request) (response_data result) self.new };
 
     /// Asks for a ticket, before a call.
-    fn acquire(&mut self, service: &str, moment: u64) -> Response
-        requires held { holds self.old service.now ≡ true }
-        ensures { answers self.old service.now moment acquire (response_data result) self.new };
+    fn acquire(&mut self, place: usize, moment: u64) -> Response
+        requires held { has self.old place }
+        ensures { answers self.old place moment acquire (response_data result) self.new }
+    {
+        self.ask(place, moment, Request::Acquire)
+    }
 
     /// Judges the outcome of a call, and ends its ticket.
-    fn report(&mut self, service: &str, moment: u64, reported: Report) -> Response
-        requires held { holds self.old service.now ≡ true }
-        ensures { answers self.old service.now moment (report reported) (response_data result) self.new };
+    fn report(&mut self, place: usize, moment: u64, reported: Report) -> Response
+        requires held { has self.old place }
+        ensures { answers self.old place moment (report reported) (response_data result) self.new }
+    {
+        self.ask(place, moment, Request::Report(reported))
+    }
 
     /// Ends a ticket without an outcome.
-    fn release(&mut self, service: &str, moment: u64, ticket: u64) -> Response
-        requires held { holds self.old service.now ≡ true }
-        ensures { answers self.old service.now moment (release ticket) (response_data result) self.new };
+    fn release(&mut self, place: usize, moment: u64, ticket: u64) -> Response
+        requires held { has self.old place }
+        ensures { answers self.old place moment (release ticket) (response_data result) self.new }
+    {
+        self.ask(place, moment, Request::Release(ticket))
+    }
 
     /// Verifies the program of this bytecode, and makes it the current version.
-    fn install(&mut self, service: &str, moment: u64, program: Vec<u8>) -> Response
-        requires held { holds self.old service.now ≡ true }
-        ensures { answers self.old service.now moment (install program.items) (response_data result) self.new };
+    fn install(&mut self, place: usize, moment: u64, program: Vec<u8>) -> Response
+        requires held { has self.old place }
+        ensures { answers self.old place moment (install program.items) (response_data result) self.new }
+    {
+        self.ask(place, moment, Request::Install(program))
+    }
 
     /// Moves the breaker to a state.
-    fn transition(&mut self, service: &str, moment: u64, state: State) -> Response
-        requires held { holds self.old service.now ≡ true }
-        ensures { answers self.old service.now moment (move state) (response_data result) self.new };
+    fn transition(&mut self, place: usize, moment: u64, state: State) -> Response
+        requires held { has self.old place }
+        ensures { answers self.old place moment (move state) (response_data result) self.new }
+    {
+        self.ask(place, moment, Request::Move(state))
+    }
 
     /// Moves the breaker to CLOSED.
-    fn reset(&mut self, service: &str, moment: u64) -> Response
-        requires held { holds self.old service.now ≡ true }
-        ensures { answers self.old service.now moment reset (response_data result) self.new };
+    fn reset(&mut self, place: usize, moment: u64) -> Response
+        requires held { has self.old place }
+        ensures { answers self.old place moment reset (response_data result) self.new }
+    {
+        self.ask(place, moment, Request::Reset)
+    }
 
     /// Tells how the service stands.
-    fn read(&mut self, service: &str, moment: u64) -> Response
-        requires held { holds self.old service.now ≡ true }
-        ensures { answers self.old service.now moment read (response_data result) self.new };
+    fn read(&mut self, place: usize, moment: u64) -> Response
+        requires held { has self.old place }
+        ensures { answers self.old place moment read (response_data result) self.new }
+    {
+        self.ask(place, moment, Request::Read)
+    }
 
     /// Gives at most 100 entries of the journal, from this number on.
-    fn page(&mut self, service: &str, moment: u64, from: u64) -> Response
-        requires held { holds self.old service.now ≡ true }
-        ensures { answers self.old service.now moment (page from) (response_data result) self.new };
+    fn page(&mut self, place: usize, moment: u64, from: u64) -> Response
+        requires held { has self.old place }
+        ensures { answers self.old place moment (page from) (response_data result) self.new }
+    {
+        self.ask(place, moment, Request::Page(from))
+    }
 
     /// Hands out all entries of the journal, which begins anew.
-    fn cut(&mut self, service: &str, moment: u64) -> Response
-        requires held { holds self.old service.now ≡ true }
-        ensures { answers self.old service.now moment cut (response_data result) self.new };
+    fn cut(&mut self, place: usize, moment: u64) -> Response
+        requires held { has self.old place }
+        ensures { answers self.old place moment cut (response_data result) self.new }
+    {
+        self.ask(place, moment, Request::Cut)
+    }
 
     /// Hands out the entries of the journal up to this number, which goes on.
-    fn roll(&mut self, service: &str, moment: u64, last: u64) -> Response
-        requires held { holds self.old service.now ≡ true }
-        ensures { answers self.old service.now moment (roll last) (response_data result) self.new };
+    fn roll(&mut self, place: usize, moment: u64, last: u64) -> Response
+        requires held { has self.old place }
+        ensures { answers self.old place moment (roll last) (response_data result) self.new }
+    {
+        self.ask(place, moment, Request::Roll(last))
+    }
 }

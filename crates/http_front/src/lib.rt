@@ -4,11 +4,16 @@
 mod answerer;
 mod answering;
 mod asking;
+mod bodies;
 mod books;
-mod front;
+mod message;
+mod phrase;
+mod responder;
 mod serving;
 
 pub use answerer::Answerer;
+pub use bodies::body_asks;
 pub use books::{Books, NamedBook};
 pub use http_serving::{Clock, Ended};
+pub use message::{AnswerMessage, write_answer};
 pub use serving::serve;

@@ -3,11 +3,11 @@ ghost use Rattle.std.specs.Prelude.{◌≡◌, ℕ, List};
 ghost use Rattle.std.specs.Io.KnownBytes.{Consumes, IsAtEnd};
 ghost use Rattle.counted_io.specs.Counting.{counted};
 ghost use Rattle.http_serving.specs.Serving.{IsServed};
-ghost use Rattle.http_serving.specs.Writing.{ends_input, IsCause};
+ghost use Rattle.http_serving.specs.Writing.{ends_input, IsServingCause};
 ghost use Rattle.http_front.specs.Answered.{fault_text, IsAnswered};
 
 use crate::answerer::Answerer;
-use crate::front::Front;
+use crate::responder::HttpResponder;
 use counted_io::Counted;
 use http_serving::{Clock, Ended};
 use std::alloc::Global;
@@ -28,18 +28,18 @@ pub fn serve<R: Read, W: Write, A: Answerer, C: Clock>(
     // What was written are the answers to the messages of the bytes that were read, in order, by how
     // serving ended.
     ensures served { (bytes : List ℕ) × Consumes (R.remaining reader.old.inner) (R.remaining reader.new.inner) bytes
-        × IsServed fault_text (IsAnswered A.holds A.answers) C.ticks result bytes answerer.old clock.old answerer.new clock.new (W.contents writer.old.inner) (W.contents writer.new.inner) }
+        × IsServed fault_text (IsAnswered A.place_of A.answers) C.ticks result bytes answerer.old clock.old answerer.new clock.new (W.contents writer.old.inner) (W.contents writer.new.inner) }
     // `Closed` and `Truncated` come only where no byte is left.
     ensures closed { result ≡ Ended.Closed → IsAtEnd (R.remaining reader.new.inner) }
     ensures truncated { result ≡ Ended.Truncated → IsAtEnd (R.remaining reader.new.inner) }
     // `ReadFailed` and `WriteFailed` come only where that count went up by one, and no other call failed.
-    ensures cause { IsCause result reader.old.failures reader.new.failures writer.old.failures writer.new.failures }
+    ensures cause { IsServingCause result reader.old.failures reader.new.failures writer.old.failures writer.new.failures }
     // `Closed` and `Truncated` come where one read met the end of the input; in each other case none did. So no read is
     // made behind a message that ends the connection: it could meet the end, or fail.
     ensures ends { reader.new.ends ≡ counted (ends_input result) reader.old.ends }
 {
-    let Ok(front) = Front::new(alloc) else {
+    let Ok(responder) = HttpResponder::new(alloc) else {
         return Ended::OutOfMemory;
     };
-    http_serving::serve(rt, alloc, reader, writer, &front, answerer, clock)
+    http_serving::serve(rt, alloc, reader, writer, &responder, answerer, clock)
 }

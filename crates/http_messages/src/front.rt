@@ -72,7 +72,8 @@ fn at_most(bytes: &[u8], limit: usize) -> &[u8]
     }
 }
 
-fn is_head_method(method: &[u8]) -> bool
+/// Whether a method is `HEAD`, to which a head is answered alone (RFC 9110, section 9.3.2).
+pub fn is_head_method(method: &[u8]) -> bool
     ensures { result ≡ is_head_method method.now }
 {
     method == b"HEAD".as_slice()

@@ -7,5 +7,5 @@ mod front;
 pub mod laws;
 mod lengths;
 
-pub use front::{Fault, Front, Head, HeadParser};
+pub use front::{Fault, Front, Head, HeadParser, is_head_method};
 pub use lengths::decimal;

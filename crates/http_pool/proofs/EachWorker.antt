@@ -1,9 +1,9 @@
 -- What each worker did, one by one, is what all did.
-use Rattle.std.proofs.Common.{◌≡◌, ◌<◌, ℕ, suc, Bool, List, [], ◌∷◌, length, Result, Ok, Err, arith}
+use Rattle.std.proofs.Common.{◌≡◌, ◌<◌, ℕ, suc, Option, List, [], ◌∷◌, length, Result, Ok, Err, arith}
 use Rattle.std.specs.Prelude.{slice_index_or, IfOk}
 use Rattle.service.specs.Asked.{RequestData, ResponseData}
 use Rattle.http_pool.specs.declared.workers.Worker.{Worker}
-use Rattle.http_pool.specs.Workers.{HasWorked, HaveWorked, HasEnded, HaveEnded}
+use Rattle.http_pool.specs.Workers.{HasWorked, HaveWorked, HasEnded, HaveEnded, FailsByListener, FailByListener}
 
 pub if_ok_both : {T E : Type 0} (r : Result T E) (P Q Z : T → Type 0) → ((x : T) → P x → Q x → Z x) → IfOk r P → IfOk r Q → IfOk r Z
 if_ok_both (Ok x) P Q Z both p q = both x p q
@@ -16,8 +16,15 @@ each_ended connections [] (w ∷ after) same each = absurd (omega (arith, same))
 each_ended connections (w ∷ workers) [] same each = absurd (omega (arith, same))
 each_ended connections (w ∷ workers) (v ∷ after) same each = (each 0 w (omega arith), each_ended connections workers after (omega (arith, same)) (λ i d within. each (suc i) d (omega (arith, within))))
 
-module _ {S C : Type 0} (holds : S → List ℕ → Bool) (answers : S → List ℕ → ℕ → RequestData → ResponseData → S → Type 0) (ticks : C → ℕ → C → Type 0) where
-  pub each_worked : (workers after : List (Worker S C)) → length after ≡ length workers → ((i : ℕ) (d : Worker S C) → i < length workers → HasWorked holds answers ticks (slice_index_or workers i d) (slice_index_or after i d)) → HaveWorked holds answers ticks workers after
+-- each failure lies in the listener
+pub each_failed : {S C : Type 0} (workers after : List (Worker S C)) → length after ≡ length workers → ((i : ℕ) (d : Worker S C) → i < length workers → FailsByListener (slice_index_or after i d)) → FailByListener after
+each_failed [] [] same each = tt
+each_failed [] (w ∷ after) same each = absurd (omega (arith, same))
+each_failed (w ∷ workers) [] same each = absurd (omega (arith, same))
+each_failed (w ∷ workers) (v ∷ after) same each = (each 0 w (omega arith), each_failed workers after (omega (arith, same)) (λ i d within. each (suc i) d (omega (arith, within))))
+
+module _ {S C : Type 0} (place_of : S → List ℕ → Option ℕ) (answers : S → ℕ → ℕ → RequestData → ResponseData → S → Type 0) (ticks : C → ℕ → C → Type 0) where
+  pub each_worked : (workers after : List (Worker S C)) → length after ≡ length workers → ((i : ℕ) (d : Worker S C) → i < length workers → HasWorked place_of answers ticks (slice_index_or workers i d) (slice_index_or after i d)) → HaveWorked place_of answers ticks workers after
   each_worked [] [] same each = tt
   each_worked [] (w ∷ after) same each = absurd (omega (arith, same))
   each_worked (w ∷ workers) [] same each = absurd (omega (arith, same))

@@ -12,12 +12,12 @@ pub record Connection : Type 0 where
   pub before : Option (List ℕ)
   pub written : Option (List ℕ)
 
--- holds tells which services a state has; answers relates a state, a service, a moment and what is asked to the response and the state after it; ticks relates a clock's state to the moment that it reads and the state after it
-module _ {S C : Type 0} (holds : S → List ℕ → Bool) (answers : S → List ℕ → ℕ → RequestData → ResponseData → S → Type 0) (ticks : C → ℕ → C → Type 0) where
+-- place_of tells where a state has the service of a name; answers relates a state, a service's place, a moment and what is asked to the response and the state after it; ticks relates a clock's state to the moment that it reads and the state after it
+module _ {S C : Type 0} (place_of : S → List ℕ → Option ℕ) (answers : S → ℕ → ℕ → RequestData → ResponseData → S → Type 0) (ticks : C → ℕ → C → Type 0) where
   -- one connection was served
   abbrev pub IsConnectionServed : Connection → S → C → S → C → Type 0
   IsConnectionServed connection state clock after later =
-      IsServed fault_text (IsAnswered holds answers) ticks connection.ended connection.bytes state clock after later connection.before connection.written
+      IsServed fault_text (IsAnswered place_of answers) ticks connection.ended connection.bytes state clock after later connection.before connection.written
 
   -- these connections were served, the last one first in the list, each from the state that the one before it left
   abbrev pub AreConnectionsServed : List Connection → S → C → S → C → Type 0

@@ -1,7 +1,9 @@
 -- What becomes of workers, each of which serves connections beside the others.
-use Rattle.std.specs.Prelude.{◌≡◌, ◌==◌, ◌||◌, nat_lt, ℕ, List, [], ◌∷◌, Bool, false, Option, None, ⊤}
+use Rattle.std.specs.Prelude.{◌≡◌, ◌==◌, ◌||◌, nat_lt, ℕ, List, [], ◌∷◌, Bool, false, Option, None, IfSome, ⊤}
+use Rattle.std.specs.List.{AllByRecursion}
 use Rattle.service.specs.Asked.{RequestData, ResponseData}
 use Rattle.http_pool.specs.declared.workers.Worker.{Worker}
+use Rattle.http_pool.specs.Failures.{IsOfListener}
 use Rattle.http_pool.specs.Connections.{HasServed}
 
 -- how many workers serve at most
@@ -25,11 +27,19 @@ abbrev pub HaveEnded : {S C : Type 0} → ℕ → List (Worker S C) → Type 0
 HaveEnded connections [] = ⊤
 HaveEnded connections (worker ∷ workers) = HasEnded connections worker × HaveEnded connections workers
 
--- holds tells which services an answerer has; answers relates an answerer, a service, a moment and what is asked to the response and the answerer after it; ticks relates a clock to the moment that it reads and the clock after it
-module _ {S C : Type 0} (holds : S → List ℕ → Bool) (answers : S → List ℕ → ℕ → RequestData → ResponseData → S → Type 0) (ticks : C → ℕ → C → Type 0) where
+-- where a worker has a failure, it has the number of an error that lies in the listener
+abbrev pub FailsByListener : {S C : Type 0} → Worker S C → Type 0
+FailsByListener worker = IfSome worker.failure IsOfListener
+
+-- each of them
+abbrev pub FailByListener : {S C : Type 0} → List (Worker S C) → Type 0
+FailByListener workers = AllByRecursion FailsByListener workers
+
+-- place_of tells where an answerer has the service of a name; answers relates an answerer, a service's place, a moment and what is asked to the response and the answerer after it; ticks relates a clock to the moment that it reads and the clock after it
+module _ {S C : Type 0} (place_of : S → List ℕ → Option ℕ) (answers : S → ℕ → ℕ → RequestData → ResponseData → S → Type 0) (ticks : C → ℕ → C → Type 0) where
   -- some connections were served by a worker
   abbrev pub HasWorked : Worker S C → Worker S C → Type 0
-  HasWorked worker after = HasServed holds answers ticks worker.answerer worker.clock after.answerer after.clock
+  HasWorked worker after = HasServed place_of answers ticks worker.answerer worker.clock after.answerer after.clock
 
   -- worker by worker: as many come back, in their order
   abbrev pub HaveWorked : List (Worker S C) → List (Worker S C) → Type 0

@@ -1,6 +1,7 @@
 //! One connection.
 ghost use Rattle.std.specs.Prelude.{IfErr};
 ghost use Rattle.http_pool.specs.Connections.{HasServed};
+ghost use Rattle.http_pool.specs.Failures.{IsOfListener};
 
 use crate::failure::ListenerFailed;
 use counted_io::Counted;
@@ -37,7 +38,9 @@ const PIECE: usize = 8192;
 pub(crate) fn next_connection(
     time: &impl time::Clock,
     listener: &TcpListener,
-) -> Result<TcpStream, ListenerFailed> {
+) -> Result<TcpStream, ListenerFailed>
+    ensures { IfErr result IsOfListener }
+{
     for accepted in listener.incoming() {
         let error = match accepted {
             Ok(stream) => return Ok(stream),
@@ -86,7 +89,7 @@ pub(crate) fn serve_stream<R: Wait + time::Clock, A: Answerer, C: Clock>(
     answerer: &mut A,
     clock: &mut C,
 )
-    ensures { HasServed A.holds A.answers C.ticks answerer.old clock.old answerer.new clock.new }
+    ensures { HasServed A.place_of A.answers C.ticks answerer.old clock.old answerer.new clock.new }
 {
     if prepare(stream).is_err() {
         return;

@@ -1,4 +1,8 @@
 //! Why a listener accepts no more connections.
+ghost use Rattle.std.specs.Prelude.{◌≡◌};
+ghost use Rattle.std.specs.IoError.{raw_os_error};
+ghost use Rattle.http_pool.specs.Failures.{failure_of, is_listener_error};
+
 use std::fmt::{Display, Formatter};
 use std::{fmt, io};
 
@@ -23,18 +27,28 @@ const ENOTSOCK: i32 = 88;
 
 const EOPNOTSUPP: i32 = 95;
 
+/// Whether an error of accepting, by its number, lies in the listener.
+fn is_listener_error(code: i32) -> bool
+    ensures { result ≡ is_listener_error code }
+{
+    matches!(
+        code,
+        EAGAIN | EBADF | EFAULT | EINVAL | ENOTSOCK | EOPNOTSUPP
+    )
+}
+
 impl ListenerFailed {
     /// A listener that is closed.
     pub(crate) const CLOSED: ListenerFailed = ListenerFailed { code: EBADF };
 
     /// Returns the failure where an error of accepting lies in the listener. Each other error may pass, as too few
     /// file descriptors or too little memory, or lies in the one connection.
-    pub fn from_error(error: &io::Error) -> Option<ListenerFailed> {
+    pub fn from_error(error: &io::Error) -> Option<ListenerFailed>
+        // Just the errors of the system that lie in the listener are failures, each with its own number.
+        ensures { result ≡ failure_of (raw_os_error error.now) }
+    {
         let code = error.raw_os_error()?;
-        if matches!(
-            code,
-            EAGAIN | EBADF | EFAULT | EINVAL | ENOTSOCK | EOPNOTSUPP
-        ) {
+        if is_listener_error(code) {
             Some(ListenerFailed { code })
         } else {
             None

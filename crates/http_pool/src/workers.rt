@@ -1,7 +1,8 @@
 //! Workers, which draw the numbers of connections from one count.
-ghost use Rattle.std.specs.Prelude.{◌≡◌, ◌≤◌, ◌<◌, false, None, IfOk, OnOk, vec_len};
+ghost use Rattle.std.specs.Prelude.{◌≡◌, ◌≤◌, ◌<◌, false, None, IfOk, IfErr, IfSome, OnOk, vec_len};
 ghost use Rattle.http_pool.specs.Connections.{HasServed};
-ghost use Rattle.http_pool.specs.Workers.{is_left, ends, HasWorked, HaveWorked, HaveEnded, HasEnded, most_workers};
+ghost use Rattle.http_pool.specs.Failures.{IsOfListener};
+ghost use Rattle.http_pool.specs.Workers.{is_left, ends, HasWorked, HaveWorked, HaveEnded, HasEnded, FailsByListener, FailByListener, most_workers};
 
 use crate::connections::{next_connection, serve_stream};
 use crate::failure::ListenerFailed;
@@ -55,8 +56,9 @@ fn work<R: Wait + time::Clock, A: Answerer, C: Clock>(
     answerer: &mut A,
     clock: &mut C,
 ) -> Result<u64, ListenerFailed>
-    ensures served { HasServed A.holds A.answers C.ticks answerer.old clock.old answerer.new clock.new }
+    ensures served { HasServed A.place_of A.answers C.ticks answerer.old clock.old answerer.new clock.new }
     ensures none_left { IfOk result (λ number. is_left connections number ≡ false) }
+    ensures failed { IfErr result IsOfListener }
 {
     'connections: for _ in rt.forever() {
         let number = numbers.fetch_add(1, Ordering::SeqCst);
@@ -81,9 +83,11 @@ pub fn serve_connections<R: Wait + time::Clock, A: Answerer, C: Clock>(
     clock: &mut C,
 ) -> Result<(), ListenerFailed>
     // The state after is the one that serving some connections leaves, each as `http_front::serve` says.
-    ensures served { HasServed A.holds A.answers C.ticks answerer.old clock.old answerer.new clock.new }
+    ensures served { HasServed A.place_of A.answers C.ticks answerer.old clock.old answerer.new clock.new }
     // It ends by itself only where a number of connections was given.
     ensures ended { OnOk result (ends connections) }
+    // A failure has the number of an error that lies in the listener, so that a caller need not wait for it to pass.
+    ensures failed { IfErr result IsOfListener }
 {
     let numbers = AtomicU64::new(0);
     work(rt, alloc, listener, connections, &numbers, answerer, clock)?;
@@ -99,8 +103,9 @@ fn run<R: Wait + time::Clock, A: Answerer + Drop, C: Clock + Drop>(
     numbers: &AtomicU64,
     mut worker: Worker<A, C>,
 ) -> Worker<A, C>
-    ensures worked { HasWorked A.holds A.answers C.ticks worker result }
+    ensures worked { HasWorked A.place_of A.answers C.ticks worker result }
     ensures ended { HasEnded connections result }
+    ensures failed { FailsByListener result }
 {
     let Worker {
         answerer,
@@ -133,9 +138,12 @@ pub fn pool<
     requires few { vec_len workers ≤ most_workers }
     // Each worker comes back at its place, and its answerer and its clock stand where serving some
     // connections, one after another, leaves them, each as `http_front::serve` says.
-    ensures each { IfOk result (λ after. HaveWorked A.holds A.answers C.ticks workers.items after.items) }
+    ensures each { IfOk result (λ after. HaveWorked A.place_of A.answers C.ticks workers.items after.items) }
     // A worker with no failure has ended by itself, which it does only where a number of connections was given.
     ensures ended { IfOk result (λ after. HaveEnded connections after.items) }
+    // A failure that a worker brings back has the number of an error that lies in the listener, whatever failure the
+    // worker was given.
+    ensures failed { IfOk result (λ after. FailByListener after.items) }
 {
     let numbers = AtomicU64::new(0);
     let shared = &numbers;
@@ -143,7 +151,7 @@ pub fn pool<
         rt,
         workers,
         &|worker: Worker<A, C>| -> Worker<A, C>
-            ensures { HasWorked A.holds A.answers C.ticks worker result × HasEnded connections result }
+            ensures { HasWorked A.place_of A.answers C.ticks worker result × HasEnded connections result × FailsByListener result }
         { run(rt, alloc, listener, connections, shared, worker) },
     )
 }

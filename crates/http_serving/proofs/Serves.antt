@@ -13,7 +13,7 @@ use Rattle.http_messages.specs.Messages.{Message, BeginsWith, AreMessages, HasFa
 use Rattle.http_serving.specs.declared.ended.Ended.{Ended}
 use Rattle.http_serving.specs.declared.ended.Ended.TheVariants as ended
 use Rattle.http_serving.specs.Reading.{ReadsMore, IsReadEnd, message_of}
-use Rattle.http_serving.specs.Requests.{RequestData, request_of}
+use Rattle.http_serving.specs.Requests.{HttpRequestData, request_of}
 use Rattle.http_serving.specs.Serving.{AreAnswered, IsServed, IsText, IsTurn, IsUnderway}
 use Rattle.http_serving.specs.Writing.{IsRefusal}
 use Rattle.http_messages.proofs.Longer.{messages_stay}
@@ -23,7 +23,7 @@ use Rattle.http_serving.proofs.Pieces.{consumes_more}
 part_after : (a b c : Option (List ℕ)) (x y : List ℕ) → Appends a b x → AppendsPart b c y → AppendsPart a c (x ++ y)
 part_after a b c x y sent (part, (rest, is), more) = (x ++ part, (rest, ap (λ z. x ++ z) is ∙ sym (append_assoc x part rest)), appends_more a b c x part sent more)
 
-module _ {S C : Type 0} (refusal : Fault → List ℕ) (responds : S → ℕ → RequestData → List ℕ → S → Type 0) (ticks : C → ℕ → C → Type 0) where
+module _ {S C : Type 0} (refusal : Fault → List ℕ) (responds : S → ℕ → HttpRequestData → List ℕ → S → Type 0) (ticks : C → ℕ → C → Type 0) where
   -- one message more was answered
   pub answered_next : (messages : List Message) (s : S) (c : C) (text : List ℕ) (t : S) (d : C) (message : Message) (moment : ℕ) (answer : List ℕ) (u : S) (e : C)
       → AreAnswered refusal responds ticks s c messages text t d → ticks d moment e → responds t moment (request_of message) answer u
@@ -145,21 +145,21 @@ module _ {S C : Type 0} (refusal : Fault → List ℕ) (responds : S → ℕ →
 
   -- ---- the same of a message whose head was found, with its whole body
 
-  pub fails_at : (end : Ended) (had has : Option (List ℕ)) (unread : List ℕ) (found : Head) (head : RequestHead) (q : RequestData) (s : S) (c : C) (t : S) (d : C) (u : S) (e : C) (w v x : Option (List ℕ))
+  pub fails_at : (end : Ended) (had has : Option (List ℕ)) (unread : List ℕ) (found : Head) (head : RequestHead) (q : HttpRequestData) (s : S) (c : C) (t : S) (d : C) (u : S) (e : C) (w v x : Option (List ℕ))
       → IsUnderway refusal responds ticks had has unread s c t d w v → IsHeadAt unread found head → found.size + found.body ≤ length unread → q ≡ request_of (message_of unread found head)
       → IsTurn refusal responds ticks {X = Unit {0}} q t d (Err end) u e v x → Ends end had has s c u e w x
   fails_at end had has unread found head q s c t d u e w v x underway is fits same turn =
       fails end had has unread (drop (found.size + found.body) unread) s c t d u e w v x (message_of unread found head) underway (begins_with unread found head is fits)
       (subst (λ r. IsTurn refusal responds ticks {X = Unit {0}} r t d (Err end) u e v x) same turn)
 
-  pub finishes_at : (had has : Option (List ℕ)) (unread : List ℕ) (found : Head) (head : RequestHead) (q : RequestData) (s : S) (c : C) (t : S) (d : C) (u : S) (e : C) (w v x : Option (List ℕ))
+  pub finishes_at : (had has : Option (List ℕ)) (unread : List ℕ) (found : Head) (head : RequestHead) (q : HttpRequestData) (s : S) (c : C) (t : S) (d : C) (u : S) (e : C) (w v x : Option (List ℕ))
       → IsUnderway refusal responds ticks had has unread s c t d w v → IsHeadAt unread found head → found.size + found.body ≤ length unread → q ≡ request_of (message_of unread found head)
       → found.closes ≡ true → IsTurn refusal responds ticks {X = Unit {0}} q t d (Ok tt) u e v x → Ends ended.Finished had has s c u e w x
   finishes_at had has unread found head q s c t d u e w v x underway is fits same closes (moment, answer, tick, responded, more) =
       finishes had has unread (drop (found.size + found.body) unread) s c t d u e w v x (message_of unread found head) moment answer underway (begins_with unread found head is fits)
       (sym is.last ∙ closes) tick (subst (λ r. responds t moment r answer u) same responded) more
 
-  pub next_at : (had has : Option (List ℕ)) (unread : List ℕ) (found : Head) (head : RequestHead) (q : RequestData) (s : S) (c : C) (t : S) (d : C) (u : S) (e : C) (w v x : Option (List ℕ))
+  pub next_at : (had has : Option (List ℕ)) (unread : List ℕ) (found : Head) (head : RequestHead) (q : HttpRequestData) (s : S) (c : C) (t : S) (d : C) (u : S) (e : C) (w v x : Option (List ℕ))
       → IsUnderway refusal responds ticks had has unread s c t d w v → IsHeadAt unread found head → found.size + found.body ≤ length unread → q ≡ request_of (message_of unread found head)
       → found.closes ≡ false → IsTurn refusal responds ticks {X = Unit {0}} q t d (Ok tt) u e v x
       → IsUnderway refusal responds ticks had has (drop (found.size + found.body) unread) s c u e w x

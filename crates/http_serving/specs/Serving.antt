@@ -6,14 +6,14 @@ use Rattle.http_messages.specs.declared.front.Fault.{Fault}
 use Rattle.http_messages.specs.Messages.{Message, BeginsWith, AreMessages, IsInput, IsPartOfMessage, Ending, closed, truncated, refused, final}
 use Rattle.http_serving.specs.declared.ended.Ended.{Ended}
 use Rattle.http_serving.specs.declared.ended.Ended.TheVariants as ended
-use Rattle.http_serving.specs.Requests.{RequestData, request_of}
+use Rattle.http_serving.specs.Requests.{HttpRequestData, request_of}
 
 -- no whole message stands in the bytes, nor one that is refused: nothing, or a part of a message
 abbrev pub IsUnfinished : List ℕ → Type 0
 IsUnfinished bytes = (bytes ≡ []) ⊎ IsPartOfMessage bytes
 
 -- refusal is the text of the answer to a message that is refused; responds relates a state, a moment and a request to the text of the answer and the state after it; ticks relates a clock's state to the moment that it reads and the state after it
-module _ {S C : Type 0} (refusal : Fault → List ℕ) (responds : S → ℕ → RequestData → List ℕ → S → Type 0) (ticks : C → ℕ → C → Type 0) where
+module _ {S C : Type 0} (refusal : Fault → List ℕ) (responds : S → ℕ → HttpRequestData → List ℕ → S → Type 0) (ticks : C → ℕ → C → Type 0) where
   -- the messages are answered with this text in order, each at the moment of one reading of the clock
   abbrev pub AreAnswered : S → C → List Message → List ℕ → S → C → Type 0
   AreAnswered state clock [] text after later = (text ≡ []) × (after ≡ state) × (later ≡ clock)
@@ -94,7 +94,7 @@ module _ {S C : Type 0} (refusal : Fault → List ℕ) (responds : S → ℕ →
       × AreAnswered state clock messages text after later × Appends before written text
 
   -- a request was answered; an error says how serving ends behind it
-  abbrev pub IsTurn : {X : Type 0} → RequestData → S → C → Result X Ended → S → C → Option (List ℕ) → Option (List ℕ) → Type 0
+  abbrev pub IsTurn : {X : Type 0} → HttpRequestData → S → C → Result X Ended → S → C → Option (List ℕ) → Option (List ℕ) → Type 0
   IsTurn request state clock (Ok x) after later before written =
       (moment : ℕ) × (text : List ℕ) × ticks clock moment later × responds state moment request text after × Appends before written text
   IsTurn request state clock (Err ended.WriteFailed) after later before written =

@@ -30,7 +30,7 @@ ends_input ended.Truncated = true
 ends_input other = false
 
 -- how serving ended, with the counts of failed reads and of failed writes before and after: an end for a failure comes where one more call failed, and no other call failed
-abbrev pub IsCause : Ended → ℕ → ℕ → ℕ → ℕ → Type 0
-IsCause ended.ReadFailed reads reads_after writes writes_after = (reads_after ≡ one_more reads) × (writes_after ≡ writes)
-IsCause ended.WriteFailed reads reads_after writes writes_after = (reads_after ≡ reads) × (writes_after ≡ one_more writes)
-IsCause other reads reads_after writes writes_after = (reads_after ≡ reads) × (writes_after ≡ writes)
+abbrev pub IsServingCause : Ended → ℕ → ℕ → ℕ → ℕ → Type 0
+IsServingCause ended.ReadFailed reads reads_after writes writes_after = (reads_after ≡ one_more reads) × (writes_after ≡ writes)
+IsServingCause ended.WriteFailed reads reads_after writes writes_after = (reads_after ≡ reads) × (writes_after ≡ one_more writes)
+IsServingCause other reads reads_after writes writes_after = (reads_after ≡ reads) × (writes_after ≡ writes)

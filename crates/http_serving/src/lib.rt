@@ -10,5 +10,5 @@ mod serving;
 
 pub use clock::Clock;
 pub use ended::Ended;
-pub use responder::{Request, Responder};
+pub use responder::{HttpRequest, Responder};
 pub use serving::serve;

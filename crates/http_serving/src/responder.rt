@@ -1,14 +1,14 @@
 //! Who answers messages.
 ghost use Rattle.std.specs.Prelude.{◌≡◌, ◌⊎◌, ℕ, List, OnOk, OnErr};
 ghost use Rattle.http_messages.specs.declared.front.Fault.{Fault};
-ghost use Rattle.http_serving.specs.Requests.{RequestData, request_data};
+ghost use Rattle.http_serving.specs.Requests.{HttpRequestData, http_request_data};
 
 use http_messages::Fault;
 use std::alloc::AllocError;
 
 /// A request, as slices of the bytes that were read.
 #[derive(Clone, Copy, Debug)]
-pub struct Request<'a> {
+pub struct HttpRequest<'a> {
     /// The method, as GET.
     pub method: &'a [u8],
     /// The request target (RFC 9112, section 3.2), which is UTF-8.
@@ -25,7 +25,7 @@ pub trait Responder<S> {
     ghost refusal: { Fault → List ℕ };
 
     // how a state, a moment and a request are related to the text of the answer and the state after it
-    ghost responds: { S → ℕ → RequestData → List ℕ → S → Type 0 };
+    ghost responds: { S → ℕ → HttpRequestData → List ℕ → S → Type 0 };
 
     /// Answers a message that is refused; the connection ends behind the answer. The error is want of
     /// memory.
@@ -38,9 +38,9 @@ pub trait Responder<S> {
         &self,
         state: &mut S,
         moment: u64,
-        request: &Request<'_>,
+        request: &HttpRequest<'_>,
         text: &mut Vec<u8>,
     ) -> Result<(), AllocError>
-        ensures answered { OnOk result (responds state.old moment (request_data request.now) text.new.items state.new) }
-        ensures lost { OnErr result ((state.new ≡ state.old) ⊎ ((answer : List ℕ) × responds state.old moment (request_data request.now) answer state.new)) };
+        ensures answered { OnOk result (responds state.old moment (http_request_data request.now) text.new.items state.new) }
+        ensures lost { OnErr result ((state.new ≡ state.old) ⊎ ((answer : List ℕ) × responds state.old moment (http_request_data request.now) answer state.new)) };
 }

@@ -5,15 +5,15 @@ ghost use Rattle.httparse.specs.Grammar.{RequestHead};
 ghost use Rattle.counted_io.specs.Counting.{counted};
 ghost use Rattle.http_messages.specs.Fronts.{IsHeadAt};
 ghost use Rattle.http_serving.specs.Reading.{message_of, IsFound};
-ghost use Rattle.http_serving.specs.Requests.{request_data, request_of};
+ghost use Rattle.http_serving.specs.Requests.{http_request_data, request_of};
 ghost use Rattle.http_serving.specs.Serving.{IsServed, IsTurn};
-ghost use Rattle.http_serving.specs.Writing.{ends_input, IsCause, IsTurnCause};
+ghost use Rattle.http_serving.specs.Writing.{ends_input, IsServingCause, IsTurnCause};
 
 use crate::clock::Clock;
 use crate::ended::Ended;
 use crate::input::{Found, drop_front, next_message};
 use crate::output::{refuse, send};
-use crate::responder::{Request, Responder};
+use crate::responder::{HttpRequest, Responder};
 use counted_io::Counted;
 use http_messages::{Head, HeadParser};
 use std::alloc::Global;
@@ -21,11 +21,11 @@ use std::io::{Read, Write};
 use std::sync::Wait;
 
 /// The request at the front of the unread bytes.
-fn request_at<'a>(unread: &'a [u8], head: &Head) -> Request<'a>
+fn request_at<'a>(unread: &'a [u8], head: &Head) -> HttpRequest<'a>
     requires whole { IsFound unread.now (Found.Whole head.now) }
-    ensures { (h : RequestHead) → IsHeadAt unread.now head.now h → request_data result ≡ request_of (message_of unread.now head.now h) }
+    ensures { (h : RequestHead) → IsHeadAt unread.now head.now h → http_request_data result ≡ request_of (message_of unread.now head.now h) }
 {
-    Request {
+    HttpRequest {
         method: head.method.of(unread),
         target: head.target.of(unread),
         body: &unread[head.size..head.size + head.body],
@@ -39,10 +39,10 @@ fn answer<S, P: Responder<S>, W: Write, C: Clock>(
     state: &mut S,
     clock: &mut C,
     writer: &mut Counted<W>,
-    request: &Request<'_>,
+    request: &HttpRequest<'_>,
     text: &mut Vec<u8>,
 ) -> Result<(), Ended>
-    ensures turn { IsTurn P.refusal P.responds C.ticks (request_data request.now) state.old clock.old result state.new clock.new (W.contents writer.old.inner) (W.contents writer.new.inner) }
+    ensures turn { IsTurn P.refusal P.responds C.ticks (http_request_data request.now) state.old clock.old result state.new clock.new (W.contents writer.old.inner) (W.contents writer.new.inner) }
     ensures cause { IsTurnCause result writer.old.failures writer.new.failures }
 {
     let moment = clock.now_ms();
@@ -73,7 +73,7 @@ pub fn serve<S, P: Responder<S>, R: Read, W: Write, C: Clock>(
     ensures closed { result ≡ Ended.Closed → IsAtEnd (R.remaining reader.new.inner) }
     ensures truncated { result ≡ Ended.Truncated → IsAtEnd (R.remaining reader.new.inner) }
     // `ReadFailed` and `WriteFailed` come only where that count went up by one, and no other call failed.
-    ensures cause { IsCause result reader.old.failures reader.new.failures writer.old.failures writer.new.failures }
+    ensures cause { IsServingCause result reader.old.failures reader.new.failures writer.old.failures writer.new.failures }
     // `Closed` and `Truncated` come where one read met the end of the input; in each other case none did. So no read is
     // made behind a message that ends the connection: it could meet the end, or fail.
     ensures ends { reader.new.ends ≡ counted (ends_input result) reader.old.ends }

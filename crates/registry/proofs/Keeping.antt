@@ -1,5 +1,5 @@
 -- What a registry keeps of its open tickets.
-use Rattle.std.proofs.Common.{◌≡◌, ℕ, min, drop, ◌+◌, ◌-◌, ◌<◌, ◌≤◌, ◌==◌, nat_le, nat_lt, ◌&&◌, ◌||◌, not, Bool, true, false, cond, Option, Some, None, IfSome, List, [], ◌∷◌, ◌++◌, length, map, slice_get, if◌then◌else◌, arith, refl, sym, ap, ◌∙◌}
+use Rattle.std.proofs.Common.{◌≡◌, ℕ, min, drop, ◌+◌, ◌-◌, ◌<◌, ◌≤◌, ◌==◌, nat_le, nat_lt, ◌&&◌, ◌||◌, not, Bool, true, false, cond, Option, Some, None, IfSome, List, [], ◌∷◌, ◌++◌, length, map, Ok, Err, slice_get, if◌then◌else◌, arith, refl, sym, ap, ◌∙◌}
 use Rattle.std.proofs.lemmas.Bool.Decides.{nat_tests}
 use Rattle.std.proofs.lemmas.List.{length-map, length-drop}
 use Rattle.std.proofs.lemmas.Option.{slice_get-map}
@@ -9,7 +9,8 @@ use Rattle.bpf_profile.specs.Programs.{VerifiedProgram}
 use Rattle.service_profile.specs.Answers.{least_version}
 use Rattle.service_profile.specs.Machine.{open_ticket, is_open, program_from}
 use Rattle.service_profile.specs.declared.tickets.OpenTicket.{OpenTicket}
-use Rattle.registry.specs.Registries.{RegistryData, IsTicketOf, IsRegistry, current_version, least_needed, without_ticket, without_unneeded}
+use Rattle.refusals.specs.declared.RefusalNumber.TheVariants as refusal
+use Rattle.registry.specs.Registries.{RegistryData, IsTicketOf, IsRegistry, current_version, is_issued, least_needed, spent_or_open, ticket_in, without_ticket, without_unneeded}
 
 -- ---- a ticket more, and a ticket less
 
@@ -71,6 +72,23 @@ open_is_issued first versions next [] n all h = let bad : ◌≡◌ {A = Bool} f
 open_is_issued first versions next (t ∷ ts) n all h =
     issued_head (t.number == n) (is_open ts n) (nat_le 1 n && nat_lt n next) (given_number next n t.number all.0.given all.0.before) (open_is_issued first versions next ts n all.1) h
 
+number_head : (x t : OpenTicket) (n : ℕ) (b : Bool) (o : Option OpenTicket) → (x.number == n) ≡ b → (o ≡ Some t → (t.number == n) ≡ true) → cond b (Some x) o ≡ Some t → (t.number == n) ≡ true
+number_head x t n true o h rest e = let same : ◌≡◌ {A = Option OpenTicket} (Some x) (Some t) = e in cc
+number_head x t n false o h rest e = rest e
+
+-- the ticket that is found has the number that it was asked by
+found_number : (tickets : List OpenTicket) (n : ℕ) (t : OpenTicket) → open_ticket tickets n ≡ Some t → (t.number == n) ≡ true
+found_number [] n t e = let bad : ◌≡◌ {A = Option OpenTicket} None (Some t) = e in cc
+found_number (x ∷ ts) n t e = number_head x t n (x.number == n) (open_ticket ts n) refl (found_number ts n t) e
+
+found_in : (r : RegistryData) (n : ℕ) (t : OpenTicket) (issued : Bool) → issued ≡ true → open_ticket r.open_tickets n ≡ Some t → Ok t ≡ (if issued then spent_or_open (open_ticket r.open_tickets n) else Err refusal.NoTicket)
+found_in r n t true h e = ap spent_or_open (sym e)
+found_in r n t false h e = let bad : ◌≡◌ {A = Bool} false true = h in cc
+
+-- a ticket that is found, as each is that a registry has, is the one of its number
+pub found_is_in : (r : RegistryData) (n : ℕ) (t : OpenTicket) → open_ticket r.open_tickets n ≡ Some t → IsTicketOf r.first_version (length r.programs) r.next_ticket t → Ok t ≡ ticket_in r n
+found_is_in r n t e h = found_in r n t (is_issued r n) (given_number r.next_ticket n t.number h.given h.before (found_number r.open_tickets n t e)) e
+
 -- ---- what is not open
 
 stay_head : (t : OpenTicket) (b c : Bool) (kept ts : List OpenTicket) → (c ≡ false → kept ≡ ts) → (b || c) ≡ false → cond (not b) (t ∷ kept) kept ≡ t ∷ ts
@@ -82,9 +100,9 @@ pub none_dropped : (tickets : List OpenTicket) (n : ℕ) → is_open tickets n �
 none_dropped [] n none = refl
 none_dropped (t ∷ ts) n none = stay_head t (t.number == n) (is_open ts n) (filter (λ ticket. not (ticket.number == n)) ts) ts (none_dropped ts n) none
 
-pub false_unless : (b : Bool) → (b ≡ true → ◌≡◌ {A = Bool} false true) → b ≡ false
-false_unless true h = sym (h refl)
-false_unless false h = refl
+-- and so where it is not found
+pub none_ended : (tickets : List OpenTicket) (n : ℕ) → open_ticket tickets n ≡ None → filter (λ ticket. not (ticket.number == n)) tickets ≡ tickets
+none_ended tickets n e = none_dropped tickets n (open_where_found tickets n ∙ ap is_some e)
 
 -- ---- the current program
 

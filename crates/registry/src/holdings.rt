@@ -2,7 +2,6 @@
 ghost use Rattle.std.specs.Prelude.{◌≡◌, ◌<◌, ◌≤◌, ◌+◌, ◌^◌, nat_le, nat_lt, ◌&&◌, length, Some, IsTrue, IfSome, IfOk};
 ghost use Rattle.std.specs.Arc.{arc_value};
 ghost use Rattle.std.specs.Option.{option_map};
-ghost use Rattle.service_profile.specs.Answers.{budget_of};
 ghost use Rattle.service_profile.specs.Limits.{most_versions};
 ghost use Rattle.service_profile.specs.Machine.{open_ticket, is_open, program_from};
 ghost use Rattle.registry.specs.Registries.{opened, current_version, next_version, is_issued, Ascend, IsTicketOf, AreTicketsOf};
@@ -104,13 +103,6 @@ impl Registry {
         ensures { program_from self.now.first_version self.now.programs (current_version self.now) ≡ Some (arc_value result.now) }
     {
         last(self.programs.as_slice())
-    }
-
-    /// The budget of the program of new tickets.
-    pub fn current_budget(&self) -> u32
-        ensures { result ≡ budget_of (program_from self.now.first_version self.now.programs (current_version self.now)) }
-    {
-        self.current_program().budget()
     }
 
     /// The number of the next ticket.

@@ -38,7 +38,8 @@ impl Registry {
     }
 
     /// Installs a program as the next version, and answers that version. The refusal is `VersionsFull` where 256
-    /// versions are held, `ServiceOutOfMemory` without memory; it changes nothing.
+    /// versions are held, `ServiceOutOfMemory` without memory; it changes nothing. A book makes room first and holds the
+    /// program once all else is settled, and doesn't call this.
     pub fn install(&mut self, program: Arc<Verified>) -> Result<u64, RefusalNumber>
         requires numbers { next_version self.old + 1 < 2 ^ 64 }
         ensures version { IfOk result (λ version. version ≡ next_version self.old) }
@@ -56,7 +57,8 @@ impl Registry {
         }
     }
 
-    /// Keeps the current program alone, under its version. No ticket is open. It takes no memory.
+    /// Keeps the current program alone, under its version. No ticket is open. It takes no memory. A book that is cut opens
+    /// anew with one more owner of that program, and doesn't call this.
     pub fn keep_current(&mut self)
         requires { self.old.open_tickets ≡ [] }
         ensures { self.new ≡ with_current self.old }

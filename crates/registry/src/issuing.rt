@@ -1,8 +1,8 @@
 //! Tickets: how they are issued and end, and which program judges under them.
-ghost use Rattle.std.specs.Prelude.{◌≡◌, ◌<◌, ◌≤◌, ◌+◌, ◌^◌, length, Some, IsOk, IsTrue, OnOk, OnErr, IfOk};
+ghost use Rattle.std.specs.Prelude.{◌≡◌, ◌<◌, ◌≤◌, ◌+◌, ◌^◌, length, Some, None, Err, IsOk, IsTrue, OnOk, OnErr, IfOk};
 ghost use Rattle.std.specs.Arc.{arc_value};
 ghost use Rattle.service_profile.specs.Answers.{map_ok};
-ghost use Rattle.service_profile.specs.Machine.{is_open};
+ghost use Rattle.service_profile.specs.Machine.{is_open, open_ticket};
 ghost use Rattle.registry.specs.Registries.{next_open, with_ticket, without_ticket, ticket_in, looked_in, looked_with, IsShared, IsTicketOf};
 
 use crate::holdings::Registry;
@@ -37,13 +37,22 @@ impl Registry {
         ensures others { self.new ≡ without_ticket self.old ticket }
         ensures err { OnErr result (self.new ≡ self.old) }
     {
-        if !self.is_issued(ticket) {
-            return Err(RefusalNumber::NoTicket);
-        }
         let Some(ended) = self.open_tickets.remove(ticket) else {
-            return Err(RefusalNumber::TicketSpent);
+            return Err(self.why_not_open(ticket));
         };
         Ok(ended)
+    }
+
+    /// Why the ticket of a number is not open: it was never issued, or it has ended.
+    fn why_not_open(&self, number: u64) -> RefusalNumber
+        requires closed { open_ticket self.now.open_tickets number ≡ None }
+        ensures { Err result ≡ ticket_in self.now number }
+    {
+        if self.is_issued(number) {
+            RefusalNumber::TicketSpent
+        } else {
+            RefusalNumber::NoTicket
+        }
     }
 
     /// The ticket of a number, or why it is not open.
@@ -52,12 +61,9 @@ impl Registry {
         ensures open { IsTrue (is_open self.now.open_tickets number) → IsOk result }
         ensures held { IfOk result (IsTicketOf self.now.first_version (length self.now.programs) self.now.next_ticket) }
     {
-        if !self.is_issued(number) {
-            return Err(RefusalNumber::NoTicket);
-        }
         match self.open_ticket(number) {
             Some(open) => Ok(open),
-            None => Err(RefusalNumber::TicketSpent),
+            None => Err(self.why_not_open(number)),
         }
     }
 
@@ -82,7 +88,8 @@ impl Registry {
     }
 
     /// One more owner of the program that judges under an open ticket. The refusal is that of `look`, or
-    /// `ServiceOutOfMemory` where the program can have no more owners.
+    /// `ServiceOutOfMemory` where the program can have no more owners. A book takes that owner by itself, and doesn't call
+    /// this.
     pub fn program_of(&self, ticket: u64) -> Result<Arc<Verified>, RefusalNumber>
         ensures { IsShared (looked_in self.now ticket) (map_ok arc_value result) }
     {

@@ -1,16 +1,20 @@
 -- Where the end of an input was met.
-use Rattle.std.proofs.Common.{◌≡◌, ◌⊎◌, ℕ, ◌<◌, ◌==◌, nat_lt, not, true, false, Bool, List, [], ◌∷◌, ◌++◌, length, Option, Some, None, refl, ap, sym, ◌∙◌, arith, inl, inr, ne_eqb}
+use Rattle.std.proofs.Common.{◌≡◌, ◌⊎◌, ℕ, ◌<◌, ◌==◌, nat_lt, not, true, false, Bool, List, [], ◌∷◌, ◌++◌, length, Option, Some, None, Result, Ok, Err, refl, ap, sym, ◌∙◌, arith, inl, inr, ne_eqb}
 use Rattle.std.proofs.lemmas.Grind.{common_steps}
 use Rattle.std.specs.Io.KnownBytes.{IsAtEnd}
 use Rattle.counted_io.proofs.Pieces.{appends_none}
 use Rattle.counted_io.specs.Counting.{TakesByte, counted, one_more}
 use Rattle.service_profile.specs.declared.configuration.ConfigParts.{ConfigParts}
 use Rattle.service_profile.specs.Events.{History}
+use Rattle.replay.specs.declared.error.ReplayError.{ReplayError}
+use Rattle.replay.specs.declared.error.ReplayError.TheVariants as error
+use Rattle.replay.specs.declared.replaying.ReplayEnded.{ReplayEnded}
 use Rattle.replay.specs.declared.lines.Found.{Found}
 use Rattle.replay.specs.declared.lines.Found.TheVariants as found
-use Rattle.replay.specs.Ends.{end_found, goes_on, has_feed, is_there, IsLastRead, kept_line, told_found}
-use Rattle.replay.specs.Lines.{told, is_blank, TakesLine, TakesTold, SaysTheSame, LosesLine, LosesLines}
-use Rattle.replay.specs.Replaying.{config_told, IsBegun, IsLineAnswered, AreEventsAnswered}
+use Rattle.replay.specs.Causes.{IsReadCauseOf}
+use Rattle.replay.specs.Ends.{end_found, goes_on, has_feed, is_there, IsLastRead, IsNoneAtEnd, kept_line, told_found}
+use Rattle.replay.specs.Lines.{told, first_of, is_blank, TakesLine, TakesTold, SaysTheSame, IsFirstTold, LosesLine, LosesLines}
+use Rattle.replay.specs.Replaying.{config_told, IsBegun, IsFirstLeft, IsLineAnswered, AreEventsAnswered}
 use Rattle.replay.proofs.Taking.{HasBegun, text_ends, told_next, says_on, loses_fewer, loses_line}
 use Rattle.replay.proofs.Running.{begun_by, begun_none, events_on}
 
@@ -43,6 +47,13 @@ stops_of line (inr (some, is)) = rw is refl
 
 pub end_stops : (line : List ℕ) → goes_on (end_found line) ≡ false
 end_stops line = stops_of line (end_cases line)
+
+none_of : (line : List ℕ) → ((line ≡ []) × (end_found line ≡ found.End)) ⊎ ((0 < length line) × (end_found line ≡ found.Last)) → IsNoneAtEnd (end_found line) line
+none_of line (inl (none, is)) = rw is none
+none_of line (inr (some, is)) = rw is tt
+
+pub end_none : (line : List ℕ) → IsNoneAtEnd (end_found line) line
+end_none line = none_of line (end_cases line)
 
 pub end_fed : (line : List ℕ) → has_feed line ≡ false → has_feed line ≡ goes_on (end_found line)
 end_fed line plain = plain ∙ sym (end_stops line)
@@ -82,6 +93,10 @@ pub last_fed : (line : List ℕ) (blank : Bool) → has_feed line ≡ false → 
 last_fed line true plain = refl
 last_fed line false plain = plain
 
+pub last_none : (line : List ℕ) (blank : Bool) → IsNoneAtEnd (told_found blank) (kept_line blank line)
+last_none line true = refl
+last_none line false = tt
+
 pub last_read : (blank : Bool) (left : Option (List ℕ)) → IsAtEnd left → IsLastRead (told_found blank) left
 last_read true left end = end
 last_read false left end = end
@@ -102,6 +117,28 @@ stops_at_end found.End left stops end = end
 pub begun_found : (input left : Option (List ℕ)) (there : Bool) (line : List ℕ) (config : Option ConfigParts) → TakesTold input left there line → config ≡ config_told there line → IsBegun input left config
 begun_found input left true line config takes is = begun_by input left line config takes is
 begun_found input left false line config takes is = rw is (begun_none input left line takes)
+
+-- the line that was found is the first that says something
+pub first_told : (input left : Option (List ℕ)) (at : Found) (line : List ℕ) → TakesTold input left (is_there at) line → IsNoneAtEnd at line → IsFirstTold input line
+first_told None left at line takes none = tt
+first_told (Some text) left found.Line line (rest, is, says) none = sym (ap first_of says)
+first_told (Some text) left found.Last line (rest, is, says) none = sym (ap first_of says)
+first_told (Some text) left found.End line (rest, is, says) none = none ∙ sym (ap first_of says)
+
+-- it is left to the caller, however the replay ends
+pub first_left : (r : Result ReplayEnded ReplayError) (input : Option (List ℕ)) (line : List ℕ) → IsFirstTold input line → IsFirstLeft r input line
+first_left (Ok end) input line told = told
+first_left (Err error.ReadFailed) input line told = tt
+first_left (Err error.WriteFailed) input line told = told
+first_left (Err error.OutOfMemory) input line told = tt
+first_left (Err error.TooLong) input line told = tt
+
+-- no write failed where a reader alone was called
+pub first_unread : (e : ReplayError) (before after : ℕ) (input : Option (List ℕ)) (line : List ℕ) → IsReadCauseOf e before after input → IsFirstLeft (Err e) input line
+first_unread error.ReadFailed before after input line cause = tt
+first_unread error.WriteFailed before after input line cause = absurd cause
+first_unread error.OutOfMemory before after input line cause = tt
+first_unread error.TooLong before after input line cause = tt
 
 -- a configuration is on a line that was taken off
 abbrev pub LosesFirst : Option ConfigParts → Option (List ℕ) → Option (List ℕ) → Type 0

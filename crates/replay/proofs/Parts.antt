@@ -5,7 +5,7 @@ use Rattle.counted_io.specs.Counting.{IsBeginning}
 use Rattle.counted_io.proofs.Pieces.{appends_none, appends_more}
 use Rattle.service_profile.specs.declared.configuration.ConfigParts.{ConfigParts}
 use Rattle.service_profile.specs.Events.{History}
-use Rattle.replay.specs.declared.replaying.Ended.TheVariants as ended
+use Rattle.replay.specs.declared.replaying.ReplayEnded.TheVariants as ended
 use Rattle.replay.specs.Answering.{AreAnswered, answer_line}
 use Rattle.replay.specs.Lines.{TakesTold}
 use Rattle.replay.specs.Parts.{IsLinePart, AreEventsPart, IsPart, IsReplayedPart}

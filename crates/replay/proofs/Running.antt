@@ -4,7 +4,7 @@ use Rattle.counted_io.proofs.Pieces.{appends_none, appends_more}
 use Rattle.service_profile.specs.declared.configuration.ConfigParts.{ConfigParts}
 use Rattle.service_profile.specs.Events.{History}
 use Rattle.requests.specs.Configurations.{config_in}
-use Rattle.replay.specs.declared.replaying.Ended.TheVariants as ended
+use Rattle.replay.specs.declared.replaying.ReplayEnded.TheVariants as ended
 use Rattle.replay.specs.Answering.{AreAnswered, answer_line}
 use Rattle.replay.specs.Lines.{told, AreTold, TakesTold}
 use Rattle.replay.specs.Replaying.{IsOpened, IsReplayOf, IsReplay, IsReplayed, Begins, IsBegun, IsLineAnswered, AreEventsAnswered}

@@ -38,6 +38,6 @@ IsCauseOf error.OutOfMemory reads reads_after writes writes_after input = (reads
 IsCauseOf error.TooLong reads reads_after writes writes_after input = (reads_after ≡ reads) × (writes_after ≡ writes) × HasManyLines input
 
 -- an error is answered where one more read failed, one more write failed, memory ran out, or the input has very many lines; else no call failed
-abbrev pub IsCause : {X : Type 0} → Result X ReplayError → ℕ → ℕ → ℕ → ℕ → Option (List ℕ) → Type 0
-IsCause (Ok x) reads reads_after writes writes_after input = (reads_after ≡ reads) × (writes_after ≡ writes)
-IsCause (Err e) reads reads_after writes writes_after input = IsCauseOf e reads reads_after writes writes_after input
+abbrev pub IsReplayCause : {X : Type 0} → Result X ReplayError → ℕ → ℕ → ℕ → ℕ → Option (List ℕ) → Type 0
+IsReplayCause (Ok x) reads reads_after writes writes_after input = (reads_after ≡ reads) × (writes_after ≡ writes)
+IsReplayCause (Err e) reads reads_after writes writes_after input = IsCauseOf e reads reads_after writes writes_after input

@@ -5,8 +5,8 @@ use Rattle.counted_io.specs.Counting.{AtMostOneMore, counted, one_more}
 use Rattle.replay.specs.declared.error.ReplayError.{ReplayError}
 use Rattle.replay.specs.declared.lines.Found.{Found}
 use Rattle.replay.specs.declared.lines.Found.TheVariants as found
-use Rattle.replay.specs.declared.replaying.Ended.{Ended}
-use Rattle.replay.specs.declared.replaying.Ended.TheVariants as ended
+use Rattle.replay.specs.declared.replaying.ReplayEnded.{ReplayEnded}
+use Rattle.replay.specs.declared.replaying.ReplayEnded.TheVariants as ended
 
 -- a line was found
 abbrev pub is_there : Found → Bool
@@ -30,6 +30,12 @@ told_found blank = if blank then found.End else found.Last
 
 abbrev pub kept_line : Bool → List ℕ → List ℕ
 kept_line blank line = if blank then [] else line
+
+-- where the end was found there is no byte of a line
+abbrev pub IsNoneAtEnd : Found → List ℕ → Type 0
+IsNoneAtEnd found.Line line = ⊤
+IsNoneAtEnd found.Last line = ⊤
+IsNoneAtEnd found.End line = line ≡ []
 
 -- the bytes end with a line feed
 abbrev pub has_feed : List ℕ → Bool
@@ -56,7 +62,7 @@ AreEndsOfRest (Ok x) before after = after ≡ one_more before
 AreEndsOfRest (Err e) before after = AtMostOneMore before after
 
 -- just one read met the end where all was answered; none did behind a first line that is refused and has its line feed, and at most one in each other case
-abbrev pub AreEnds : Result Ended ReplayError → List ℕ → ℕ → ℕ → Type 0
+abbrev pub AreEnds : Result ReplayEnded ReplayError → List ℕ → ℕ → ℕ → Type 0
 AreEnds (Ok ended.Done) first before after = after ≡ one_more before
 AreEnds (Ok ended.BadConfig) first before after = after ≡ counted (not (has_feed first)) before
 AreEnds (Err e) first before after = AtMostOneMore before after

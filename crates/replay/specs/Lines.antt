@@ -24,6 +24,16 @@ abbrev pub AreTold : Option (List ℕ) → List (List ℕ) → Type 0
 AreTold None told_lines = ⊤
 AreTold (Some text) told_lines = told_lines ≡ told text
 
+-- the first of some lines; empty where there is none
+abbrev pub first_of : List (List ℕ) → List ℕ
+first_of [] = []
+first_of (line ∷ later) = line
+
+-- this is the first line of a text that says something, where the text is known; it is empty where none does
+abbrev pub IsFirstTold : Option (List ℕ) → List ℕ → Type 0
+IsFirstTold None line = ⊤
+IsFirstTold (Some text) line = line ≡ first_of (told text)
+
 -- ---- reading a line
 
 abbrev pub first_if : Bool → List ℕ → List (List ℕ) → List (List ℕ)

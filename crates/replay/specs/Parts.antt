@@ -3,8 +3,8 @@ use Rattle.std.specs.Prelude.{◌≡◌, ◌⊎◌, ℕ, List, [], ◌++◌, Opt
 use Rattle.std.specs.Io.KnownBytes.{Appends}
 use Rattle.counted_io.specs.Counting.{IsBeginning, AppendsPart}
 use Rattle.service_profile.specs.Events.{History}
-use Rattle.answers.specs.declared.answer.Answer.{Answer}
-use Rattle.replay.specs.declared.replaying.Ended.TheVariants as ended
+use Rattle.service.specs.Asked.{ResponseData}
+use Rattle.replay.specs.declared.replaying.ReplayEnded.TheVariants as ended
 use Rattle.replay.specs.Answering.{AreAnswered, IsAnswered, answer_line}
 use Rattle.replay.specs.Asking.{asked}
 use Rattle.replay.specs.Lines.{AreTold}
@@ -14,7 +14,7 @@ use Rattle.replay.specs.Replaying.{IsReplay}
 abbrev pub IsLinePart : History → List ℕ → Option (List ℕ) → Option (List ℕ) → Type 0
 IsLinePart history line before after =
     Appends before after []
-    ⊎ ((answered : Answer) × (next : History) × IsAnswered history (asked line) answered next × AppendsPart before after (answer_line answered))
+    ⊎ ((answered : ResponseData) × (next : History) × IsAnswered history (asked line) answered next × AppendsPart before after (answer_line answered))
 
 -- a beginning of the answers to some first lines of an input
 abbrev pub AreEventsPart : Option (List ℕ) → History → Option (List ℕ) → Option (List ℕ) → Type 0

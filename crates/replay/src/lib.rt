@@ -8,4 +8,4 @@ mod lines;
 mod replaying;
 
 pub use error::ReplayError;
-pub use replaying::{Ended, replay, replay_with};
+pub use replaying::{ReplayEnded, replay, replay_with};

@@ -1,7 +1,7 @@
 //! The lines of an input.
 ghost use Rattle.std.specs.Prelude.{◌≡◌, IfOk, Ok, is_err};
 ghost use Rattle.replay.specs.Causes.{IsReadCause};
-ghost use Rattle.replay.specs.Ends.{end_found, is_there, goes_on, has_feed, told_found, kept_line, IsLastRead, IsEndCount};
+ghost use Rattle.replay.specs.Ends.{end_found, is_there, goes_on, has_feed, told_found, kept_line, IsLastRead, IsNoneAtEnd, IsEndCount};
 ghost use Rattle.replay.specs.Lines.{is_blank, TakesLine, TakesTold, LosesLine};
 
 use crate::error::ReplayError;
@@ -64,6 +64,7 @@ fn read_line<R: Read>(reader: &mut Counted<R>, line: &mut Vec<u8>) -> Result<Fou
     ensures taken { IfOk result (λ found. TakesLine (R.remaining reader.old.inner) (R.remaining reader.new.inner) (is_there found) line.new.items) }
     ensures last { IfOk result (λ found. IsLastRead found (R.remaining reader.new.inner)) }
     ensures feed { IfOk result (λ found. has_feed line.new.items ≡ goes_on found) }
+    ensures none { IfOk result (λ found. IsNoneAtEnd found line.new.items) }
     ensures cause { IsReadCause result reader.old.failures reader.new.failures (R.remaining reader.old.inner) }
     ensures ends { IsEndCount result reader.old.ends reader.new.ends }
 {
@@ -105,6 +106,7 @@ pub(crate) fn next_line<R: Read>(
     ensures told { IfOk result (λ found. TakesTold (R.remaining reader.old.inner) (R.remaining reader.new.inner) (is_there found) line.new.items) }
     ensures last { IfOk result (λ found. IsLastRead found (R.remaining reader.new.inner)) }
     ensures feed { IfOk result (λ found. has_feed line.new.items ≡ goes_on found) }
+    ensures none { IfOk result (λ found. IsNoneAtEnd found line.new.items) }
     ensures fewer { IfOk result (λ found. LosesLine (is_there found) (R.remaining reader.old.inner) (R.remaining reader.new.inner)) }
     ensures cause { IsReadCause result reader.old.failures reader.new.failures (R.remaining reader.old.inner) }
     ensures ends { IsEndCount result reader.old.ends reader.new.ends }

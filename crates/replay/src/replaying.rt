@@ -2,11 +2,11 @@
 ghost use Rattle.std.specs.Prelude.{◌≡◌, Ok, IfOk, IfSome, OnOk, OnErr, false, not};
 ghost use Rattle.std.specs.Io.KnownBytes.{IsAtEnd};
 ghost use Rattle.counted_io.specs.Counting.{AtMostOneMore, counted, one_more};
-ghost use Rattle.replay.specs.Lines.{LosesLines};
-ghost use Rattle.replay.specs.Causes.{IsCause, IsReadCause};
+ghost use Rattle.replay.specs.Lines.{LosesLines, IsFirstTold};
+ghost use Rattle.replay.specs.Causes.{IsReplayCause, IsReadCause};
 ghost use Rattle.replay.specs.Ends.{is_there, has_feed, AreEndsOfRest, AreEnds};
 ghost use Rattle.replay.specs.Parts.{AreEventsPart, IsReplayedPart};
-ghost use Rattle.replay.specs.Replaying.{config_told, IsOpened, IsReplayed, IsBegun, AreEventsAnswered};
+ghost use Rattle.replay.specs.Replaying.{config_told, IsOpened, IsReplayed, IsBegun, IsFirstLeft, AreEventsAnswered};
 ghost use Rattle.requests.specs.Configurations.{config_in};
 
 use crate::answering::answer_to;
@@ -22,7 +22,7 @@ use verifier::default_classifier;
 
 /// How a replay ended.
 #[derive(Clone, Copy, Debug, PartialEq, Eq)]
-pub enum Ended {
+pub enum ReplayEnded {
     /// Each event was answered.
     Done,
     /// The first line is missing, or no configuration.
@@ -67,6 +67,7 @@ fn first_config<R: Read>(
     ensures begun { IfOk result (λ begun. IsBegun (R.remaining reader.old.inner) (R.remaining reader.new.inner) begun.config) }
     ensures last { IfOk result (λ begun. begun.goes_on ≡ false → IsAtEnd (R.remaining reader.new.inner)) }
     ensures feed { IfOk result (λ begun. has_feed line.new.items ≡ begun.goes_on) }
+    ensures first { IfOk result (λ begun. IsFirstTold (R.remaining reader.old.inner) line.new.items) }
     ensures fewer { IfOk result (λ begun. IfSome begun.config (λ config. LosesLines 0 (R.remaining reader.old.inner) (R.remaining reader.new.inner))) }
     ensures cause { IsReadCause result reader.old.failures reader.new.failures (R.remaining reader.old.inner) }
     ensures ends { IfOk result (λ begun. reader.new.ends ≡ counted (not begun.goes_on) reader.old.ends) }
@@ -98,7 +99,7 @@ fn answer_all<R: Read, W: Write>(
 ) -> Result<(), ReplayError>
     ensures answered { OnOk result (AreEventsAnswered (R.remaining reader.old.inner) book.old book.new (W.contents out.old.inner) (W.contents out.new.inner)) }
     ensures part { AreEventsPart (R.remaining reader.old.inner) book.old (W.contents out.old.inner) (W.contents out.new.inner) }
-    ensures cause { IsCause result reader.old.failures reader.new.failures out.old.failures out.new.failures (R.remaining reader.old.inner) }
+    ensures cause { IsReplayCause result reader.old.failures reader.new.failures out.old.failures out.new.failures (R.remaining reader.old.inner) }
     ensures ends { AreEndsOfRest result reader.old.ends reader.new.ends }
 {
     let mut line = Vec::new(alloc);
@@ -133,14 +134,14 @@ pub fn replay<R: Read, W: Write>(
     alloc: Global,
     reader: &mut Counted<R>,
     out: &mut Counted<W>,
-) -> Result<Ended, ReplayError>
+) -> Result<ReplayEnded, ReplayError>
     ensures replayed { IfOk result (λ ended. IsReplayed (R.remaining reader.old.inner) ended (W.contents out.old.inner) (W.contents out.new.inner)) }
     ensures part { IsReplayedPart (R.remaining reader.old.inner) (W.contents out.old.inner) (W.contents out.new.inner) }
     // `ReadFailed` and `WriteFailed` come where that count went up by one, and `TooLong` for an input of
     // 2^64 - 1 lines alone; in each other case no call failed.
-    ensures cause { IsCause result reader.old.failures reader.new.failures out.old.failures out.new.failures (R.remaining reader.old.inner) }
+    ensures cause { IsReplayCause result reader.old.failures reader.new.failures out.old.failures out.new.failures (R.remaining reader.old.inner) }
     // The end of the input is met once where all was answered, and at most once in each other case.
-    ensures done { result ≡ Ok Ended.Done → reader.new.ends ≡ one_more reader.old.ends }
+    ensures done { result ≡ Ok ReplayEnded.Done → reader.new.ends ≡ one_more reader.old.ends }
     ensures ends { AtMostOneMore reader.old.ends reader.new.ends }
 {
     let mut first = Vec::new(alloc);
@@ -148,28 +149,32 @@ pub fn replay<R: Read, W: Write>(
 }
 
 /// Replays events as `replay` does, and leaves the first line that says something in `first`, so that a caller can tell
-/// what is wrong with a configuration that can't be used. Where no line says anything, it is empty.
+/// what is wrong with a configuration that can't be used. Where no line says anything, it is empty. Where a read fails,
+/// memory runs out or the input is too long, it may hold a part of a line, or a line of blanks.
 pub fn replay_with<R: Read, W: Write>(
     alloc: Global,
     first: &mut Vec<u8>,
     reader: &mut Counted<R>,
     out: &mut Counted<W>,
-) -> Result<Ended, ReplayError>
+) -> Result<ReplayEnded, ReplayError>
     ensures replayed { IfOk result (λ ended. IsReplayed (R.remaining reader.old.inner) ended (W.contents out.old.inner) (W.contents out.new.inner)) }
     ensures part { IsReplayedPart (R.remaining reader.old.inner) (W.contents out.old.inner) (W.contents out.new.inner) }
-    ensures cause { IsCause result reader.old.failures reader.new.failures out.old.failures out.new.failures (R.remaining reader.old.inner) }
+    ensures cause { IsReplayCause result reader.old.failures reader.new.failures out.old.failures out.new.failures (R.remaining reader.old.inner) }
+    // Where the replay ended or a write failed, `first` holds the first line of the input that isn't blank, with its
+    // line feed where it has one, and nothing else; it is empty only where all lines are blank.
+    ensures first { IsFirstLeft result (R.remaining reader.old.inner) first.new.items }
     // The end of the input is met once where all was answered, never behind a first line that is refused and has its
     // line feed, and at most once in each other case.
     ensures ends { AreEnds result first.new.items reader.old.ends reader.new.ends }
 {
     let Begun { config, goes_on } = first_config(alloc, reader, first)?;
     let Some(config) = config else {
-        return Ok(Ended::BadConfig);
+        return Ok(ReplayEnded::BadConfig);
     };
     let mut book = open(alloc, config)?;
     if !goes_on {
-        return Ok(Ended::Done);
+        return Ok(ReplayEnded::Done);
     }
     answer_all(alloc, &mut book, reader, out)?;
-    Ok(Ended::Done)
+    Ok(ReplayEnded::Done)
 }

@@ -38,20 +38,27 @@ request_data (request.Page from) = page from
 request_data request.Cut = cut
 request_data (request.Roll last) = roll last
 
--- what is answered; entries are the lines of a journal
+-- what is answered; entries are the lines of a journal, and a page says from which number it was asked
 pub data ResponseData : Type 0 where
   replies : Reply → ResponseData
   refuses_program : Refusal → ResponseData
   shows : Reading → ResponseData
+  pages : ℕ → List EntryData → ResponseData
   hands : List EntryData → ResponseData
 
 abbrev pub response_data : Response → ResponseData
 response_data (response.Reply r) = replies r
 response_data (response.ProgramRefused refused) = refuses_program refused
 response_data (response.Reading shown) = shows shown
-response_data (response.Entries lines) = hands lines.items
+response_data (response.Page from lines) = pages from lines.items
+response_data (response.HandedOut lines) = hands lines.items
 
--- lines, or why there are none
-abbrev pub entries_of : Result (List EntryData) RefusalNumber → ResponseData
-entries_of (Ok lines) = hands lines
-entries_of (Err refused) = replies (reply.Refused refused)
+-- lines that are handed out, or why there are none
+abbrev pub handed_out : Result (List EntryData) RefusalNumber → ResponseData
+handed_out (Ok lines) = hands lines
+handed_out (Err refused) = replies (reply.Refused refused)
+
+-- a page from a number on, or why there is none
+abbrev pub page_of : ℕ → Result (List EntryData) RefusalNumber → ResponseData
+page_of from (Ok lines) = pages from lines
+page_of from (Err refused) = replies (reply.Refused refused)

@@ -1,10 +1,15 @@
-//! What a service does that is asked: each front, whether it reads lines or HTTP, asks here.
+//! What a service does that is asked: each front, whether it reads lines or HTTP, asks here, and so does whoever holds
+//! a service's book, whether it is the book itself or a seat of a desk.
 #![tactic(auto)]
 
 mod asking;
+mod calls;
+mod gate;
 mod request;
 mod response;
 
-pub use asking::ask;
+pub use asking::{ask, report};
+pub use calls::{BookCalls, ONLY_SEAT};
+pub use gate::{Gate, OpenGate};
 pub use request::{Report, Request};
 pub use response::Response;

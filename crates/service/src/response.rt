@@ -11,6 +11,8 @@ pub enum Response {
     ProgramRefused(Refusal),
     /// How the service stands.
     Reading(Reading),
-    /// The entries of a page, or those that a cut or a roll hands out.
-    Entries(Vec<Entry>),
+    /// The entries of a page, and the number from which it was asked.
+    Page { from: u64, entries: Vec<Entry> },
+    /// The entries that a cut or a roll hands out.
+    HandedOut(Vec<Entry>),
 }

@@ -12,32 +12,47 @@ use Rattle.service_profile.specs.declared.replies.Reply.TheVariants as reply
 use Rattle.service_profile.specs.declared.notes.Totals.{Totals}
 use Rattle.service_profile.specs.Limits.{most_page_entries, greatest_number}
 use Rattle.service_profile.specs.Events.{EventData, EntryData, line, Opening, Rolled, History, history_of, rolled_to}
-use Rattle.service_profile.specs.Histories.{Past, past_of, machine, raised, greatest, next_line, install_at, situation_of, refused_of}
-use Rattle.service_profile.specs.Machine.{Situation, is_entered, is_issued, open_ticket, program_from, current_version}
+use Rattle.service_profile.specs.Histories.{Past, past_of, raised, greatest, next_line, install_at, situation_of, refused_of}
+use Rattle.service_profile.specs.Machine.{Situation, Judging, meant, decision_by, is_entered, is_issued, open_ticket, program_from, current_version}
 use Rattle.service_profile.specs.Rates.{minimum, shown_rate}
 use Rattle.service_profile.specs.Windows.{totals_of, windowed}
 
 -- ---- an event
 
 -- the machine's answer to an event, at its raised moment
-abbrev pub answer : History → ℕ → EventData → Decision
-answer history moment event = machine (past_of history) (raised (past_of history) moment) event
+abbrev pub answer_by : Judging → History → ℕ → EventData → Decision
+answer_by judging history moment event = decision_by judging (situation_of (past_of history)) (raised (past_of history) moment) event
 
 -- the line of an event
-abbrev pub line_of : History → ℕ → ℕ → EventData → EntryData
-line_of history seat moment event = line (next_line (past_of history)) seat event (raised (past_of history) moment) (answer history moment event).reply
+abbrev pub line_by : Judging → History → ℕ → ℕ → EventData → EntryData
+line_by judging history seat moment event =
+    line (next_line (past_of history)) seat event (raised (past_of history) moment) (answer_by judging history moment event).reply
 
 abbrev pub with_line : History → EntryData → History
 with_line history line = record { opening = history.opening; lines = history.lines ++ line ∷ []; rolled = history.rolled }
 
 -- the history after an event: one line more, or nothing new where the reply isn't entered
-abbrev pub applied : History → ℕ → ℕ → EventData → History
-applied history seat moment event = if is_entered (answer history moment event).reply then with_line history (line_of history seat moment event) else history
+abbrev pub applied_by : Judging → History → ℕ → ℕ → EventData → History
+applied_by judging history seat moment event =
+    if is_entered (answer_by judging history moment event).reply then with_line history (line_by judging history seat moment event) else history
 
--- the documented reply and history; or no memory for the line, and nothing changed
-pub data IsApplied (history : History) (seat moment : ℕ) (event : EventData) (r : Reply) (after : History) : Type 0 where
-  as_documented : r ≡ (answer history moment event).reply → after ≡ applied history seat moment event → IsApplied history seat moment event r after
-  out_of_memory : r ≡ reply.Refused refusal.ServiceOutOfMemory → is_entered (answer history moment event).reply ≡ true → after ≡ history → IsApplied history seat moment event r after
+-- the machine's reply and its history; or no memory for the line, and nothing changed
+pub data IsAppliedBy (judging : Judging) (history : History) (seat moment : ℕ) (event : EventData) (r : Reply) (after : History) : Type 0 where
+  as_documented : r ≡ (answer_by judging history moment event).reply → after ≡ applied_by judging history seat moment event → IsAppliedBy judging history seat moment event r after
+  out_of_memory : r ≡ reply.Refused refusal.ServiceOutOfMemory → is_entered (answer_by judging history moment event).reply ≡ true → after ≡ history → IsAppliedBy judging history seat moment event r after
+
+-- the same by the documented machine, which takes the meaning's verdict
+abbrev pub answer : History → ℕ → EventData → Decision
+answer history moment event = answer_by meant history moment event
+
+abbrev pub line_of : History → ℕ → ℕ → EventData → EntryData
+line_of history seat moment event = line_by meant history seat moment event
+
+abbrev pub applied : History → ℕ → ℕ → EventData → History
+applied history seat moment event = applied_by meant history seat moment event
+
+abbrev pub IsApplied : History → ℕ → ℕ → EventData → Reply → History → Type 0
+IsApplied history seat moment event r after = IsAppliedBy meant history seat moment event r after
 
 -- ---- a look: the program that judges under a ticket
 

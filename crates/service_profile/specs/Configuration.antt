@@ -32,23 +32,18 @@ bad_limit parts =
     (checked (is_within 1 10000 parts.max_concurrent_calls) field.MaxConcurrentCalls
     (checked (parts.max_wait_duration == 0) field.MaxWaitDuration None))))
 
--- the first field whose value is out of range, where a stay in HALF_OPEN may be limited to so many milliseconds at most
-abbrev pub bad_field_up_to : ℕ → ConfigParts → Option ConfigField
-bad_field_up_to stay parts =
+-- the first field whose value is out of range
+abbrev pub bad_field : ConfigParts → Option ConfigField
+bad_field parts =
     checked (is_within 1 100 parts.failure_rate_threshold) field.FailureRateThreshold
     (checked (is_within 1 100 parts.slow_call_rate_threshold) field.SlowCallRateThreshold
     (checked (is_within 1 (2 ^ 32) parts.slow_call_duration_threshold) field.SlowCallDurationThreshold
     (checked (is_within 1 10000 parts.permitted_number_of_calls_in_half_open_state) field.PermittedNumberOfCallsInHalfOpenState
-    (checked (is_within 0 stay parts.max_wait_duration_in_half_open_state) field.MaxWaitDurationInHalfOpenState
+    (checked (is_within 0 (2 ^ 40) parts.max_wait_duration_in_half_open_state) field.MaxWaitDurationInHalfOpenState
     (bad_limit parts)))))
 
--- what a service can be configured with today: a stay in HALF_OPEN has no limit, which is written 0
-abbrev pub bad_field : ConfigParts → Option ConfigField
-bad_field parts = bad_field_up_to 0 parts
-
--- the ranges over which the documented machine and its laws are stated: a stay in HALF_OPEN may end by itself
 abbrev pub IsInRange : ConfigParts → Type 0
-IsInRange parts = bad_field_up_to (2 ^ 40) parts ≡ None
+IsInRange parts = bad_field parts ≡ None
 
 -- what each key stands for where it is missing
 abbrev pub default_parts : ConfigParts

@@ -8,6 +8,7 @@ pub mod Verdicts
 pub mod Machine
 pub mod Histories
 pub mod Answers
+pub mod Calls
 pub mod Openings
 pub mod MeantVerdicts
 pub mod Seats

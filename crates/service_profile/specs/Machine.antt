@@ -54,10 +54,14 @@ in_state state moment s = record s { standing = moved state moment s.standing; n
 
 -- ---- a longest stay in HALF_OPEN, where one is configured
 
+-- at a moment a breaker has stood in HALF_OPEN for its longest stay
+abbrev pub has_overstayed : ConfigParts → Standing → ℕ → Bool
+has_overstayed config standing moment =
+    nat_lt 0 config.max_wait_duration_in_half_open_state
+    && (is_half_open standing.state && nat_le config.max_wait_duration_in_half_open_state (moment - standing.since))
+
 abbrev pub overstays : Situation → ℕ → Bool
-overstays s moment =
-    nat_lt 0 s.config.max_wait_duration_in_half_open_state
-    && (is_half_open s.standing.state && nat_le s.config.max_wait_duration_in_half_open_state (moment - s.standing.since))
+overstays s moment = has_overstayed s.config s.standing moment
 
 -- the situation in which an event at a moment is taken
 abbrev pub at_moment : Situation → ℕ → Situation
@@ -126,13 +130,27 @@ program_from first programs version = if nat_le first version then slice_get pro
 abbrev pub bytes_of : VerifiedProgram → List ℕ
 bytes_of program = flat_map slot_bytes program.slots
 
+-- two programs are one where their bytes are the same
+abbrev pub same_program : VerifiedProgram → VerifiedProgram → Bool
+same_program a b = bytes_eq (bytes_of a) (bytes_of b)
+
+-- ---- how work is judged
+
+-- by the program of the ticket's version, and the work that is brought
+abbrev pub Judging : Type 0
+Judging = VerifiedProgram → JudgedData → Judgement
+
+-- the meaning's verdict and steps for that program, on the work's outcome
+abbrev pub meant : Judging
+meant program work = judgement program work.outcome
+
 -- what work says of its outcome
 abbrev pub judged_as : JudgedData → Judgement
 judged_as work = record { verdict = work.verdict; steps = work.steps }
 
--- two programs are one where their bytes are the same
-abbrev pub same_program : VerifiedProgram → VerifiedProgram → Bool
-same_program a b = bytes_eq (bytes_of a) (bytes_of b)
+-- the verdict and the steps that the work carries
+abbrev pub carried : Judging
+carried program work = judged_as work
 
 -- ---- finish
 
@@ -169,7 +187,7 @@ finished_reply fate judgement version next = record {
   next = next;
 }
 
--- the verdict of the ticket's program decides
+-- a verdict and its steps decide
 abbrev pub concluded : Situation → ℕ → OpenTicket → Outcome → Judgement → Decision
 concluded s moment ticket outcome judgement =
     finished_reply
@@ -179,20 +197,20 @@ concluded s moment ticket outcome judgement =
     (next_by (fate_of s.standing ticket.period judgement.verdict) s.config moment s.standing s.notes (note_of s.config moment judgement.verdict outcome))
 
 -- the judged program has to be that of the ticket's version
-abbrev pub finished_by : Situation → ℕ → OpenTicket → JudgedData → Option VerifiedProgram → Decision
-finished_by s moment ticket work None = refused s.standing refusal.Stranger
-finished_by s moment ticket work (Some program) =
+abbrev pub finished_by : Judging → Situation → ℕ → OpenTicket → JudgedData → Option VerifiedProgram → Decision
+finished_by judging s moment ticket work None = refused s.standing refusal.Stranger
+finished_by judging s moment ticket work (Some program) =
     if same_program work.program program
-    then concluded s moment ticket work.outcome (judgement program work.outcome)
+    then concluded s moment ticket work.outcome (judging program work)
     else refused s.standing refusal.Stranger
 
-abbrev pub finished_under : Situation → ℕ → JudgedData → Option OpenTicket → Decision
-finished_under s moment work None = refused s.standing refusal.TicketSpent
-finished_under s moment work (Some ticket) = finished_by s moment ticket work (program_from s.first_version s.programs ticket.version)
+abbrev pub finished_under : Judging → Situation → ℕ → JudgedData → Option OpenTicket → Decision
+finished_under judging s moment work None = refused s.standing refusal.TicketSpent
+finished_under judging s moment work (Some ticket) = finished_by judging s moment ticket work (program_from s.first_version s.programs ticket.version)
 
-abbrev pub finished : Situation → ℕ → JudgedData → ℕ → Decision
-finished s moment work ticket =
-    if is_issued s ticket then finished_under s moment work (open_ticket s.open_tickets ticket) else refused s.standing refusal.NoTicket
+abbrev pub finished : Judging → Situation → ℕ → JudgedData → ℕ → Decision
+finished judging s moment work ticket =
+    if is_issued s ticket then finished_under judging s moment work (open_ticket s.open_tickets ticket) else refused s.standing refusal.NoTicket
 
 -- ---- the other events
 
@@ -215,13 +233,13 @@ moved_to s moment state = record { reply = reply.Moved state (suc s.standing.per
 
 -- ---- all events
 
-abbrev pub decided : Situation → ℕ → EventData → Decision
-decided s moment acquires = acquired s moment
-decided s moment (finishes work ticket) = finished s moment work ticket
-decided s moment (releases ticket) = released s ticket
-decided s moment (installs program) = installed s program
-decided s moment (moves state) = moved_to s moment state
-decided s moment resets = moved_to s moment state.Closed
+abbrev pub decided : Judging → Situation → ℕ → EventData → Decision
+decided judging s moment acquires = acquired s moment
+decided judging s moment (finishes work ticket) = finished judging s moment work ticket
+decided judging s moment (releases ticket) = released s ticket
+decided judging s moment (installs program) = installed s program
+decided judging s moment (moves state) = moved_to s moment state
+decided judging s moment resets = moved_to s moment state.Closed
 
 -- the journal holds 65,536 lines, and has a line left for the end of each open ticket
 abbrev pub used : Situation → ℕ
@@ -236,8 +254,12 @@ is_full s (moves state) = nat_lt (most_entries - 1) (used s)
 is_full s resets = nat_lt (most_entries - 1) (used s)
 
 -- a full journal is answered before anything else is looked at
-unfoldable pub decision : Situation → ℕ → EventData → Decision
-decision s moment event = if is_full s event then refused s.standing refusal.JournalFull else decided (at_moment s moment) moment event
+unfoldable pub decision_by : Judging → Situation → ℕ → EventData → Decision
+decision_by judging s moment event = if is_full s event then refused s.standing refusal.JournalFull else decided judging (at_moment s moment) moment event
+
+-- the documented machine takes the meaning's verdict
+abbrev pub decision : Situation → ℕ → EventData → Decision
+decision s moment event = decision_by meant s moment event
 
 -- ---- which replies stand in the journal
 

@@ -39,7 +39,8 @@ pub struct ConfigParts {
     pub slow_call_duration_threshold: u64,
     /// 1 to 10,000 calls.
     pub permitted_number_of_calls_in_half_open_state: u64,
-    /// 0 alone: HALF_OPEN doesn't end by itself.
+    /// Milliseconds, 0 to 2^40. HALF_OPEN ends with the first event that comes so long after it began, or later; with 0 it
+    /// doesn't end by itself.
     pub max_wait_duration_in_half_open_state: u64,
     /// What the window's size counts.
     pub sliding_window_type: SlidingWindowType,
@@ -98,9 +99,6 @@ pub struct BadConfig {
     /// `BadConfig`.
     pub number: RefusalNumber,
 }
-
-/// The greatest longest stay in HALF_OPEN that is taken, in milliseconds; 0 is no limit.
-const LONGEST_STAY_IN_HALF_OPEN: u64 = 0;
 
 /// A configuration in which each value is in its range. Contracts see its parts.
 #[derive(Clone, Copy, Debug, PartialEq, Eq)]
@@ -183,11 +181,7 @@ fn bad_field(parts: &ConfigParts) -> Option<ConfigField>
     ) {
         return Some(ConfigField::PermittedNumberOfCallsInHalfOpenState);
     }
-    if !is_within(
-        0,
-        LONGEST_STAY_IN_HALF_OPEN,
-        parts.max_wait_duration_in_half_open_state,
-    ) {
+    if !is_within(0, 1 << 40, parts.max_wait_duration_in_half_open_state) {
         return Some(ConfigField::MaxWaitDurationInHalfOpenState);
     }
     bad_limit(parts)

@@ -16,7 +16,7 @@ mod tickets;
 
 pub use configuration::{BadConfig, Config, ConfigField, ConfigParts, SlidingWindowType};
 pub use decisions::{Decision, Judgement, Permission};
-pub use limits::{GREATEST_NUMBER, MOST_ENTRIES, MOST_PAGE_ENTRIES, MOST_VERSIONS};
+pub use limits::{GREATEST_NUMBER, MOST_ENTRIES, MOST_NOTES, MOST_PAGE_ENTRIES, MOST_VERSIONS};
 pub use notes::{Note, Totals};
 pub use readings::Reading;
 pub use replies::{Fate, Reply};

@@ -11,3 +11,6 @@ pub const MOST_PAGE_ENTRIES: usize = 100;
 
 /// The greatest number that an opening goes on from.
 pub const GREATEST_NUMBER: u64 = 1 << 63;
+
+/// How many notes there may be before one more, so that counting it doesn't overflow.
+pub const MOST_NOTES: u64 = u64::MAX - 8;

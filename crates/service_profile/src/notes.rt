@@ -22,6 +22,13 @@ pub struct Totals {
 }
 
 impl Totals {
+    /// The totals of no note.
+    pub const NONE: Totals = Totals {
+        total: 0,
+        failed: 0,
+        slow: 0,
+    };
+
     /// The totals with one note more.
     pub fn with(self, note: Note) -> Totals
         requires { (self.total < 2 ^ 48) × (self.failed < 2 ^ 48) × (self.slow < 2 ^ 48) }

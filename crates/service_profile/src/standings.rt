@@ -1,8 +1,11 @@
 //! Where a breaker stands, and its transitions.
 ghost use Rattle.std.specs.Prelude.{◌≡◌, ◌<◌, ◌+◌, ◌^◌};
+ghost use Rattle.service_profile.specs.Machine.{fate_of};
 ghost use Rattle.service_profile.specs.Standings.{moved};
 
+use crate::replies::Fate;
 use crate::states::State;
+use bpf_profile::Verdict;
 
 /// Where a breaker stands: its state, the number of its period, and since when, in milliseconds.
 #[derive(Clone, Copy, Debug, PartialEq, Eq)]
@@ -23,6 +26,20 @@ impl Standing {
             state,
             period: self.period + 1,
             since: moment,
+        }
+    }
+
+    /// What becomes of a verdict under a ticket of a period.
+    pub fn fate_of(self, period: u64, verdict: Verdict) -> Fate
+        ensures { result ≡ fate_of self period verdict }
+    {
+        if period != self.period {
+            return Fate::Stale;
+        }
+        match (self.state, verdict) {
+            (State::Disabled, _) => Fate::Off,
+            (_, Verdict::Ignored) => Fate::Ignored,
+            _ => Fate::Recorded,
         }
     }
 }

@@ -6,7 +6,7 @@ use Rattle.classifier_commands.specs.Commands.{Words}
 use Rattle.classifier_commands.specs.declared.commands.Status.TheVariants as status
 use Rattle.classifier_commands.specs.Endings.{IsInPart, IsAnsweredInPart as is_answered_in_part_of_classifier}
 use Rattle.classifier_commands.specs.Text.{answer_text}
-use Rattle.replay.specs.declared.Ended.TheVariants as ended
+use Rattle.replay.specs.declared.ReplayEnded.TheVariants as ended
 use Rattle.replay.specs.declared.ReplayError.{ReplayError}
 use Rattle.replay.specs.declared.ReplayError.TheVariants as error
 use Rattle.replay.specs.Parts.{IsReplayedPart}

@@ -9,8 +9,8 @@ use Rattle.classifier_commands.specs.declared.error.CommandError.{CommandError}
 use Rattle.classifier_commands.specs.declared.error.CommandError.TheVariants as command_error
 use Rattle.classifier_commands.specs.Commands.{Words, NamesAlone, IsPrinted}
 use Rattle.classifier_commands.specs.Commands.{NamesNone as names_no_classifier_command, AsksForInput as classifier_asks_for_input, HasAnswered as has_answered_of_classifier}
-use Rattle.replay.specs.declared.Ended.{Ended}
-use Rattle.replay.specs.declared.Ended.TheVariants as ended
+use Rattle.replay.specs.declared.ReplayEnded.{ReplayEnded}
+use Rattle.replay.specs.declared.ReplayEnded.TheVariants as ended
 use Rattle.replay.specs.declared.ReplayError.{ReplayError}
 use Rattle.replay.specs.declared.ReplayError.TheVariants as error
 use Rattle.replay.specs.Replaying.{IsReplayed}
@@ -35,13 +35,13 @@ abbrev pub bad_config : Answer
 bad_config = answer.Refused (record { number = BadConfig; place = 0 })
 
 -- how a command ends after a replay
-abbrev pub IsEnded : Ended → Status → Option (List ℕ) → Option (List ℕ) → Type 0
-IsEnded ended.Done reached before after = (reached ≡ status.Done) × (after ≡ before)
-IsEnded ended.BadConfig reached before after = IsPrinted bad_config reached before after
+abbrev pub IsReplayOutput : ReplayEnded → Status → Option (List ℕ) → Option (List ℕ) → Type 0
+IsReplayOutput ended.Done reached before after = (reached ≡ status.Done) × (after ≡ before)
+IsReplayOutput ended.BadConfig reached before after = IsPrinted bad_config reached before after
 
 -- the events of the bytes that the reader has were answered; a configuration that can't be used is refused
 abbrev pub HasReplayed : Option (List ℕ) → Status → Option (List ℕ) → Option (List ℕ) → Type 0
-HasReplayed known reached before after = (end : Ended) × (replayed : Option (List ℕ)) × IsReplayed known end before replayed × IsEnded end reached replayed after
+HasReplayed known reached before after = (end : ReplayEnded) × (replayed : Option (List ℕ)) × IsReplayed known end before replayed × IsReplayOutput end reached replayed after
 
 -- how a replay ends that failed
 abbrev pub status_of_error : ReplayError → Status

@@ -4,7 +4,7 @@ use Rattle.classifier_commands.specs.declared.commands.Status.{Status}
 use Rattle.classifier_commands.specs.declared.commands.Status.TheVariants as status
 use Rattle.classifier_commands.specs.Commands.{Words}
 use Rattle.classifier_commands.specs.Endings.{IsInPart}
-use Rattle.classifier_commands.specs.Endings.{IsEnded as is_command_ended, IsUnanswered as is_command_unanswered}
+use Rattle.classifier_commands.specs.Endings.{IsCommandEnd, IsUnanswered as is_command_unanswered}
 use Rattle.replay.specs.declared.ReplayError.{ReplayError}
 use Rattle.replay.specs.declared.ReplayError.TheVariants as error
 use Rattle.replay.specs.Lines.{HasManyLines}
@@ -12,9 +12,9 @@ use Rattle.replay.specs.Parts.{IsReplayedPart}
 use Rattle.sidecar_commands.specs.Commands.{NamesReplay, HasReplayed, HasAnswered}
 
 -- an end that is a failure comes where one more read failed, one more write failed, memory ran out, or the input of a replay has very many lines; else no call failed
-abbrev pub IsEnded : Status → ℕ → ℕ → ℕ → ℕ → Option (List ℕ) → Type 0
-IsEnded status.TooLong reads reads_after writes writes_after input = (reads_after ≡ reads) × (writes_after ≡ writes) × HasManyLines input
-IsEnded other reads reads_after writes writes_after input = is_command_ended other reads reads_after writes writes_after
+abbrev pub IsSidecarEnd : Status → ℕ → ℕ → ℕ → ℕ → Option (List ℕ) → Type 0
+IsSidecarEnd status.TooLong reads reads_after writes writes_after input = (reads_after ≡ reads) × (writes_after ≡ writes) × HasManyLines input
+IsSidecarEnd other reads reads_after writes writes_after input = IsCommandEnd other reads reads_after writes writes_after
 
 -- ---- where a command failed
 

@@ -5,16 +5,16 @@ ghost use Rattle.counted_io.specs.Counting.{AppendsPart, AtMostOneMore};
 ghost use Rattle.classifier_commands.specs.Commands.{IsPrinted, IsSettled, usage};
 ghost use Rattle.classifier_commands.specs.Endings.{IsUsageShown};
 ghost use Rattle.classifier_commands.specs.Text.{answer_text};
-ghost use Rattle.replay.specs.Causes.{IsCause, IsWriteCause};
+ghost use Rattle.replay.specs.Causes.{IsReplayCause, IsWriteCause};
 ghost use Rattle.replay.specs.Parts.{IsReplayedPart};
 ghost use Rattle.sidecar_commands.specs.Commands.{NamesReplay, NamesNone, AsksForInput, HasReplayed, HasAnswered, status_of_error, replay_error_of, bad_config};
-ghost use Rattle.sidecar_commands.specs.Endings.{IsEnded, IsUnanswered, IsAnsweredInPart, IsCut, IsReplayCut};
+ghost use Rattle.sidecar_commands.specs.Endings.{IsSidecarEnd, IsUnanswered, IsAnsweredInPart, IsCut, IsReplayCut};
 
-use classifier_commands::{Answer, CommandError, Fault, Status, print};
+use classifier_commands::{Answer, CommandError, CommandRefusal, Status, print};
 use config_mistakes::config_mistake;
 use counted_io::Counted;
 use refusals::RefusalNumber;
-use replay::{Ended, ReplayError, replay_with};
+use replay::{ReplayEnded, ReplayError, replay_with};
 use std::alloc::Global;
 use std::io::{Read, Write};
 
@@ -42,7 +42,7 @@ fn replay_error(error: CommandError) -> ReplayError
 }
 
 /// Why a replay is refused.
-const NO_CONFIG: Fault = Fault {
+const NO_CONFIG: CommandRefusal = CommandRefusal {
     number: RefusalNumber::BadConfig,
     place: 0,
 };
@@ -80,8 +80,9 @@ fn refuse_line<O: Write, E: Write>(
     Ok(status)
 }
 
-/// Writes what is wrong with the first line of a replay, for people. Where that can't be made or written, nothing else
-/// changes.
+/// Writes what is wrong with the first line of a replay, for people. It is the first line that isn't blank, and empty
+/// where all are: `replay_with` ensures that of a replay whose configuration is refused. Where the line on `err` can't be
+/// made or written, nothing else changes.
 fn notify_mistake<E: Write>(alloc: Global, first: &[u8], err: &mut Counted<E>) {
     if first.is_empty() {
         let _sent = err.send(
@@ -107,13 +108,13 @@ fn replay_events<R: Read, O: Write, E: Write>(
     ensures settled { IfOk result IsSettled }
     ensures part { IfErr result (λ error. IsReplayCut error (R.remaining reader.old.inner) (O.contents out.old.inner) (O.contents out.new.inner)) }
     ensures quiet { (result ≡ Ok Status.Refused → ⊥) → err.new ≡ err.old }
-    ensures cause { IsCause result reader.old.failures reader.new.failures out.old.failures out.new.failures (R.remaining reader.old.inner) }
+    ensures cause { IsReplayCause result reader.old.failures reader.new.failures out.old.failures out.new.failures (R.remaining reader.old.inner) }
     ensures ends { AtMostOneMore reader.old.ends reader.new.ends }
 {
     let mut first = Vec::new(alloc);
     match replay_with(alloc, &mut first, reader, out)? {
-        Ended::Done => Ok(Status::Done),
-        Ended::BadConfig => refuse_line(alloc, &first, out, err),
+        ReplayEnded::Done => Ok(Status::Done),
+        ReplayEnded::BadConfig => refuse_line(alloc, &first, out, err),
     }
 }
 
@@ -159,7 +160,7 @@ pub fn command<R: Read, O: Write, E: Write>(
     // Words that name a command write nothing on `err`, but for a replay whose configuration was refused.
     ensures quiet { (NamesNone words.now → ⊥) → (NamesReplay words.now × (result ≡ Status.Refused) → ⊥) → err.new ≡ err.old }
     // A failed read or write is answered where that count went up by one, and in no other case.
-    ensures cause { IsEnded result reader.old.failures reader.new.failures out.old.failures out.new.failures (R.remaining reader.old.inner) }
+    ensures cause { IsSidecarEnd result reader.old.failures reader.new.failures out.old.failures out.new.failures (R.remaining reader.old.inner) }
     // The end of the input is met once at most: no read is made behind it.
     ensures ends { AtMostOneMore reader.old.ends reader.new.ends }
 {

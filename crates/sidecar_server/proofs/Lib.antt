@@ -1,3 +1,4 @@
+pub mod Cutting
 pub mod Openings
 pub mod Returning
 pub mod Seating

@@ -3,8 +3,8 @@ use Rattle.std.proofs.Common.{◌≡◌, ◌∙◌, ◌<◌, ℕ, suc, List, [],
 use Rattle.std.proofs.lemmas.List.{map-append}
 use Rattle.std.specs.Option.{option_or}
 use Rattle.desk.specs.Seats.{SeatData}
-use Rattle.http_desk.specs.Seated.{SeatedData, holds_at}
-use Rattle.http_desk.specs.Asked.{IsAskedAt}
+use Rattle.http_desk.specs.Seated.{SeatedData}
+use Rattle.http_desk.specs.Asked.{place_at, IsAskedAt}
 use Rattle.http_pool.specs.declared.failure.ListenerFailed.{ListenerFailed}
 use Rattle.http_pool.specs.declared.workers.Worker.{Worker}
 use Rattle.http_pool.specs.Workers.{HaveWorked, HaveEnded, ends}
@@ -28,7 +28,7 @@ counts_more_with done worker counts before =
     ap (λ ns. ns ++ worker.answerer.seat.count ∷ []) before ∙ (sym (map-append (λ (s : SeatData). s.count) (seats_with done) (worker.answerer.seat ∷ [])) ∙ ap counts_of (seats_more_with done worker (seats_with done) refl))
 
 -- as many come back
-pub as_many_back : {C : Type 0} (ticks : C → ℕ → C → Type 0) (workers later : List (Worker SeatedData C)) → HaveWorked (λ answerer service. holds_at answerer.services service) (λ old service moment wanted response new. IsAskedAt old moment wanted response new) ticks workers later → length later ≡ length workers
+pub as_many_back : {C : Type 0} (ticks : C → ℕ → C → Type 0) (workers later : List (Worker SeatedData C)) → HaveWorked place_at (λ old place moment wanted response new. IsAskedAt old moment wanted response new) ticks workers later → length later ≡ length workers
 as_many_back ticks [] [] each = refl
 as_many_back ticks [] (v ∷ later) each = absurd each
 as_many_back ticks (w ∷ workers) [] each = absurd each

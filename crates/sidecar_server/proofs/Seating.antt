@@ -31,6 +31,10 @@ pub as_many_seats : (number count : ℕ) → length (seats_of number count) ≡ 
 as_many_seats number zero = refl
 as_many_seats number (suc count) = ap suc (as_many_seats (suc number) count)
 
+-- a worker that has met no failure is its answerer and its clock
+pub new_worker : {C : Type 0} (worker : Worker SeatedData C) (answerer : SeatedData) (clock : C) → worker.answerer ≡ answerer → worker.clock ≡ clock → worker.failure ≡ None → ◌≡◌ {A = Worker SeatedData C} worker (record { answerer = answerer; clock = clock; failure = None })
+new_worker worker answerer clock first second third = λ i. record { answerer = first i; clock = second i; failure = third i }
+
 -- one worker more, with the next seat
 pub next_worker : {C : Type 0} (names : List ServiceData) (clock : C) (done : List SeatData) (seat : SeatData) (workers : List (Worker SeatedData C)) (answerer : SeatedData) → workers ≡ workers_with names clock done → answerer ≡ seated names seat → workers ++ record { answerer = answerer; clock = clock; failure = None } ∷ [] ≡ workers_with names clock (done ++ seat ∷ [])
 next_worker {C} names clock done seat workers answerer before is =

@@ -8,11 +8,11 @@ use Rattle.service_profile.specs.Events.{History}
 use Rattle.desk.specs.Kept.{IsGood, AreOfSome, last_number}
 use Rattle.desk.specs.Seats.{SeatData, seat_of}
 use Rattle.desk.specs.Services.{ServiceData, service_of}
-use Rattle.http_desk.specs.Seated.{SeatedData, seated, holds_at}
-use Rattle.http_desk.specs.Asked.{IsAskedAt}
+use Rattle.http_desk.specs.Seated.{SeatedData, seated}
+use Rattle.http_desk.specs.Asked.{place_at, IsAskedAt}
 use Rattle.http_front.specs.declared.books.Books.{Books}
 use Rattle.http_front.specs.declared.books.NamedBook.{NamedBook}
-use Rattle.http_front.specs.Named.{holds_in, IsAskedOf}
+use Rattle.http_front.specs.Named.{place_in, IsAskedOf}
 use Rattle.http_pool.specs.Connections.{HasServed}
 use Rattle.http_pool.specs.declared.workers.Worker.{Worker}
 use Rattle.http_pool.specs.Workers.{HaveWorked}
@@ -29,7 +29,7 @@ abbrev pub HasServedAlone : {C : Type 0} → (C → ℕ → C → Type 0) → Se
 HasServedAlone ticks settings clock later books =
     (opened : Books) × (served : Books)
     × AreOpened settings.services.items opened.services.items
-    × HasServed (λ books service. holds_in books.services.items service) (λ old service moment wanted response new. IsAskedOf old.services.items service moment wanted response new.services.items) ticks opened clock served later
+    × HasServed (λ books service. place_in books.services.items service) (λ old place moment wanted response new. IsAskedOf old.services.items place moment wanted response new.services.items) ticks opened clock served later
     × (books ≡ books_of served.services.items)
 
 -- what a desk opens a service by: its name, its configuration and its first program
@@ -71,7 +71,7 @@ pub record AreClosed (services : List ServiceData) (books : List History) (seats
 abbrev pub HasServedAtDesk : {C : Type 0} → (C → ℕ → C → Type 0) → Settings → C → List History → List ℕ → Type 0
 HasServedAtDesk {C} ticks settings clock books counts =
     (later : List (Worker SeatedData C))
-    × HaveWorked (λ answerer service. holds_at answerer.services service) (λ old service moment wanted response new. IsAskedAt old moment wanted response new) ticks (workers_with (services_of settings.services.items) clock (seats_of 1 settings.workers)) later
+    × HaveWorked place_at (λ old place moment wanted response new. IsAskedAt old moment wanted response new) ticks (workers_with (services_of settings.services.items) clock (seats_of 1 settings.workers)) later
     × (counts ≡ counts_of (seats_with later))
     × AreClosed (services_of settings.services.items) books (seats_with later)
 

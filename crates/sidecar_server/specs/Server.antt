@@ -3,7 +3,7 @@ use Rattle.std.specs.Prelude.{◌≡◌, ◌⊎◌, ℕ, List, ◌∷◌, [], �
 use Rattle.std.specs.Io.KnownBytes.{Appends}
 use Rattle.std.specs.Net.Text.{socket_text}
 use Rattle.std.specs.declared.net.socket_addr.SocketAddr.{SocketAddr}
-use Rattle.counted_io.specs.Counting.{one_more, AppendsPart}
+use Rattle.counted_io.specs.Counting.{one_more, AppendsPart, AppendsProperPart}
 use Rattle.refusals.specs.declared.RefusalNumber.{RefusalNumber}
 use Rattle.refusals.specs.declared.RefusalNumber.TheVariants as refusal
 use Rattle.refusals.specs.Texts.{refusal_text}
@@ -11,8 +11,8 @@ use Rattle.service_profile.specs.Events.{History}
 use Rattle.http_pool.specs.Workers.{ends}
 use Rattle.service_file.specs.declared.settings.Settings.{Settings}
 use Rattle.service_file.specs.Settled.{IsRead}
-use Rattle.sidecar_server.specs.declared.serving.Status.{Status}
-use Rattle.sidecar_server.specs.declared.serving.Status.TheVariants as status
+use Rattle.sidecar_server.specs.declared.serving.ServerStatus.{ServerStatus}
+use Rattle.sidecar_server.specs.declared.serving.ServerStatus.TheVariants as status
 use Rattle.sidecar_server.specs.Served.{HasServedBy}
 
 -- the line that is printed once the server listens
@@ -23,11 +23,21 @@ listening_line address = codes "listening " ++ (socket_text address ++ 10 ∷ []
 abbrev pub refused_line : RefusalNumber → List ℕ
 refused_line number = refusal_text number 0 ++ 10 ∷ []
 
+-- the text is a file that can be used
+abbrev pub IsUsable : List ℕ → Type 0
+IsUsable text = (settings : Settings) × IsRead text (Some settings)
+
 -- the text is no file that can be used; or it is, and its address can't be bound
 abbrev pub IsFileRefused : List ℕ → RefusalNumber → Type 0
 IsFileRefused text refusal.BadConfig = IsRead text None
-IsFileRefused text refusal.Listen = (settings : Settings) × IsRead text (Some settings)
+IsFileRefused text refusal.Listen = IsUsable text
 IsFileRefused text other = ⊥
+
+-- with these alone a server refuses: a file that can't be read or used, and an address that can't be bound
+abbrev pub IsServerRefusal : RefusalNumber → Type 0
+IsServerRefusal refusal.BadConfig = ⊤
+IsServerRefusal refusal.Listen = ⊤
+IsServerRefusal other = ⊥
 
 -- the line that says that fewer workers run at once than the file says
 abbrev pub workers_line : ℕ → ℕ → List ℕ
@@ -38,62 +48,94 @@ abbrev pub IsNotice : Option (List ℕ) → Option (List ℕ) → Type 0
 IsNotice before after = (after ≡ before) ⊎ ((running : ℕ) × (workers : ℕ) × AppendsPart before after (workers_line running workers))
 
 -- what standard error has, by how the server ended: where a refusal was printed, or the listener failed, it says why
-abbrev pub IsQuiet : Status → Option (List ℕ) → Option (List ℕ) → Type 0
+abbrev pub IsQuiet : ServerStatus → Option (List ℕ) → Option (List ℕ) → Type 0
 IsQuiet (status.Refused number) before after = ⊤
 IsQuiet status.ListenerFailed before after = ⊤
 IsQuiet other before after = IsNotice before after
 
 -- connections were served: the server is done, or the listener accepts no more
-abbrev pub IsServing : Status → Type 0
+abbrev pub IsServing : ServerStatus → Type 0
 IsServing status.Done = ⊤
 IsServing status.ListenerFailed = ⊤
 IsServing other = ⊥
 
 -- a server that is done was to serve a number of connections
-abbrev pub IsOver : Status → ℕ → Type 0
+abbrev pub IsOver : ServerStatus → ℕ → Type 0
 IsOver status.Done connections = ends connections
 IsOver other connections = ⊤
 
--- a write failed, or memory ran out
-abbrev pub IsFailed : Status → Type 0
-IsFailed status.Done = ⊥
-IsFailed status.ListenerFailed = ⊥
-IsFailed (status.Refused number) = ⊥
-IsFailed other = ⊤
+-- what a line left that couldn't be printed: a beginning of it, and not all of it, where a write failed, and the whole of it where it couldn't be flushed
+abbrev pub IsLineCut : ServerStatus → List ℕ → Option (List ℕ) → Option (List ℕ) → Type 0
+IsLineCut status.WriteFailed line before after = AppendsProperPart before after line
+IsLineCut status.FlushFailed line before after = Appends before after line
+IsLineCut other line before after = ⊥
 
--- the refusal was printed, or printing it failed
-abbrev pub IsRefused : Status → RefusalNumber → Option (List ℕ) → Option (List ℕ) → Type 0
-IsRefused status.Done number before after = ⊥
-IsRefused status.ListenerFailed number before after = ⊥
+-- the refusal was printed, or a part of its line where that failed; nothing was written where there was no memory for it
+abbrev pub IsRefused : ServerStatus → RefusalNumber → Option (List ℕ) → Option (List ℕ) → Type 0
 IsRefused (status.Refused refused) number before after = (refused ≡ number) × Appends before after (refused_line number)
-IsRefused other number before after = ⊤
+IsRefused status.OutOfMemory number before after = after ≡ before
+IsRefused other number before after = IsLineCut other (refused_line number) before after
 
-abbrev pub status_of : {A : Type 0} → Result A Status → Status
+abbrev pub status_of : {A : Type 0} → Result A ServerStatus → ServerStatus
 status_of (Ok a) = status.Done
 status_of (Err failed) = failed
 
--- a failed write comes where that count went up by one, and no other end does
-abbrev pub IsCause : Status → ℕ → ℕ → Type 0
-IsCause status.WriteFailed before after = after ≡ one_more before
-IsCause other before after = after ≡ before
+-- a failed write comes where that count went up by one, and so does a failed flush; no other end does
+abbrev pub IsServerCause : ServerStatus → ℕ → ℕ → Type 0
+IsServerCause status.WriteFailed before after = after ≡ one_more before
+IsServerCause status.FlushFailed before after = after ≡ one_more before
+IsServerCause other before after = after ≡ before
 
 -- the server listens: the line of the address that was bound was printed
 abbrev pub IsListening : Option (List ℕ) → Option (List ℕ) → Type 0
 IsListening before after = (address : SocketAddr) × Appends before after (listening_line address)
 
--- what serving with settings printed, by how it ended: the line of the address where it is done, or the refusal
-abbrev pub IsEnded : Status → Option (List ℕ) → Option (List ℕ) → Type 0
-IsEnded status.Done before after = IsListening before after
-IsEnded status.ListenerFailed before after = IsListening before after
-IsEnded (status.Refused number) before after = (number ≡ refusal.Listen) × Appends before after (refused_line number)
-IsEnded other before after = ⊤
+-- what a server has written that was cut short. Usable says that its file can be used, and Refused which refusals it may print
+module _ (Usable : Type 0) (Refused : RefusalNumber → Type 0) where
+  -- a beginning of the line of an address, or of the line of a refusal, and not all of it
+  abbrev pub IsLineBegun : Option (List ℕ) → Option (List ℕ) → Type 0
+  IsLineBegun before after =
+      (Usable × ((address : SocketAddr) × AppendsProperPart before after (listening_line address)))
+      ⊎ ((number : RefusalNumber) × Refused number × AppendsProperPart before after (refused_line number))
+
+  -- the whole of such a line
+  abbrev pub IsLineWhole : Option (List ℕ) → Option (List ℕ) → Type 0
+  IsLineWhole before after =
+      (Usable × IsListening before after)
+      ⊎ ((number : RefusalNumber) × Refused number × Appends before after (refused_line number))
+
+  -- where a write failed a line was begun; where it couldn't be flushed it was written whole; and memory runs out before anything was written, or behind the line of the address
+  abbrev pub IsCutShort : ServerStatus → Option (List ℕ) → Option (List ℕ) → Type 0
+  IsCutShort status.WriteFailed before after = IsLineBegun before after
+  IsCutShort status.FlushFailed before after = IsLineWhole before after
+  IsCutShort status.OutOfMemory before after = (after ≡ before) ⊎ (Usable × IsListening before after)
+  IsCutShort other before after = ⊤
+
+-- the only refusal of a file that can be used
+abbrev pub IsAddressRefusal : RefusalNumber → Type 0
+IsAddressRefusal number = number ≡ refusal.Listen
+
+-- what was printed by a server that doesn't come to listen: the refusal of its address, or a part of its one line, or nothing
+abbrev pub IsUnheard : ServerStatus → Option (List ℕ) → Option (List ℕ) → Type 0
+IsUnheard (status.Refused number) before after = IsAddressRefusal number × Appends before after (refused_line number)
+IsUnheard status.WriteFailed before after = IsLineBegun ⊤ IsAddressRefusal before after
+IsUnheard status.FlushFailed before after = IsLineWhole ⊤ IsAddressRefusal before after
+IsUnheard status.OutOfMemory before after = after ≡ before
+IsUnheard other before after = ⊥
+
+-- what serving with settings printed, by how it ended: the line of the address where it is done, or the refusal, or a part of these
+abbrev pub IsServerOutput : ServerStatus → Option (List ℕ) → Option (List ℕ) → Type 0
+IsServerOutput status.Done before after = IsListening before after
+IsServerOutput status.ListenerFailed before after = IsListening before after
+IsServerOutput (status.Refused number) before after = IsAddressRefusal number × Appends before after (refused_line number)
+IsServerOutput other before after = IsCutShort ⊤ IsAddressRefusal other before after
 
 -- the services of a file's text opened, the line was printed, and connections were served, which left these books and seats' counts. Serving ends by itself only where the file says after how many connections
-abbrev pub HasServedFile : {C : Type 0} → (C → ℕ → C → Type 0) → List ℕ → Status → C → C → Option (List ℕ) → Option (List ℕ) → List History → List ℕ → Type 0
+abbrev pub HasServedFile : {C : Type 0} → (C → ℕ → C → Type 0) → List ℕ → ServerStatus → C → C → Option (List ℕ) → Option (List ℕ) → List History → List ℕ → Type 0
 HasServedFile ticks text ended clock later before after books counts =
     (settings : Settings) × IsRead text (Some settings) × HasServedBy ticks settings clock later books counts × IsOver ended settings.connections × IsListening before after
 
-abbrev pub code_of : Status → ℕ
+abbrev pub code_of : ServerStatus → ℕ
 code_of status.Done = 0
 code_of status.ListenerFailed = 1
 code_of (status.Refused number) = 1

@@ -2,18 +2,19 @@
 ghost use Rattle.std.specs.Prelude.{◌≡◌, ◌≤◌, ◌<◌, None, map, vec_len, IfOk};
 ghost use Rattle.http_pool.specs.Workers.{HaveWorked, HaveEnded, most_workers};
 ghost use Rattle.service_file.specs.Settled.{HasCounts};
-ghost use Rattle.sidecar_server.specs.Server.{IsEnded, IsCause, IsServing, IsOver, IsQuiet, IsNotice};
+ghost use Rattle.sidecar_server.specs.Server.{IsServerOutput, IsServerCause, IsServing, IsOver, IsQuiet, IsNotice};
 ghost use Rattle.sidecar_server.specs.Served.{opening_of, seats_of, services_of, workers_with, seats_with, counts_of, HaveNoFailure, AreClosed, HasServedAtDesk};
 
 use crate::notices::{notify_failure, notify_workers};
-use crate::serving::{ServerEnd, Status, listen};
+use crate::serving::{ServerEnd, ServerStatus, listen};
 use book::{Book, Config};
 use counted_io::Counted;
 use desk::{Desk, Offered, Seat};
-use http_desk::{OpenGate, SeatedAnswerer};
+use http_desk::SeatedAnswerer;
 use http_front::{Answerer, Clock};
 use http_pool::{ListenerFailed, Worker, pool};
 use refusals::RefusalNumber;
+use service::OpenGate;
 use service_file::{ServiceSettings, Settings};
 use std::alloc::{AllocError, Global};
 use std::io::Write;
@@ -74,11 +75,8 @@ fn workers<'a, L: Ledger, M: Ledger + Offered, R: Wait, C: Clock + Copy>(
     let mut workers = Vec::new(alloc);
     for seat in seats {
         let answerer = SeatedAnswerer::new(rt, alloc, desk, seat, gate);
-        workers.push(Worker {
-            answerer,
-            clock,
-            failure: None,
-        })?;
+        let worker = Worker::new(answerer, clock);
+        workers.push(worker)?;
     }
     Ok(workers)
 }
@@ -100,7 +98,7 @@ fn serve_by_pool<
 ) -> Result<Vec<Worker<A, C>>, AllocError>
     requires some { 0 < vec_len workers }
     requires few { vec_len workers ≤ most_workers }
-    ensures worked { IfOk result (λ later. HaveWorked A.holds A.answers C.ticks workers.items later.items) }
+    ensures worked { IfOk result (λ later. HaveWorked A.place_of A.answers C.ticks workers.items later.items) }
     ensures ended { IfOk result (λ later. HaveEnded connections later.items) }
     ensures notice { IsNotice (E.contents err.old.inner) (E.contents err.new.inner) }
 {
@@ -194,32 +192,32 @@ pub(crate) fn serve_at_desk<
     requires counts { HasCounts settings }
     ensures served { IsServing result.status → HasServedAtDesk C.ticks settings clock result.books.items result.counts.items }
     ensures over { IsOver result.status settings.connections }
-    ensures ended { IsEnded result.status (O.contents out.old.inner) (O.contents out.new.inner) }
+    ensures ended { IsServerOutput result.status (O.contents out.old.inner) (O.contents out.new.inner) }
     ensures quiet { IsQuiet result.status (E.contents err.old.inner) (E.contents err.new.inner) }
-    ensures cause { IsCause result.status out.old.failures out.new.failures }
+    ensures cause { IsServerCause result.status out.old.failures out.new.failures }
 {
     let Ok(opened) = opened_by(alloc, settings.services) else {
-        return ServerEnd::without(alloc, Status::OutOfMemory);
+        return ServerEnd::without(alloc, ServerStatus::OutOfMemory);
     };
     let Ok(mut desk) = Desk::<L, M>::open(alloc, entry_parts, cut_parts, opened) else {
-        return ServerEnd::without(alloc, Status::OutOfMemory);
+        return ServerEnd::without(alloc, ServerStatus::OutOfMemory);
     };
     let Ok(seats) = seats(alloc, &mut desk, settings.workers) else {
-        return ServerEnd::without(alloc, Status::OutOfMemory);
+        return ServerEnd::without(alloc, ServerStatus::OutOfMemory);
     };
     let gate = OpenGate;
     let Ok(workers) = workers(rt, alloc, &desk, seats, &gate, clock) else {
-        return ServerEnd::without(alloc, Status::OutOfMemory);
+        return ServerEnd::without(alloc, ServerStatus::OutOfMemory);
     };
     let listener = match listen(rt, alloc, settings.listen, out, err) {
         Ok(listener) => listener,
         Err(status) => return ServerEnd::without(alloc, status),
     };
     let Ok(workers) = serve_by_pool(rt, alloc, &listener, settings.connections, workers, err) else {
-        return ServerEnd::without(alloc, Status::OutOfMemory);
+        return ServerEnd::without(alloc, ServerStatus::OutOfMemory);
     };
     let Ok(back) = taken_back(alloc, workers) else {
-        return ServerEnd::without(alloc, Status::OutOfMemory);
+        return ServerEnd::without(alloc, ServerStatus::OutOfMemory);
     };
     let Back {
         seats,
@@ -227,18 +225,18 @@ pub(crate) fn serve_at_desk<
         failure,
     } = back;
     let Ok(books) = closed(alloc, desk, seats) else {
-        return ServerEnd::without(alloc, Status::OutOfMemory);
+        return ServerEnd::without(alloc, ServerStatus::OutOfMemory);
     };
     if let Some(failure) = failure {
         notify_failure(alloc, failure, err);
         return ServerEnd {
-            status: Status::ListenerFailed,
+            status: ServerStatus::ListenerFailed,
             books,
             counts,
         };
     }
     ServerEnd {
-        status: Status::Done,
+        status: ServerStatus::Done,
         books,
         counts,
     }

@@ -9,4 +9,4 @@ mod opening;
 mod serving;
 
 pub use clock::SystemClock;
-pub use serving::{ServerEnd, Status, serve_file, serve_path};
+pub use serving::{ServerEnd, ServerStatus, serve_file, serve_path};

@@ -1,9 +1,9 @@
 //! The command `serve`.
-ghost use Rattle.std.specs.Prelude.{◌≡◌, ℕ, List, [], IfErr, OnOk};
+ghost use Rattle.std.specs.Prelude.{◌≡◌, ℕ, List, [], IfErr, OnOk, ⊤};
 ghost use Rattle.std.specs.Io.KnownBytes.{Appends};
 ghost use Rattle.refusals.specs.declared.RefusalNumber.TheVariants.{BadConfig, Listen};
 ghost use Rattle.service_file.specs.Settled.{HasCounts};
-ghost use Rattle.sidecar_server.specs.Server.{refused_line, IsListening, IsFileRefused, IsRefused, IsFailed, IsCause, IsEnded, IsServing, IsOver, IsQuiet, HasServedFile, status_of, code_of};
+ghost use Rattle.sidecar_server.specs.Server.{refused_line, IsListening, IsUsable, IsFileRefused, IsServerRefusal, IsLineCut, IsCutShort, IsRefused, IsUnheard, IsServerCause, IsServerOutput, IsServing, IsOver, IsQuiet, HasServedFile, status_of, code_of};
 ghost use Rattle.sidecar_server.specs.Served.{HasServedAlone, HasServedBy};
 
 use crate::at_desk::serve_at_desk;
@@ -27,7 +27,7 @@ use std::{io, time};
 
 /// How the server ended.
 #[derive(Clone, Copy, Debug, PartialEq, Eq)]
-pub enum Status {
+pub enum ServerStatus {
     /// It has served its connections.
     Done,
     /// It has served connections, and the listener accepts no more.
@@ -43,18 +43,18 @@ pub enum Status {
     OutOfMemory,
 }
 
-impl Status {
+impl ServerStatus {
     /// The status with which the program ends: 0 where it is done, else 1.
     pub fn code(self) -> u8
         ensures { result ≡ code_of self }
     {
         match self {
-            Status::Done => 0,
-            Status::ListenerFailed
-            | Status::Refused(_)
-            | Status::WriteFailed
-            | Status::FlushFailed
-            | Status::OutOfMemory => 1,
+            ServerStatus::Done => 0,
+            ServerStatus::ListenerFailed
+            | ServerStatus::Refused(_)
+            | ServerStatus::WriteFailed
+            | ServerStatus::FlushFailed
+            | ServerStatus::OutOfMemory => 1,
         }
     }
 }
@@ -62,7 +62,7 @@ impl Status {
 /// How a server ended, and what it leaves.
 #[derive(Drop)]
 pub struct ServerEnd {
-    pub status: Status,
+    pub status: ServerStatus,
     /// Where connections were served, the books of the services, in the order of the file; else none.
     pub books: Vec<Book>,
     /// Where many workers served them, how many entries the calls of each one's seat made; else none.
@@ -71,7 +71,7 @@ pub struct ServerEnd {
 
 impl ServerEnd {
     /// The end of a server that has served no connection.
-    pub(crate) fn without(alloc: Global, status: Status) -> ServerEnd
+    pub(crate) fn without(alloc: Global, status: ServerStatus) -> ServerEnd
         ensures { result.status ≡ status }
     {
         ServerEnd {
@@ -83,31 +83,31 @@ impl ServerEnd {
 }
 
 /// Prints a line at once.
-fn print<O: Write>(line: &str, out: &mut Counted<O>) -> Result<(), Status>
+fn print<O: Write>(line: &str, out: &mut Counted<O>) -> Result<(), ServerStatus>
     ensures printed { OnOk result (Appends (O.contents out.old.inner) (O.contents out.new.inner) line.now) }
-    ensures failed { IfErr result (λ status. IsFailed status) }
-    ensures cause { IsCause (status_of result) out.old.failures out.new.failures }
+    ensures failed { IfErr result (λ status. IsLineCut status line.now (O.contents out.old.inner) (O.contents out.new.inner)) }
+    ensures cause { IsServerCause (status_of result) out.old.failures out.new.failures }
 {
     if out.send(line.as_bytes()).is_err() {
-        return Err(Status::WriteFailed);
+        return Err(ServerStatus::WriteFailed);
     }
     if out.flush().is_err() {
-        return Err(Status::FlushFailed);
+        return Err(ServerStatus::FlushFailed);
     }
     Ok(())
 }
 
 /// Prints a refusal as a line.
-fn refuse<O: Write>(alloc: Global, number: RefusalNumber, out: &mut Counted<O>) -> Status
+fn refuse<O: Write>(alloc: Global, number: RefusalNumber, out: &mut Counted<O>) -> ServerStatus
     ensures refused { IsRefused result number (O.contents out.old.inner) (O.contents out.new.inner) }
-    ensures cause { IsCause result out.old.failures out.new.failures }
+    ensures cause { IsServerCause result out.old.failures out.new.failures }
 {
     let shown = RefusalText { number, place: 0 };
     let Ok(line) = format!(in alloc; "{shown}\n") else {
-        return Status::OutOfMemory;
+        return ServerStatus::OutOfMemory;
     };
     match print(&line, out) {
-        Ok(()) => Status::Refused(number),
+        Ok(()) => ServerStatus::Refused(number),
         Err(status) => status,
     }
 }
@@ -130,13 +130,13 @@ fn refuse_address<O: Write, E: Write>(
     error: &io::Error,
     out: &mut Counted<O>,
     err: &mut Counted<E>,
-) -> Status
+) -> ServerStatus
     ensures refused { IsRefused result Listen (O.contents out.old.inner) (O.contents out.new.inner) }
     ensures quiet { IsQuiet result (E.contents err.old.inner) (E.contents err.new.inner) }
-    ensures cause { IsCause result out.old.failures out.new.failures }
+    ensures cause { IsServerCause result out.old.failures out.new.failures }
 {
     let status = refuse(alloc, RefusalNumber::Listen, out);
-    if let Status::Refused(_) = status
+    if let ServerStatus::Refused(_) = status
         && let Ok(name) = format!(in alloc; "{address}")
     {
         notify_error(alloc, &name, error, err);
@@ -153,21 +153,21 @@ pub(crate) fn listen<R, O: Write, E: Write>(
     address: SocketAddr,
     out: &mut Counted<O>,
     err: &mut Counted<E>,
-) -> Result<TcpListener, Status>
+) -> Result<TcpListener, ServerStatus>
 where
     R: Net<Listener = TcpListener, Stream = TcpStream>,
     ensures listening { OnOk result (IsListening (O.contents out.old.inner) (O.contents out.new.inner)) }
-    ensures refused { IfErr result (λ status. IsRefused status Listen (O.contents out.old.inner) (O.contents out.new.inner)) }
+    ensures unheard { IfErr result (λ status. IsUnheard status (O.contents out.old.inner) (O.contents out.new.inner)) }
     ensures heard { OnOk result (err.new ≡ err.old) }
     ensures quiet { IsQuiet (status_of result) (E.contents err.old.inner) (E.contents err.new.inner) }
-    ensures cause { IsCause (status_of result) out.old.failures out.new.failures }
+    ensures cause { IsServerCause (status_of result) out.old.failures out.new.failures }
 {
     let (listener, address) = match bound(rt, address) {
         Ok(bound) => bound,
         Err(error) => return Err(refuse_address(alloc, address, &error, out, err)),
     };
     let Ok(line) = format!(in alloc; "listening {address}\n") else {
-        return Err(Status::OutOfMemory);
+        return Err(ServerStatus::OutOfMemory);
     };
     print(&line, out)?;
     Ok(listener)
@@ -187,12 +187,12 @@ where
     R: Wait + time::Clock + Net<Listener = TcpListener, Stream = TcpStream>,
     ensures served { IsServing result.status → HasServedAlone C.ticks settings clock.old clock.new result.books.items × (result.counts.items ≡ []) }
     ensures over { IsOver result.status settings.connections }
-    ensures ended { IsEnded result.status (O.contents out.old.inner) (O.contents out.new.inner) }
+    ensures ended { IsServerOutput result.status (O.contents out.old.inner) (O.contents out.new.inner) }
     ensures quiet { IsQuiet result.status (E.contents err.old.inner) (E.contents err.new.inner) }
-    ensures cause { IsCause result.status out.old.failures out.new.failures }
+    ensures cause { IsServerCause result.status out.old.failures out.new.failures }
 {
     let Ok(mut books) = open(alloc, settings.services) else {
-        return ServerEnd::without(alloc, Status::OutOfMemory);
+        return ServerEnd::without(alloc, ServerStatus::OutOfMemory);
     };
     let listener = match listen(rt, alloc, settings.listen, out, err) {
         Ok(listener) => listener,
@@ -207,19 +207,19 @@ where
         clock,
     );
     let Ok(books) = books_of(alloc, books.services) else {
-        return ServerEnd::without(alloc, Status::OutOfMemory);
+        return ServerEnd::without(alloc, ServerStatus::OutOfMemory);
     };
     let counts = Vec::new(alloc);
     if let Err(failure) = ended {
         notify_failure(alloc, failure, err);
         return ServerEnd {
-            status: Status::ListenerFailed,
+            status: ServerStatus::ListenerFailed,
             books,
             counts,
         };
     }
     ServerEnd {
-        status: Status::Done,
+        status: ServerStatus::Done,
         books,
         counts,
     }
@@ -239,9 +239,9 @@ where
     requires counts { HasCounts settings }
     ensures served { IsServing result.status → HasServedBy C.ticks settings clock.old clock.new result.books.items result.counts.items }
     ensures over { IsOver result.status settings.connections }
-    ensures ended { IsEnded result.status (O.contents out.old.inner) (O.contents out.new.inner) }
+    ensures ended { IsServerOutput result.status (O.contents out.old.inner) (O.contents out.new.inner) }
     ensures quiet { IsQuiet result.status (E.contents err.old.inner) (E.contents err.new.inner) }
-    ensures cause { IsCause result.status out.old.failures out.new.failures }
+    ensures cause { IsServerCause result.status out.old.failures out.new.failures }
 {
     if settings.workers == 1 {
         return serve_alone(rt, alloc, settings, out, err, clock);
@@ -265,13 +265,13 @@ fn refuse_text<O: Write, E: Write>(
     text: &[u8],
     out: &mut Counted<O>,
     err: &mut Counted<E>,
-) -> Status
+) -> ServerStatus
     ensures refused { IsRefused result BadConfig (O.contents out.old.inner) (O.contents out.new.inner) }
     ensures quiet { IsQuiet result (E.contents err.old.inner) (E.contents err.new.inner) }
-    ensures cause { IsCause result out.old.failures out.new.failures }
+    ensures cause { IsServerCause result out.old.failures out.new.failures }
 {
     let status = refuse(alloc, RefusalNumber::BadConfig, out);
-    if let Status::Refused(_) = status {
+    if let ServerStatus::Refused(_) = status {
         notify_mistake(alloc, text, err);
     }
     status
@@ -299,20 +299,24 @@ where
     // back are those that were served. By one worker they stand where its connections left them. By many, a caller can
     // rest on this: each has a legal and sound history of one of the file's services, with its configuration and its
     // first program, after some cuts; and entries and cuts are just those that the workers' seats count, so that none
-    // is missing and none was made that no worker's call made. It is done only where the file says after how many
-    // connections. That a connection was served at all no clause can say.
+    // is missing but what rolls handed out, and none was made that no worker's call made. It is done only where the
+    // file says after how many connections. That a connection was served at all no clause can say.
     ensures done { IsServing result.status → HasServedFile C.ticks text.now result.status clock.old clock.new (O.contents out.old.inner) (O.contents out.new.inner) result.books.items result.counts.items }
     // Where it is refused, the refusal was printed: the text can't be used, or it can and the address can't be bound.
-    ensures refused { (number : RefusalNumber) → result.status ≡ Status.Refused number → IsFileRefused text.now number × Appends (O.contents out.old.inner) (O.contents out.new.inner) (refused_line number) }
+    ensures refused { (number : RefusalNumber) → result.status ≡ ServerStatus.Refused number → IsFileRefused text.now number × Appends (O.contents out.old.inner) (O.contents out.new.inner) (refused_line number) }
+    // Where a write failed, all that was added on `out` is a beginning of one line, and not all of it: of the listening
+    // line of some address, where the text can be used, or of the line of a refusal of this text. Where it couldn't be
+    // flushed, it is the whole of such a line. Where memory ran out, nothing was added, or the whole listening line.
+    ensures part { IsCutShort (IsUsable text.now) (IsFileRefused text.now) result.status (O.contents out.old.inner) (O.contents out.new.inner) }
     // On `err` stands at most the line on too few workers, but where a refusal was printed or the listener failed.
     ensures quiet { IsQuiet result.status (E.contents err.old.inner) (E.contents err.new.inner) }
-    // A failed write is answered where that count went up by one, and in no other case.
-    ensures cause { IsCause result.status out.old.failures out.new.failures }
+    // A failed write and a failed flush are answered where that count went up by one, and in no other case.
+    ensures cause { IsServerCause result.status out.old.failures out.new.failures }
 {
     match read_settings(alloc, text) {
         Ok(Some(settings)) => serve_settings(rt, alloc, settings, out, err, clock),
         Ok(None) => ServerEnd::without(alloc, refuse_text(alloc, text, out, err)),
-        Err(_) => ServerEnd::without(alloc, Status::OutOfMemory),
+        Err(_) => ServerEnd::without(alloc, ServerStatus::OutOfMemory),
     }
 }
 
@@ -332,13 +336,13 @@ fn refuse_path<O: Write, E: Write>(
     error: &io::Error,
     out: &mut Counted<O>,
     err: &mut Counted<E>,
-) -> Status
+) -> ServerStatus
     ensures refused { IsRefused result BadConfig (O.contents out.old.inner) (O.contents out.new.inner) }
     ensures quiet { IsQuiet result (E.contents err.old.inner) (E.contents err.new.inner) }
-    ensures cause { IsCause result out.old.failures out.new.failures }
+    ensures cause { IsServerCause result out.old.failures out.new.failures }
 {
     let status = refuse(alloc, RefusalNumber::BadConfig, out);
-    if let Status::Refused(_) = status {
+    if let ServerStatus::Refused(_) = status {
         notify_error(alloc, path, error, err);
     }
     status
@@ -363,17 +367,21 @@ where
         + Net<Listener = TcpListener, Stream = TcpStream>,
     // Where it is done, it served as some text says, in the way of `serve_file`: no clause knows a file's text.
     ensures done { IsServing result.status → (text : List ℕ) × HasServedFile C.ticks text result.status clock.old clock.new (O.contents out.old.inner) (O.contents out.new.inner) result.books.items result.counts.items }
-    // Where it is refused, the refusal was printed.
-    ensures refused { (number : RefusalNumber) → result.status ≡ Status.Refused number → Appends (O.contents out.old.inner) (O.contents out.new.inner) (refused_line number) }
+    // Where it is refused, the refusal was printed: of the file, or of its address, and no other.
+    ensures refused { (number : RefusalNumber) → result.status ≡ ServerStatus.Refused number → IsServerRefusal number × Appends (O.contents out.old.inner) (O.contents out.new.inner) (refused_line number) }
+    // Where a write failed, all that was added on `out` is a beginning of one line, and not all of it: of the listening
+    // line of some address, or of the line of one of these refusals. Where it couldn't be flushed, it is the whole of
+    // such a line. Where memory ran out, nothing was added, or the whole listening line.
+    ensures part { IsCutShort ⊤ IsServerRefusal result.status (O.contents out.old.inner) (O.contents out.new.inner) }
     // On `err` stands at most the line on too few workers, but where a refusal was printed or the listener failed.
     ensures quiet { IsQuiet result.status (E.contents err.old.inner) (E.contents err.new.inner) }
-    // A failed write is answered where that count went up by one, and in no other case.
-    ensures cause { IsCause result.status out.old.failures out.new.failures }
+    // A failed write and a failed flush are answered where that count went up by one, and in no other case.
+    ensures cause { IsServerCause result.status out.old.failures out.new.failures }
 {
     match read(rt, alloc, path) {
         Ok(text) => serve_file(rt, alloc, &text, out, err, clock),
         Err(error) if error.kind() == ErrorKind::OutOfMemory => {
-            ServerEnd::without(alloc, Status::OutOfMemory)
+            ServerEnd::without(alloc, ServerStatus::OutOfMemory)
         }
         Err(error) => ServerEnd::without(alloc, refuse_path(alloc, path, &error, out, err)),
     }

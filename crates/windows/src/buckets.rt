@@ -5,7 +5,7 @@ ghost use Rattle.service_profile.specs.Windows.{AreTotals};
 ghost use Rattle.windows.specs.Rings.{has_fallen, if_fallen, left, newest, older, with_totals, totals_of_bucket};
 ghost use Rattle.windows.specs.Sums.{plus, sum_of};
 
-use crate::sums::{minus, no_totals, plus};
+use crate::sums::{minus, plus};
 use circular_buffer::HeapCircularBuffer;
 use service_profile::Totals;
 
@@ -91,7 +91,7 @@ fn take_newest(ring: &mut HeapCircularBuffer<Bucket>, second: u64) -> Bucket
         }
         _ => Bucket {
             second,
-            totals: no_totals(),
+            totals: Totals::NONE,
         },
     }
 }

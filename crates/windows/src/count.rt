@@ -7,7 +7,7 @@ ghost use Rattle.windows.specs.Rings.{leaving, totals_of_outcome, IsOutcomeRing}
 ghost use Rattle.windows.specs.Sums.{sum_of};
 
 use crate::outcomes::Outcome;
-use crate::sums::{minus, no_totals, one_note, plus};
+use crate::sums::{minus, one_note, plus};
 use crate::window::Window;
 use circular_buffer::HeapCircularBuffer;
 use service_profile::Totals;
@@ -69,7 +69,7 @@ impl CountWindow {
         Ok(CountWindow {
             size,
             ring,
-            totals: no_totals(),
+            totals: Totals::NONE,
         })
     }
 }
@@ -109,6 +109,6 @@ impl Window for CountWindow {
     /// It takes time that goes with the number of notes.
     fn clear(&mut self) {
         self.ring.clear();
-        self.totals = no_totals();
+        self.totals = Totals::NONE;
     }
 }

@@ -1,20 +1,9 @@
 //! Sums of totals.
 ghost use Rattle.std.specs.Prelude.{◌≡◌, ◌-◌, ◌^◌};
 ghost use Rattle.service_profile.specs.Windows.{AreTotals};
-ghost use Rattle.windows.specs.Sums.{plus, minus, no_totals, one_note, IsPart};
+ghost use Rattle.windows.specs.Sums.{plus, minus, one_note, IsPart};
 
 use service_profile::Totals;
-
-/// The totals of no note.
-pub(crate) fn no_totals() -> Totals
-    ensures { result ≡ no_totals }
-{
-    Totals {
-        total: 0,
-        failed: 0,
-        slow: 0,
-    }
-}
 
 /// The totals of one note.
 pub(crate) fn one_note(failed: bool, slow: bool) -> Totals

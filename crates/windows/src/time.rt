@@ -4,15 +4,12 @@ ghost use Rattle.service_profile.specs.declared.notes.Note.{Note as ANote};
 ghost use Rattle.windows.specs.Notes.{recent};
 
 use crate::buckets::{Bucket, add, drop_fallen, totals_left};
-use crate::sums::{no_totals, one_note, plus};
+use crate::sums::{one_note, plus};
 use crate::window::Window;
 use circular_buffer::HeapCircularBuffer;
-use service_profile::Totals;
+use service_profile::{MOST_NOTES, Totals};
 use std::alloc::{AllocError, Global};
 use std::marker::Model;
-
-/// How many notes there may be in a window before one more.
-const MOST_NOTES: u64 = u64::MAX - 8;
 
 /// The notes of the last seconds, so many, as a ring of buckets with their totals. Only a second that has a
 /// note has a bucket, so that a long gap costs nothing.
@@ -46,7 +43,7 @@ impl TimeWindow {
         Ok(TimeWindow {
             size,
             ring,
-            totals: no_totals(),
+            totals: Totals::NONE,
         })
     }
 }
@@ -100,6 +97,6 @@ impl Window for TimeWindow {
     /// It takes time that goes with the number of buckets.
     fn clear(&mut self) {
         self.ring.clear();
-        self.totals = no_totals();
+        self.totals = Totals::NONE;
     }
 }

@@ -1,1 +1,2 @@
 pub mod Exists
+pub mod Heard

@@ -1,5 +1,5 @@
 -- A service with one caller, what is done on it, and what the caller hears.
-use Rattle.std.specs.Prelude.{ℕ, List, [], ◌∷◌, ◌++◌, length, replicate, Option, Some, None, Ok, Err}
+use Rattle.std.specs.Prelude.{◌≡◌, ℕ, List, [], ◌∷◌, ◌++◌, length, replicate, Option, Some, None, Ok, Err}
 use Rattle.std.specs.List.{filter_map}
 use Rattle.byteorder.specs.Endian.{little_bytes}
 use Rattle.bpf_profile.specs.declared.slot.Slot.TheVariants.{Ins}
@@ -11,8 +11,9 @@ use Rattle.service_profile.specs.declared.readings.Reading.{Reading}
 use Rattle.service_profile.specs.declared.replies.Reply.{Reply}
 use Rattle.service_profile.specs.Openings.{first_opening}
 use Rattle.service_profile.specs.Configuration.{default_parts}
-use Rattle.book.specs.Interleavings.{Step, look, judge, finish, ample, Act, Given, replied, found, shown, handed, nothing, course, begun}
-use Rattle.service_profile.specs.Machine.{decision}
+use Rattle.book.specs.Interleavings.{Step, look, judge, finish, World, Act, Given, replied, found, shown, handed, nothing, IsCourse, HaveMemory, begun}
+use Rattle.service_profile.specs.Machine.{meant}
+use Rattle.service_profile.specs.Events.{Opening}
 
 -- ---- programs and outcomes
 
@@ -31,10 +32,10 @@ ignoring_classifier = record { slots = Ins 183 0 0 0 2 ∷ (Ins 149 0 0 0 0 ∷ 
 abbrev pub response : ℕ → Outcome
 response status = record { context = little_bytes 4 0 ++ (little_bytes 4 status ++ replicate 120 0); facts = replicate 16 0; tag = [] }
 
--- ---- steps of one caller, with ample memory
+-- ---- steps of one caller
 
 abbrev pub by_caller : Step → Act
-by_caller step = record { actor = 1; step = step; memory = ample }
+by_caller step = record { actor = 1; step = step }
 
 -- a report is a look, the judging, and a finish; the caller's first report has place 0 in its hands, its next one place 1
 abbrev pub reports : ℕ → ℕ → ℕ → Outcome → List Act
@@ -57,10 +58,14 @@ heard_of (handed (Ok lines)) = Some (hands_out (length lines))
 heard_of (handed (Err number)) = Some (withholds number)
 heard_of nothing = None
 
--- what is heard on a fresh service with the default classifier
-abbrev pub heard_on : ConfigParts → List Act → List Heard
-heard_on config acts = filter_map heard_of (course decision (begun (first_opening config default_classifier)) acts).given
+-- what is heard wherever the documented machine takes these steps and refuses none for want of memory. That it can is a law of `book`
+abbrev pub IsHeard : Opening → List Act → List Heard → Type 0
+IsHeard opening acts heard = (given : List Given) (after : World) → IsCourse meant (begun opening) acts given after → HaveMemory given → filter_map heard_of given ≡ heard
 
--- what is heard on a service with the default classifier whose next ticket has a number
-abbrev pub heard_from_ticket : ℕ → List Act → List Heard
-heard_from_ticket number acts = filter_map heard_of (course decision (begun (record (first_opening default_parts default_classifier) { ticket = number })) acts).given
+-- the same on a fresh service with the default classifier
+abbrev pub IsHeardOn : ConfigParts → List Act → List Heard → Type 0
+IsHeardOn config acts heard = IsHeard (first_opening config default_classifier) acts heard
+
+-- the same on a service with the default classifier whose next ticket has a number
+abbrev pub IsHeardFromTicket : ℕ → List Act → List Heard → Type 0
+IsHeardFromTicket number acts heard = IsHeard (record (first_opening default_parts default_classifier) { ticket = number }) acts heard

@@ -1,4 +1,4 @@
--- Worked examples with a longest stay in HALF_OPEN, which the definitions have and configurations don't take yet.
+-- Worked examples with a longest stay in HALF_OPEN.
 use Rattle.std.specs.Prelude.{ℕ, List, [], ◌∷◌, ◌++◌, None}
 use Rattle.bpf_profile.specs.declared.machine.Verdict.TheVariants as verdict
 use Rattle.refusals.specs.declared.RefusalNumber.TheVariants as refusal

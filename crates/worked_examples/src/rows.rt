@@ -1,62 +1,61 @@
 //! What is heard on fresh services.
-ghost use Rattle.std.specs.Prelude.{◌≡◌};
 ghost use Rattle.service_profile.specs.Configuration.{default_parts};
-ghost use Rattle.worked_examples.specs.Services.{heard_on, heard_from_ticket};
+ghost use Rattle.worked_examples.specs.Services.{IsHeardOn, IsHeardFromTicket};
 ghost use Rattle.worked_examples.specs.Rows.{ten_seconds, note_passes_out, note_passed_out, two_permitted, ignored_call_frees, ignored_call_freed, ticket_goes_stale, ticket_went_stale, one_place, full_bulkhead_refuses, full_bulkhead_refused, states_are_forced, states_were_forced, book_is_cut, book_was_cut, last_ticket_is_issued, last_ticket_was_issued, ticket_is_released, ticket_was_released};
 ghost use Rattle.worked_examples.specs.Stays.{half_a_second, stay_ends, stay_ended, stay_ends_at_a_move, stay_ended_at_a_move};
 
 /// A time-based window of ten seconds shows a note of second 1 in second 10, and no longer in second 11.
 pub fn note_passes_out_of_the_window()
-    ensures { heard_on ten_seconds note_passes_out ≡ note_passed_out }
+    ensures { IsHeardOn ten_seconds note_passes_out note_passed_out }
 {}
 
 /// In HALF_OPEN with two permitted calls, a third call is refused until an ignored verdict gives its
 /// permission back; each ticket is judged by the version that was current when it was issued; the second
 /// recorded verdict closes the breaker.
 pub fn ignored_verdict_gives_its_permission_back()
-    ensures { heard_on two_permitted ignored_call_frees ≡ ignored_call_freed }
+    ensures { IsHeardOn two_permitted ignored_call_frees ignored_call_freed }
 {}
 
 /// A verdict whose ticket is of an earlier period is stale, and makes no note.
 pub fn verdict_of_an_earlier_period_is_stale()
-    ensures { heard_on default_parts ticket_goes_stale ≡ ticket_went_stale }
+    ensures { IsHeardOn default_parts ticket_goes_stale ticket_went_stale }
 {}
 
 /// The bulkhead is asked after the breaker: its refusal leaves a transition to HALF_OPEN, and takes no
 /// permission.
 pub fn full_bulkhead_refuses_after_the_breaker()
-    ensures { heard_on one_place full_bulkhead_refuses ≡ full_bulkhead_refused }
+    ensures { IsHeardOn one_place full_bulkhead_refuses full_bulkhead_refused }
 {}
 
 /// DISABLED permits and counts nothing, FORCED_OPEN permits nothing, and a reset leads to CLOSED.
 pub fn operators_force_states()
-    ensures { heard_on default_parts states_are_forced ≡ states_were_forced }
+    ensures { IsHeardOn default_parts states_are_forced states_were_forced }
 {}
 
 /// A cut is refused while a ticket is open, then hands out all entries; numbers and the greatest moment
 /// go on, and an ended ticket of an earlier opening stays ended.
 pub fn cut_hands_out_all_and_goes_on()
-    ensures { heard_on default_parts book_is_cut ≡ book_was_cut }
+    ensures { IsHeardOn default_parts book_is_cut book_was_cut }
 {}
 
 /// A book whose next ticket is the greatest, 2^63, is cut. Once that ticket is issued, a cut is refused
 /// before the open ticket is looked at, and changes nothing.
 pub fn worn_out_book_is_not_cut()
-    ensures { heard_from_ticket 9223372036854775808 last_ticket_is_issued ≡ last_ticket_was_issued }
+    ensures { IsHeardFromTicket 9223372036854775808 last_ticket_is_issued last_ticket_was_issued }
 {}
 
 /// A release ends its ticket; another one is refused because the ticket has ended, and one of a ticket
 /// that was never issued because there is none.
 pub fn release_ends_its_ticket()
-    ensures { heard_on default_parts ticket_is_released ≡ ticket_was_released }
+    ensures { IsHeardOn default_parts ticket_is_released ticket_was_released }
 {}
 
 /// Where a stay in HALF_OPEN is limited, the first event after its end is taken in OPEN.
 pub fn stay_in_half_open_ends()
-    ensures { heard_on half_a_second stay_ends ≡ stay_ended }
+    ensures { IsHeardOn half_a_second stay_ends stay_ended }
 {}
 
 /// The transition at a stay's end and the one that is asked for start a period each.
 pub fn stay_ends_before_a_move()
-    ensures { heard_on half_a_second stay_ends_at_a_move ≡ stay_ended_at_a_move }
+    ensures { IsHeardOn half_a_second stay_ends_at_a_move stay_ended_at_a_move }
 {}

@@ -1,11 +1,10 @@
-use Rattle.std.proofs.Common.{sym, subst}
-use Rattle.book.specs.Interleavings.{Course, IsWorld, begun}
+use Rattle.book.specs.Interleavings.{begun}
+use Rattle.service_profile.specs.Machine.{meant}
 use Rattle.book.proofs.SafeEvents.{safe_program}
-use Rattle.book.proofs.Worlds.{course_same, course_world, begun_world}
+use Rattle.book.proofs.Worlds.{meant_alike, course_well, begun_world}
 use Rattle.book.proofs.laws.interleavings_are_legal.Goals as goal
 
 pub returns : goal.returns
-returns c = λ opening acts good program steps.
+returns c = λ opening acts given after good program steps course.
     let safely = c.accepted_programs_are_safe.ensures in
-    let whole = begun_world opening good (safe_program safely opening.program program) in
-    subst (λ (x : Course). IsWorld x.world) (sym (course_same safely (begun opening) acts whole steps)) (course_world safely (begun opening) acts whole steps)
+    (course_well safely meant meant meant_alike meant_alike (begun opening) acts given after (begun_world opening good (safe_program safely opening.program program)) steps course).1

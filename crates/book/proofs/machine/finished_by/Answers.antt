@@ -12,7 +12,7 @@ pub returns-then-not-same_program : goal.returns-then-not-same_program
 returns-then-not-same_program c = λ held s stands before.
     let shown : c.deref.result.now ≡ c.args.judged.now.program = c.deref.ensures ∙ c.program.ensures.program in
     let other : same_program c.args.judged.now.program c.args.program.now ≡ false = ap (λ (p : VerifiedProgram). same_program p c.args.program.now) (sym shown) ∙ sym c.if-not-same_program.ensures.same in
-    of_stranger s c.args.moment c.args.judged.now c.args.ticket c.args.program.now _ other (c.refused.ensures ∙ ap (λ (n : Standing). refused_plan n refusal.Stranger) (c.standing.ensures held s stands))
+    of_stranger s c.args.moment c.args.judged.now c.args.ticket c.args.program.now _ other (c.refused.ensures ∙ ap (λ (n : Standing). refused_plan n refusal.Stranger) (c.standing.ensures.stands held s stands))
 
 pub returns : goal.returns
 returns c = λ held s stands before.

@@ -12,4 +12,4 @@ returns-in-Some c = λ held s stands before le. rw (← c.program.ensures held s
 
 pub returns-in-None : goal.returns-in-None
 returns-in-None c = λ held s stands before le.
-    no_program s c.args.moment c.args.judged.now c.args.ticket _ (sym (c.program.ensures held s stands le) ∙ ap (option_map (λ p. arc_value p.now)) c.in-None.is) (c.refused.ensures ∙ ap (λ (n : Standing). refused_plan n refusal.Stranger) (c.standing.ensures held s stands))
+    no_program s c.args.moment c.args.judged.now c.args.ticket _ (sym (c.program.ensures held s stands le) ∙ ap (option_map (λ p. arc_value p.now)) c.in-None.is) (c.refused.ensures ∙ ap (λ (n : Standing). refused_plan n refusal.Stranger) (c.standing.ensures.stands held s stands))

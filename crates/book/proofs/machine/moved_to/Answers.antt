@@ -3,10 +3,10 @@ use Rattle.service_profile.specs.declared.standings.Standing.{Standing}
 use Rattle.book.proofs.machine.moved_to.Goals as goal
 
 pub moved-next-requires : goal.moved-next-requires
-moved-next-requires c = omega (arith, ap (λ (n : Standing). n.period) (c.standing.ensures c.requires.held c.requires.situation c.requires.stands), c.requires.orderly.period)
+moved-next-requires c = omega (arith, ap (λ (n : Standing). n.period) c.standing.ensures.standing, c.requires.period)
 
 pub returns-clause-moves : goal.returns-clause-moves
-returns-clause-moves c = λ held s stands. rw (c.moved-next.ensures, c.standing.ensures held s stands) refl
+returns-clause-moves c = λ held s stands. rw (c.moved-next.ensures, c.standing.ensures.stands held s stands) refl
 
 pub returns-clause-resets : goal.returns-clause-resets
-returns-clause-resets c = λ held s stands. rw (c.moved-next.ensures, c.standing.ensures held s stands) refl
+returns-clause-resets c = λ held s stands. rw (c.moved-next.ensures, c.standing.ensures.stands held s stands) refl

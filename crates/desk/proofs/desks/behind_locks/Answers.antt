@@ -3,7 +3,7 @@ use Rattle.std.specs.Prelude.{string_bytes}
 use Rattle.std.specs.Vec.Iter.{into_iter_items}
 use Rattle.service_profile.specs.declared.configuration.Config.{Config}
 use Rattle.verifier.specs.declared.verified.Verified.{Verified}
-use Rattle.desk.specs.declared.desks.Service.{Service}
+use Rattle.desk.specs.declared.desks.LockedService.{LockedService}
 use Rattle.desk.proofs.Descent.{opens_one}
 use Rattle.desk.proofs.Places.{more_names, handed_on}
 use Rattle.desk.proofs.desks.behind_locks.Goals as goal
@@ -13,7 +13,7 @@ loop-name-preserved g c =
     let done = c.loop-name.invariant.2.0 in
     let later = into_iter_items c.next.new.self in
     let part : String Global × Config × Verified = (c.in-Some.name, c.in-Some.config, c.in-Some.program) in
-    let service : Service g.row.L.Denot g.row.M.Denot = record { name = c.in-Some.name; kept = tt } in
+    let service : LockedService g.row.L.Denot g.row.M.Denot = record { name = c.in-Some.name; kept = tt } in
     let whole : c.args.services.items ≡ done ++ (part ∷ later) = c.loop-name.invariant.2.1 ∙ ap (λ rest. done ++ rest) c.in-Some.ensures.steps.0 in
     let items : c.push.new.self.items ≡ c.loop-name.behind.items ++ service ∷ [] = c.in_ok-push.ensures.items in
     let names : map (λ s. string_bytes s.name) c.push.new.self.items ≡ map (λ s. string_bytes s.0) (done ++ part ∷ []) =

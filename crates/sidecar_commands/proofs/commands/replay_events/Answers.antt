@@ -1,6 +1,6 @@
 use Rattle.std.proofs.Common.{refl}
 use Rattle.std.proofs.lemmas.Result.{IfOk-weaker}
-use Rattle.replay.specs.declared.Ended.TheVariants as ended
+use Rattle.replay.specs.declared.ReplayEnded.TheVariants as ended
 use Rattle.replay.specs.Replaying.{IsReplayed}
 use Rattle.sidecar_commands.proofs.Cuts.{replayed_is_cut, refused_is_cut}
 use Rattle.sidecar_commands.proofs.commands.replay_events.Goals as goal

@@ -17,5 +17,5 @@ returns-in-Recorded-clause-stands c = λ s stands after.
     let is : StandsFor c.follow.new.self (followed (after_note_in note s) (Some note) (without_permission s)) =
     subst (λ (next : Standing). StandsFor c.follow.new.self (followed next (Some note) (without_permission s))) next_is went in
     let standing_is : c.self.inside.standing ≡ s.standing = ap (λ (b : HeldBreaker). b.standing) c.self.view_is ∙ stands.standing in
-    let fate_is : fate_in s.standing c.args.period ≡ fate.Recorded = ap (λ (standing : Standing). fate_in standing c.args.period) (sym standing_is) ∙ sym c.fate_in-fate.ensures ∙ c.in-Recorded.is in
+    let fate_is : fate_in s.standing c.args.period ≡ fate.Recorded = ap (λ (standing : Standing). fate_in standing c.args.period) (sym standing_is) ∙ sym c.fate_of-fate.ensures ∙ c.in-Recorded.is in
     subst (λ (f : Fate). StandsFor c.follow.new.self (recorded_by f note s)) (sym fate_is) is

@@ -1,0 +1,53 @@
+-- A report of a seat that has room for an entry is a look and a finish, each in one hold of the lock.
+use Rattle.std.proofs.Common.{◌≡◌, ◌<◌, ◌≤◌, ◌+◌, ◌-◌, ◌^◌, ℕ, suc, List, Result, Ok, Err, inl, inr, arith, refl, sym, subst, ap}
+use Rattle.bpf_profile.specs.Programs.{VerifiedProgram}
+use Rattle.refusals.specs.declared.RefusalNumber.{RefusalNumber}
+use Rattle.service_profile.specs.declared.replies.Reply.{Reply}
+use Rattle.service_profile.specs.declared.replies.Reply.TheVariants as reply
+use Rattle.service_profile.specs.Calls.{applies, looks, replies, finds}
+use Rattle.service_profile.specs.Events.{EventData, finishes}
+use Rattle.service.specs.Asking as asking
+use Rattle.service.specs.declared.request.Report.{Report}
+use Rattle.desk.specs.AfterSome.{IsReplied, IsFound, IsFinished, IsReported}
+use Rattle.desk.specs.Calls.{IsCalledAt}
+use Rattle.desk.specs.Seats.{SeatData, after_call, entries_made, IsCounted}
+use Rattle.desk.specs.Services.{ServiceData}
+
+module _ (services : List ServiceData) where
+  -- a look is never turned away
+  looked : (seat : SeatData) (ticket : ℕ) (found : Result VerifiedProgram RefusalNumber) (after : SeatData) → IsCalledAt services seat (looks ticket) (finds found) after → IsFound services ticket found × (after ≡ seat)
+  looked seat ticket found after (inl turned) = absurd turned
+  looked seat ticket found after (inr called) = called
+
+  -- nor is an event of a seat that has room
+  made : (seat : SeatData) (moment : ℕ) (event : EventData) (r : Reply) (after : SeatData) → seat.count < 2 ^ 64 - 8 → IsCalledAt services seat (applies moment event) (replies r) after → IsReplied services seat.number moment event r × (after ≡ after_call seat r)
+  made seat moment event r after room (inl turned) = let full : 2 ^ 64 - 8 ≤ seat.count = turned.0 in absurd (omega (arith, room, full))
+  made seat moment event r after room (inr called) = called
+
+  ends : (seat : SeatData) (moment : ℕ) (report : Report) (r : Reply) (after : SeatData) → seat.count < 2 ^ 64 - 8 → (found : Result VerifiedProgram RefusalNumber) → asking.IsFinishServed (IsCalledAt services) seat moment report found r after → IsFinished services seat moment report.ticket report.outcome found r after
+  ends seat moment report r after room (Err number) ended = ended
+  ends seat moment report r after room (Ok program) ended = let call = made seat moment (finishes ended.0 report.ticket) r after room ended.4 in (ended.0, ended.1, ended.2, ended.3, call.0, call.1)
+
+  pub reported : (seat : SeatData) (moment : ℕ) (report : Report) (r : Reply) (after : SeatData) → seat.count < 2 ^ 64 - 8 → asking.IsReportServed (IsCalledAt services) seat moment report r after → IsReported services seat moment report.ticket report.outcome r after
+  reported seat moment report r after room (found, between, call, ended) =
+      let look = looked seat report.ticket found between call in
+      (found, look.0, ends seat moment report r after room found (subst (λ s. asking.IsFinishServed (IsCalledAt services) s moment report found r after) look.1 ended))
+
+-- what a reply counts
+counted_by : (count : ℕ) (r : Reply) (after : ℕ) → after ≡ count + entries_made r → IsCounted count r after
+counted_by count (reply.Refused number) after is = (omega (arith, is), omega (arith, is))
+counted_by count (reply.Permitted ticket version state) after is = omega (arith, is)
+counted_by count (reply.Finished fate verdict steps version state) after is = omega (arith, is)
+counted_by count (reply.Released state) after is = omega (arith, is)
+counted_by count (reply.Installed version budget) after is = omega (arith, is)
+counted_by count (reply.Moved state period) after is = omega (arith, is)
+
+refused_counts : (count : ℕ) (number : RefusalNumber) → IsCounted count (reply.Refused number) count
+refused_counts count number = (omega arith, omega arith)
+
+counts_by : (services : List ServiceData) (seat : SeatData) (moment ticket : ℕ) (report : Report) (r : Reply) (after : SeatData) (found : Result VerifiedProgram RefusalNumber) → IsFinished services seat moment report.ticket report.outcome found r after → IsCounted seat.count r after.count
+counts_by services seat moment ticket report r after (Err number) ended = rw (ended.0, ended.1) (refused_counts seat.count number)
+counts_by services seat moment ticket report r after (Ok program) ended = counted_by seat.count r after.count (ap (λ (s : SeatData). s.count) ended.5)
+
+pub counts : (services : List ServiceData) (seat : SeatData) (moment : ℕ) (report : Report) (r : Reply) (after : SeatData) → IsReported services seat moment report.ticket report.outcome r after → IsCounted seat.count r after.count
+counts services seat moment report r after said = counts_by services seat moment report.ticket report r after said.0 said.2

@@ -1,0 +1,82 @@
+//! What the body of a request asks for.
+ghost use Rattle.std.specs.Prelude.{◌≡◌, IfOk, option_map};
+ghost use Rattle.serde_json.specs.View.{view};
+ghost use Rattle.service_profile.specs.Answers.{map_ok};
+ghost use Rattle.service.specs.Asked.{request_data};
+ghost use Rattle.texts.specs.JsonText.{json_of};
+ghost use Rattle.http_front.specs.Bodies.{value_asks, json_asks, page_asks, body_asks};
+
+use http_routes::{Route, entry_number};
+use refusals::RefusalNumber;
+use requests::{number_at, report, state};
+use serde_json::Value;
+use service::Request;
+use std::alloc::{AllocError, Global};
+use texts::json;
+
+/// What a JSON value asks for by a route whose body is JSON.
+fn value_asks(route: Route, value: &Value) -> Option<Request>
+    ensures { option_map request_data result ≡ value_asks route (view value.now) }
+{
+    match route {
+        Route::Report => Some(Request::Report(report(value)?)),
+        Route::Release => Some(Request::Release(number_at(value, "ticket")?)),
+        Route::Transition => Some(Request::Move(state(value)?)),
+        Route::Roll => Some(Request::Roll(number_at(value, "to")?)),
+        _ => None,
+    }
+}
+
+/// What a body of JSON asks for. The outer error is want of memory.
+fn json_asks(
+    alloc: Global,
+    route: Route,
+    body: &[u8],
+) -> Result<Result<Request, RefusalNumber>, AllocError>
+    ensures { IfOk result (λ asked. map_ok request_data asked ≡ json_asks route (json_of body.now)) }
+{
+    let Some(value) = json(alloc, body)? else {
+        return Ok(Err(RefusalNumber::BadJson));
+    };
+    match value_asks(route, &value) {
+        Some(request) => Ok(Ok(request)),
+        None => Ok(Err(RefusalNumber::BadValue)),
+    }
+}
+
+/// The page that a number in a path asks for.
+fn page_asks(number: Option<&str>) -> Result<Request, RefusalNumber>
+    ensures { map_ok request_data result ≡ page_asks (option_map (λ text. text.now) number.entry) }
+{
+    match number {
+        Some(text) => Ok(Request::Page(entry_number(text)?)),
+        None => Err(RefusalNumber::BadValue),
+    }
+}
+
+/// What a request asks for, by its route, the number in its path, and its body. A report is an object with
+/// `ticket` and `outcome`, a release one with `ticket`, a transition one with `state`, a roll one with `to`;
+/// their other keys are ignored. A program is bytecode as it is. The other routes ignore the body. The refusals are `BadJson`,
+/// where the body is to be JSON and is none, and then `BadValue`, where a value or the number of an entry
+/// is missing, of the wrong kind or out of range. The outer error is want of memory.
+pub fn body_asks(
+    alloc: Global,
+    route: Route,
+    number: Option<&str>,
+    body: &[u8],
+) -> Result<Result<Request, RefusalNumber>, AllocError>
+    ensures { IfOk result (λ asked. map_ok request_data asked
+        ≡ body_asks route (option_map (λ text. text.now) number.entry) body.now) }
+{
+    match route {
+        Route::Acquire => Ok(Ok(Request::Acquire)),
+        Route::Report | Route::Release | Route::Transition | Route::Roll => {
+            json_asks(alloc, route, body)
+        }
+        Route::Reset => Ok(Ok(Request::Reset)),
+        Route::Cut => Ok(Ok(Request::Cut)),
+        Route::Program => Ok(Ok(Request::Install(Vec::from_slice(alloc, body)?))),
+        Route::State => Ok(Ok(Request::Read)),
+        Route::Journal => Ok(page_asks(number)),
+    }
+}

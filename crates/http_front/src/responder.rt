@@ -1,0 +1,57 @@
+//! The HTTP interface as a responder.
+ghost use Rattle.std.specs.Prelude.{◌≡◌, ◌⊎◌, ℕ, List};
+ghost use Rattle.http_front.specs.Answered.{fault_text, IsAnswered};
+
+use crate::answerer::Answerer;
+use crate::answering::{write_fault, write_response};
+use crate::asking::{Asking, asked};
+use book::Reply;
+use http_messages::Fault;
+use http_routes::Routes;
+use http_serving::{HttpRequest, Responder};
+use service::Response;
+use std::alloc::{AllocError, Global};
+
+/// What answering needs beside the answerer, made once.
+#[derive(Drop)]
+pub(crate) struct HttpResponder {
+    alloc: Global,
+    routes: Routes,
+}
+
+impl HttpResponder {
+    /// Makes the routes. The error is want of memory.
+    pub(crate) fn new(alloc: Global) -> Result<HttpResponder, AllocError> {
+        let routes = Routes::new(alloc)?;
+        Ok(HttpResponder { alloc, routes })
+    }
+}
+
+impl<A: Answerer> Responder<A> for HttpResponder {
+    ghost refusal = { fault_text };
+
+    ghost responds = { IsAnswered A.place_of A.answers };
+
+    fn refuse(&self, fault: Fault, text: &mut Vec<u8>) -> Result<(), AllocError> {
+        write_fault(self.alloc, text, fault)
+    }
+
+    fn respond(
+        &self,
+        state: &mut A,
+        moment: u64,
+        request: &HttpRequest<'_>,
+        text: &mut Vec<u8>,
+    ) -> Result<(), AllocError> {
+        match asked(self.alloc, &self.routes, state, request)? {
+            Asking::Refuses(number, allow) => {
+                let refusal = Response::Reply(Reply::Refused(number));
+                write_response(self.alloc, text, request, &refusal, allow)
+            }
+            Asking::Asks(place, wanted) => {
+                let response = state.ask(place, moment, wanted);
+                write_response(self.alloc, text, request, &response, None)
+            }
+        }
+    }
+}

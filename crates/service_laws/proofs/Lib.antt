@@ -1,0 +1,10 @@
+pub mod Agreeing
+pub mod Endings
+pub mod Issuing
+pub mod Orders
+pub mod Periods
+pub mod Stays
+pub mod Tripping
+pub mod Turns
+pub mod Waits
+pub mod Ways

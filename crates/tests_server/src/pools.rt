@@ -1,0 +1,230 @@
+//! Pools on the loopback address. Clients connect and ask before their connections are accepted, so that
+//! the thread that starts the workers is all clients.
+ghost use Rattle.std.specs.Prelude.{◌≡◌};
+
+use crate::checks::{is_true_at, same};
+use crate::fixtures::{ACQUIRE, entries, pay};
+use http_front::{Books, Clock};
+use http_pool::{ListenerFailed, Worker, pool, serve_connections, threads_at_once};
+use std::alloc::{AllocError, Global};
+use std::io::{Read, Write};
+use std::net::{Net, Shutdown, SocketAddr, TcpListener, TcpStream};
+use std::process::Abort;
+use std::sync::Wait;
+use std::test::Fail;
+use std::thread::Threads;
+use std::{io, time};
+
+/// Tells how often it was read.
+#[derive(Drop)]
+struct Readings {
+    times: u64,
+}
+
+impl Clock for Readings {
+    ghost ticks = { λ old moment new. moment ≡ new.times };
+
+    fn now_ms(&mut self) -> u64 {
+        self.times = self.times.saturating_add(1);
+        self.times
+    }
+}
+
+/// Workers with a service each, whose clocks were read 0, 100, 200 times and so on.
+fn workers(
+    rt: &impl Abort,
+    alloc: Global,
+    count: u64,
+) -> Result<Vec<Worker<Books, Readings>>, AllocError> {
+    let mut workers = Vec::new(alloc);
+    for number in 0..count {
+        let times = number.saturating_mul(100);
+        workers.push(Worker::new(pay(rt, alloc), Readings { times }))?;
+    }
+    Ok(workers)
+}
+
+/// Connects to an address, asks, and sends no more.
+fn ask<R>(rt: &R, address: SocketAddr, input: &str) -> io::Result<TcpStream>
+where
+    R: Net<Listener = TcpListener, Stream = TcpStream>,
+{
+    let stream = TcpStream::connect(rt, address)?;
+    (&stream).write_all(input.as_bytes())?;
+    stream.shutdown(Shutdown::Write)?;
+    Ok(stream)
+}
+
+/// What the other side sent, to its end.
+fn answer(alloc: Global, stream: &TcpStream) -> io::Result<Vec<u8>> {
+    let mut text = Vec::new(alloc);
+    (&mut &*stream).read_to_end(&mut text)?;
+    Ok(text)
+}
+
+/// The other side's answer begins so, and has this ending.
+fn is_answered(rt: &impl Abort, alloc: Global, stream: &TcpStream, ending: &str) -> io::Result<()> {
+    let text = answer(alloc, stream)?;
+    let text = text.as_slice();
+    is_true_at(rt, text.starts_with(b"HTTP/1.1 200 OK\r\n"), text);
+    is_true_at(rt, text.ends_with(ending.as_bytes()), text);
+    Ok(())
+}
+
+/// Each message was answered once, at the clock of the worker that has its entry: so many in all.
+fn have_answered(rt: &impl Abort, workers: &[Worker<Books, Readings>], wanted: u64) {
+    let mut answered: u64 = 0;
+    let mut times: u64 = 0;
+    for worker in workers {
+        let made = entries(&worker.answerer);
+        same(rt, worker.clock.times, times.saturating_add(made));
+        answered = answered.saturating_add(made);
+        times = times.saturating_add(100);
+    }
+    same(rt, answered, wanted);
+}
+
+/// So many connections, each of which asks.
+fn connect<R>(
+    rt: &R,
+    alloc: Global,
+    address: SocketAddr,
+    count: u64,
+) -> Result<Vec<TcpStream>, Fail>
+where
+    R: Net<Listener = TcpListener, Stream = TcpStream>,
+{
+    let mut streams = Vec::new(alloc);
+    for _ in 0..count {
+        streams.push(ask(rt, address, ACQUIRE)?)?;
+    }
+    Ok(streams)
+}
+
+/// How many workers met the failure of a listener that would not wait (EAGAIN).
+fn failures(workers: &[Worker<Books, Readings>]) -> usize {
+    let would_wait = Some(ListenerFailed { code: 11 });
+    workers
+        .iter()
+        .filter(|worker| worker.failure == would_wait)
+        .count()
+}
+
+/// One connection is left to the listener, with all that its client sent, and no other.
+fn one_is_left(rt: &impl Abort, alloc: Global, listener: &TcpListener) -> io::Result<()> {
+    listener.set_nonblocking(true)?;
+    let (left, _) = listener.accept()?;
+    left.set_nonblocking(false)?;
+    same(rt, answer(alloc, &left)?.as_slice(), ACQUIRE.as_bytes());
+    same(rt, listener.accept().is_err(), true);
+    Ok(())
+}
+
+#[test]
+fn workers_share_the_connections(rt: HostRuntime) -> Result<(), Fail> {
+    let alloc = rt.alloc();
+    let listener = TcpListener::bind(&rt, "127.0.0.1:0")?;
+    let address = listener.local_addr()?;
+    let streams = connect(&rt, alloc, address, 8)?;
+    // The pool is to serve eight: it ends, and the ninth is not answered.
+    let further = ask(&rt, address, ACQUIRE)?;
+    let workers = workers(&rt, alloc, 3)?;
+    assert_eq!(rt; workers.len(), 3);
+    let workers = pool(&rt, alloc, &listener, 8, workers)?;
+    same(&rt, workers.len(), 3);
+    same(&rt, failures(&workers), 0);
+    have_answered(&rt, &workers, 8);
+    for stream in &streams {
+        is_answered(&rt, alloc, stream, "\"version\":1}")?;
+    }
+    one_is_left(&rt, alloc, &listener)?;
+    same(&rt, answer(alloc, &further)?.len(), 0);
+    Ok(())
+}
+
+/// A pool of two workers, which is to serve so many connections, of which one is there. Each worker brings back the
+/// failure of the listener, which would not wait for another one.
+fn a_pool_fails<R>(rt: &R, alloc: Global, connections: u64) -> Result<(), Fail>
+where
+    R: Threads
+        + Wait
+        + Sync
+        + Abort
+        + time::Clock
+        + Net<Listener = TcpListener, Stream = TcpStream>,
+{
+    let listener = TcpListener::bind(rt, "127.0.0.1:0")?;
+    let stream = ask(rt, listener.local_addr()?, ACQUIRE)?;
+    // Where no connection waits, accepting fails.
+    listener.set_nonblocking(true)?;
+    let workers = workers(rt, alloc, 2)?;
+    assert_eq!(rt; workers.len(), 2);
+    let workers = pool(rt, alloc, &listener, connections, workers)?;
+    same(rt, workers.len(), 2);
+    same(rt, failures(&workers), 2);
+    have_answered(rt, &workers, 1);
+    is_answered(rt, alloc, &stream, "\"version\":1}")?;
+    Ok(())
+}
+
+#[test]
+fn a_pool_ends_where_the_listener_would_not_wait(rt: HostRuntime) -> Result<(), Fail> {
+    a_pool_fails(&rt, rt.alloc(), 0)?;
+    // Fewer connections were served than it was to serve.
+    a_pool_fails(&rt, rt.alloc(), 5)?;
+    Ok(())
+}
+
+/// Serves so many connections, of which one is there. It ends with the failure of the listener, which would not wait
+/// for another one.
+fn serving_fails<R>(rt: &R, alloc: Global, connections: u64) -> Result<(), Fail>
+where
+    R: Wait + Abort + time::Clock + Net<Listener = TcpListener, Stream = TcpStream>,
+{
+    let listener = TcpListener::bind(rt, "127.0.0.1:0")?;
+    let stream = ask(rt, listener.local_addr()?, ACQUIRE)?;
+    listener.set_nonblocking(true)?;
+    let mut books = pay(rt, alloc);
+    let mut clock = Readings { times: 0 };
+    let ended = serve_connections(rt, alloc, &listener, connections, &mut books, &mut clock);
+    same(rt, ended, Err(ListenerFailed { code: 11 }));
+    same(rt, (entries(&books), clock.times), (1, 1));
+    is_answered(rt, alloc, &stream, "\"version\":1}")?;
+    Ok(())
+}
+
+#[test]
+fn serving_ends_where_the_listener_would_not_wait(rt: HostRuntime) -> Result<(), Fail> {
+    serving_fails(&rt, rt.alloc(), 0)?;
+    serving_fails(&rt, rt.alloc(), 5)?;
+    Ok(())
+}
+
+#[test]
+fn connections_are_served_one_after_another(rt: HostRuntime) -> Result<(), Fail> {
+    let alloc = rt.alloc();
+    let listener = TcpListener::bind(&rt, "127.0.0.1:0")?;
+    let address = listener.local_addr()?;
+    let first = ask(&rt, address, ACQUIRE)?;
+    // A message that is cut short ends its connection alone.
+    let cut = ask(&rt, address, "POST")?;
+    let last = ask(&rt, address, ACQUIRE)?;
+    let mut books = pay(&rt, alloc);
+    let mut clock = Readings { times: 0 };
+    let ended = serve_connections(&rt, alloc, &listener, 3, &mut books, &mut clock);
+    same(&rt, ended, Ok(()));
+    same(&rt, (entries(&books), clock.times), (2, 2));
+    same(&rt, answer(alloc, &cut)?.len(), 0);
+    let ending = "{\"state\":\"CLOSED\",\"ticket\":1,\"version\":1}";
+    is_answered(&rt, alloc, &first, ending)?;
+    let ending = "{\"state\":\"CLOSED\",\"ticket\":2,\"version\":1}";
+    is_answered(&rt, alloc, &last, ending)?;
+    Ok(())
+}
+
+#[test]
+fn threads_run_at_once(rt: HostRuntime) -> Result<(), Fail> {
+    let running = threads_at_once(&rt, rt.alloc(), 8)?;
+    same(&rt, running, 8);
+    Ok(())
+}

@@ -1,0 +1,180 @@
+//! Files by hand.
+use crate::checks::{is_true, is_true_at, same, same_at};
+use config_mistakes::{config_mistake, file_mistake};
+use requests::config;
+use service_file::{Settings, read_settings};
+use std::alloc::{AllocError, Global};
+use std::process::Abort;
+use texts::json;
+
+/// Reads a file's text. A mistake is found in it exactly where it can't be used.
+fn read(rt: &impl Abort, alloc: Global, text: &str) -> Option<Settings> {
+    let settings = read_settings(alloc, text.as_bytes()).expect(rt, "ample memory");
+    let mistake = file_mistake(alloc, text.as_bytes()).expect(rt, "ample memory");
+    is_true_at(rt, mistake.is_some() == settings.is_none(), text);
+    settings
+}
+
+/// A service of a file: its name, the size of its window, and the budget of its program.
+type Service<'a> = (&'a str, u64, u32);
+
+/// A file has these services.
+fn have_services(rt: &impl Abort, settings: &Settings, services: &[Service<'_>]) {
+    same(rt, settings.services.len(), services.len());
+    for (found, wanted) in settings.services.iter().zip(services) {
+        let (name, size, budget) = *wanted;
+        same(rt, found.name.as_str(), name);
+        same_at(rt, found.config.parts().sliding_window_size, size, name);
+        same_at(rt, found.program.budget(), budget, name);
+    }
+}
+
+#[test]
+fn files_are_read(rt: HostRuntime) {
+    let text =
+        "{\"listen\":\"127.0.0.1:8080\",\"workers\":4,\"connections\":0,\"services\":[{\"name\":\"pay\",\"config\":{\"slidingWindowSize\":7},\"program\":\"b700000002000000 9500000000000000\"},{\"name\":\"a-1_z\"}]}";
+    let settings = read(&rt, rt.alloc(), text).expect(&rt, "a file");
+    same(&rt, settings.listen.port(), 8080);
+    is_true(&rt, settings.listen.is_ipv4());
+    same(&rt, settings.workers, 4);
+    same(&rt, settings.connections, 0);
+    have_services(&rt, &settings, &[("pay", 7, 2), ("a-1_z", 100, 6)]);
+}
+
+#[test]
+fn addresses_may_be_of_version_6(rt: HostRuntime) {
+    let text =
+        "{\"listen\":\"[::1]:0\",\"workers\":64,\"connections\":18446744073709551615,\"services\":[{\"name\":\"a\"}]}";
+    let settings = read(&rt, rt.alloc(), text).expect(&rt, "a file");
+    is_true(&rt, settings.listen.is_ipv6());
+    same(&rt, settings.connections, u64::MAX);
+}
+
+/// A key of a configuration, its least and its greatest value, and what stands before it in the object.
+type Range<'a> = (&'a str, u64, u64, &'a str);
+
+/// Whether a configuration with this value can be used. A mistake is found in it exactly where it can't.
+fn is_config(rt: &impl Abort, alloc: Global, range: Range<'_>, value: u64) -> bool {
+    let (key, _, _, before) = range;
+    let text = format!(in alloc; "{{{before}\"{key}\":{value}}}").expect(rt, "ample memory");
+    let parsed = json(alloc, text.as_bytes())
+        .expect(rt, "ample memory")
+        .expect(rt, "JSON");
+    let is_good = config(&parsed).is_some();
+    let mistake = config_mistake(alloc, text.as_bytes()).expect(rt, "ample memory");
+    is_true_at(rt, mistake.is_none() == is_good, text);
+    is_good
+}
+
+/// Both ends of each range can be used, and what lies next to them can't.
+fn are_ranges(rt: &impl Abort, alloc: Global, ranges: &[Range<'_>]) {
+    for range in ranges {
+        let (key, least, most, _) = *range;
+        is_true_at(rt, is_config(rt, alloc, *range, least), key);
+        is_true_at(rt, is_config(rt, alloc, *range, most), key);
+        is_true_at(
+            rt,
+            !is_config(rt, alloc, *range, most.saturating_add(1)),
+            key,
+        );
+        if least > 0 {
+            is_true_at(rt, !is_config(rt, alloc, *range, 0), key);
+        }
+    }
+}
+
+#[test]
+fn mistakes_of_configurations_are_found(rt: HostRuntime) {
+    are_ranges(
+        &rt,
+        rt.alloc(),
+        &[
+            ("failureRateThreshold", 1, 100, ""),
+            ("slowCallRateThreshold", 1, 100, ""),
+            ("slowCallDurationThreshold", 1, 1 << 32, ""),
+            ("permittedNumberOfCallsInHalfOpenState", 1, 10_000, ""),
+            ("maxWaitDurationInHalfOpenState", 0, 1 << 40, ""),
+            ("slidingWindowSize", 1, 10_000, ""),
+            (
+                "slidingWindowSize",
+                1,
+                3_600,
+                "\"slidingWindowType\":\"TIME_BASED\",",
+            ),
+            ("minimumNumberOfCalls", 1, 1_000_000, ""),
+            ("waitDurationInOpenState", 1, 1 << 40, ""),
+            ("maxConcurrentCalls", 1, 10_000, ""),
+            ("maxWaitDuration", 0, 0, ""),
+        ],
+    );
+}
+
+/// Texts that are no files.
+fn are_none(rt: &impl Abort, alloc: Global, texts: &[&str]) {
+    for text in texts {
+        is_true_at(rt, read(rt, alloc, text).is_none(), text);
+    }
+}
+
+#[test]
+fn files_that_cannot_be_used_are_none(rt: HostRuntime) {
+    are_none(
+        &rt,
+        rt.alloc(),
+        &[
+            "",
+            "[]",
+            "{}",
+            "{\"listen\":\"127.0.0.1:8080\",\"workers\":4,\"connections\":0,\"services\":[]}",
+            "{\"listen\":\"127.0.0.1:8080\",\"workers\":4,\"connections\":0,\"services\":{}}",
+            "{\"listen\":\"localhost:8080\",\"workers\":4,\"connections\":0,\"services\":[{\"name\":\"pay\"}]}",
+            "{\"listen\":\"127.0.0.1\",\"workers\":4,\"connections\":0,\"services\":[{\"name\":\"pay\"}]}",
+            "{\"listen\":\"127.0.0.1:65536\",\"workers\":4,\"connections\":0,\"services\":[{\"name\":\"pay\"}]}",
+            "{\"listen\":\"127.0.0.1:8080\",\"workers\":0,\"connections\":0,\"services\":[{\"name\":\"pay\"}]}",
+            "{\"listen\":\"127.0.0.1:8080\",\"workers\":65,\"connections\":0,\"services\":[{\"name\":\"pay\"}]}",
+            "{\"listen\":\"127.0.0.1:8080\",\"workers\":4,\"services\":[{\"name\":\"pay\"}]}",
+            "{\"listen\":\"127.0.0.1:8080\",\"workers\":4,\"connections\":-1,\"services\":[{\"name\":\"pay\"}]}",
+            "{\"listen\":\"127.0.0.1:8080\",\"workers\":4,\"connections\":0,\"services\":[{\"name\":\"pay\"}],\"more\":1}",
+            "{\"listen\":\"127.0.0.1:8080\",\"workers\":4,\"connections\":0,\"services\":[{\"name\":\"pay\"},{\"name\":\"pay\"}]}",
+            "{\"listen\":\"127.0.0.1:8080\",\"workers\":4,\"connections\":0,\"services\":[{\"name\":\"Pay\"}]}",
+            "{\"listen\":\"127.0.0.1:8080\",\"workers\":4,\"connections\":0,\"services\":[{\"name\":\"\"}]}",
+            "{\"listen\":\"127.0.0.1:8080\",\"workers\":4,\"connections\":0,\"services\":[{\"name\":\"pay\",\"more\":1}]}",
+            "{\"listen\":\"127.0.0.1:8080\",\"workers\":4,\"connections\":0,\"services\":[{\"config\":{}}]}",
+            "{\"listen\":\"127.0.0.1:8080\",\"workers\":4,\"connections\":0,\"services\":[{\"name\":\"pay\",\"config\":{\"maxWaitDuration\":5}}]}",
+            "{\"listen\":\"127.0.0.1:8080\",\"workers\":4,\"connections\":0,\"services\":[{\"name\":\"pay\",\"config\":null}]}",
+            "{\"listen\":\"127.0.0.1:8080\",\"workers\":4,\"connections\":0,\"services\":[{\"name\":\"pay\",\"program\":null}]}",
+            "{\"listen\":\"127.0.0.1:8080\",\"workers\":4,\"connections\":0,\"services\":[{\"name\":\"pay\",\"program\":\"b\"}]}",
+            "{\"listen\":\"127.0.0.1:8080\",\"workers\":4,\"connections\":0,\"services\":[{\"name\":\"pay\",\"program\":\"9500000000000000\"}]}",
+        ],
+    );
+}
+
+/// A file with so many services, whose names have so many bytes.
+fn many(alloc: Global, count: u32, size: usize) -> Result<String, AllocError> {
+    let mut text = String::from_str(
+        alloc,
+        "{\"listen\":\"127.0.0.1:1\",\"workers\":1,\"connections\":1,\"services\":[",
+    )?;
+    for number in 0..count {
+        let name = format!(in alloc; "{number:0>size$}")?;
+        let separator = if number == 0 { "" } else { "," };
+        text.push_str(&format!(in alloc; "{separator}{{\"name\":\"{name}\"}}")?)?;
+    }
+    text.push_str("]}")?;
+    Ok(text)
+}
+
+/// Whether a file with so many services, whose names have so many bytes, can be used.
+fn can_be_used(rt: &impl Abort, alloc: Global, count: u32, size: usize, is_used: bool) {
+    let text = many(alloc, count, size).expect(rt, "ample memory");
+    let found = read(rt, alloc, &text);
+    same_at(rt, found.is_some(), is_used, (&count, &size));
+}
+
+#[test]
+fn services_and_names_have_a_limit(rt: HostRuntime) {
+    can_be_used(&rt, rt.alloc(), 64, 2, true);
+    can_be_used(&rt, rt.alloc(), 65, 2, false);
+    can_be_used(&rt, rt.alloc(), 1, 64, true);
+    can_be_used(&rt, rt.alloc(), 1, 65, false);
+}

@@ -1,0 +1,233 @@
+//! Messages with their answers, over a service under the name `pay`.
+use crate::checks::{is_true, is_true_at, same};
+use crate::fixtures::{
+    ACQUIRE, ACQUIRED, INSTALL, INSTALLED, JOURNAL, ONE_ENTRY, StandsAt, are_answered, is_answered,
+    joined, pay, pay_with, served, version,
+};
+use book::ConfigParts;
+use counted_io::Counted;
+use http_front::{Books, Ended, serve};
+use std::alloc::Global;
+use std::process::Abort;
+use std::sync::Wait;
+
+#[test]
+fn messages_are_answered(rt: HostRuntime) {
+    are_answered(
+        &rt,
+        rt.alloc(),
+        &[
+            (ACQUIRE, ACQUIRED, Ended::Closed),
+            (
+                "GET /v1/services/pay/acquire HTTP/1.1\r\n\r\n",
+                "HTTP/1.1 405 Method Not Allowed\r\nContent-Type: application/json\r\nContent-Length: 33\r\nAllow: POST\r\n\r\n{\"error\":57,\"name\":\"WrongMethod\"}",
+                Ended::Closed,
+            ),
+            (
+                "POST /v1/services//acquire HTTP/1.1\r\n\r\n",
+                "HTTP/1.1 404 Not Found\r\nContent-Type: application/json\r\nContent-Length: 29\r\n\r\n{\"error\":56,\"name\":\"NoRoute\"}",
+                Ended::Closed,
+            ),
+            (
+                "POST /v1/services/none/acquire HTTP/1.1\r\n\r\n",
+                "HTTP/1.1 404 Not Found\r\nContent-Type: application/json\r\nContent-Length: 31\r\n\r\n{\"error\":60,\"name\":\"NoService\"}",
+                Ended::Closed,
+            ),
+            (
+                "POST /v1/services/pay/release HTTP/1.1\r\nContent-Length: 1\r\n\r\n{",
+                "HTTP/1.1 400 Bad Request\r\nContent-Type: application/json\r\nContent-Length: 29\r\n\r\n{\"error\":58,\"name\":\"BadJson\"}",
+                Ended::Closed,
+            ),
+            (
+                "HEAD /v1/services/pay/state HTTP/1.1\r\n\r\n",
+                "HTTP/1.1 405 Method Not Allowed\r\nContent-Type: application/json\r\nContent-Length: 33\r\nAllow: GET\r\n\r\n",
+                Ended::Closed,
+            ),
+            (
+                "PUT /v1/services/pay/program HTTP/1.1\r\nTransfer-Encoding: chunked\r\nContent-Length: x\r\n\r\n",
+                "HTTP/1.1 501 Not Implemented\r\nContent-Type: application/json\r\nContent-Length: 36\r\nConnection: close\r\n\r\n{\"error\":55,\"name\":\"TransferCoding\"}",
+                Ended::Finished,
+            ),
+            (
+                "PUT /v1/services/pay/program HTTP/1.0\r\nContent-Length: 8\r\n\r\n\x00\x00\x00\x00\x00\x00\x00\x00",
+                "HTTP/1.1 422 Unprocessable Entity\r\nContent-Type: application/json\r\nContent-Length: 43\r\nConnection: close\r\n\r\n{\"error\":2,\"name\":\"UnknownOpcode\",\"slot\":0}",
+                Ended::Finished,
+            ),
+        ],
+    );
+}
+
+#[test]
+fn journals_are_paged(rt: HostRuntime) {
+    let alloc = rt.alloc();
+    let input = joined(&rt, alloc, &[ACQUIRE, JOURNAL]);
+    let text = joined(&rt, alloc, &[ACQUIRED, ONE_ENTRY]);
+    are_answered(&rt, alloc, &[(&input, &text, Ended::Closed)]);
+}
+
+#[test]
+fn programs_are_installed_whole(rt: HostRuntime) {
+    let alloc = rt.alloc();
+    let mut books = pay(&rt, alloc);
+    let cut = INSTALL.get(..INSTALL.len() - 1).expect(&rt, "a byte");
+    is_answered(&rt, alloc, &mut books, cut, "", Ended::Truncated);
+    let state = b"GET /v1/services/pay/state HTTP/1.1\r\n\r\n";
+    let (_, written) = served(&rt, alloc, &mut books, state);
+    is_true(&rt, written.ends_with(b"\"total\":0,\"version\":1}"));
+    is_answered(&rt, alloc, &mut books, INSTALL, INSTALLED, Ended::Closed);
+    same(&rt, version(&books), 2);
+}
+
+#[test]
+fn refused_calls_are_unavailable(rt: HostRuntime) {
+    let alloc = rt.alloc();
+    let mut books = pay(&rt, alloc);
+    let forced =
+        b"POST /v1/services/pay/transition HTTP/1.1\r\nContent-Length: 23\r\n\r\n{\"state\":\"FORCED_OPEN\"}";
+    let (ended, _) = served(&rt, alloc, &mut books, forced);
+    same(&rt, ended, Ended::Closed);
+    let text =
+        "HTTP/1.1 503 Service Unavailable\r\nContent-Type: application/json\r\nContent-Length: 38\r\n\r\n{\"error\":31,\"name\":\"CallNotPermitted\"}";
+    let input = ACQUIRE.as_bytes();
+    is_answered(&rt, alloc, &mut books, input, text, Ended::Closed);
+}
+
+#[test]
+fn journals_are_rolled(rt: HostRuntime) {
+    let alloc = rt.alloc();
+    let mut books = pay(&rt, alloc);
+    let roll = "POST /v1/services/pay/roll HTTP/1.1\r\nContent-Length: 8\r\n\r\n{\"to\":1}";
+    let input = joined(&rt, alloc, &[ACQUIRE, roll, roll, JOURNAL]);
+    let one =
+        "HTTP/1.1 200 OK\r\nContent-Type: application/json\r\nContent-Length: 13\r\n\r\n{\"entries\":1}";
+    let none =
+        "HTTP/1.1 200 OK\r\nContent-Type: application/json\r\nContent-Length: 13\r\n\r\n{\"entries\":0}";
+    let page =
+        "HTTP/1.1 200 OK\r\nContent-Type: application/json\r\nContent-Length: 23\r\n\r\n{\"entries\":[],\"next\":1}";
+    let text = joined(&rt, alloc, &[ACQUIRED, one, none, page]);
+    let input = input.as_bytes();
+    is_answered(&rt, alloc, &mut books, input, &text, Ended::Closed);
+    same(&rt, version(&books), 1);
+}
+
+const HALF_OPEN: &str =
+    "POST /v1/services/pay/transition HTTP/1.1\r\nContent-Length: 21\r\n\r\n{\"state\":\"HALF_OPEN\"}";
+
+const FIRST_REPORT: &str =
+    "POST /v1/services/pay/report HTTP/1.1\r\nContent-Length: 37\r\n\r\n{\"ticket\":1,\"outcome\":{\"status\":200}}";
+
+const SECOND_REPORT: &str =
+    "POST /v1/services/pay/report HTTP/1.1\r\nContent-Length: 37\r\n\r\n{\"ticket\":2,\"outcome\":{\"status\":200}}";
+
+const STATE: &str = "GET /v1/services/pay/state HTTP/1.1\r\n\r\n";
+
+/// A moment, a message, its status and the body of its answer.
+type At<'a> = (u64, &'a str, &'a str, &'a str);
+
+/// Messages are answered so, each at its moment, by a service of two calls in HALF_OPEN, which lasts half a second at most, and
+/// of a wait in OPEN of a second.
+fn are_answered_at(rt: &(impl Wait + Abort), alloc: Global, rows: &[At<'_>]) {
+    let mut parts = ConfigParts::DEFAULT;
+    parts.permitted_number_of_calls_in_half_open_state = 2;
+    parts.max_wait_duration_in_half_open_state = 500;
+    parts.wait_duration_in_open_state = 1_000;
+    let mut books = pay_with(rt, alloc, parts);
+    for row in rows {
+        is_answered_at(rt, alloc, &mut books, *row);
+    }
+}
+
+/// A message is answered so at its moment.
+fn is_answered_at(rt: &(impl Wait + Abort), alloc: Global, books: &mut Books, row: At<'_>) {
+    let (moment, input, status, body) = row;
+    let mut reader = Counted::new(input.as_bytes());
+    let mut writer = Counted::new(Vec::new(alloc));
+    let mut clock = StandsAt { moment };
+    let ended = serve(rt, alloc, &mut reader, &mut writer, books, &mut clock);
+    same(rt, ended, Ended::Closed);
+    let text = writer.inner().as_slice();
+    is_true_at(rt, text.starts_with(status.as_bytes()), text);
+    is_true_at(rt, text.ends_with(body.as_bytes()), text);
+}
+
+#[test]
+fn a_longest_stay_ends_with_the_next_message(rt: HostRuntime) {
+    are_answered_at(
+        &rt,
+        rt.alloc(),
+        &[
+            (
+                0,
+                HALF_OPEN,
+                "HTTP/1.1 200 OK",
+                "\r\n\r\n{\"period\":2,\"state\":\"HALF_OPEN\"}",
+            ),
+            (
+                0,
+                ACQUIRE,
+                "HTTP/1.1 200 OK",
+                "{\"state\":\"HALF_OPEN\",\"ticket\":1,\"version\":1}",
+            ),
+            (
+                499,
+                ACQUIRE,
+                "HTTP/1.1 200 OK",
+                "{\"state\":\"HALF_OPEN\",\"ticket\":2,\"version\":1}",
+            ),
+            (
+                499,
+                FIRST_REPORT,
+                "HTTP/1.1 200 OK",
+                "{\"fate\":\"recorded\",\"state\":\"HALF_OPEN\",\"steps\":6,\"verdict\":\"success\",\"version\":1}",
+            ),
+            (
+                600,
+                STATE,
+                "HTTP/1.1 200 OK",
+                "\"state\":\"HALF_OPEN\",\"total\":1,\"version\":1}",
+            ),
+            (
+                500,
+                SECOND_REPORT,
+                "HTTP/1.1 200 OK",
+                "{\"fate\":\"stale\",\"state\":\"OPEN\",\"steps\":6,\"verdict\":\"success\",\"version\":1}",
+            ),
+            (
+                1_499,
+                ACQUIRE,
+                "HTTP/1.1 503 ",
+                "{\"error\":31,\"name\":\"CallNotPermitted\"}",
+            ),
+            (
+                1_500,
+                ACQUIRE,
+                "HTTP/1.1 200 OK",
+                "{\"state\":\"HALF_OPEN\",\"ticket\":3,\"version\":1}",
+            ),
+            (
+                1_500,
+                STATE,
+                "HTTP/1.1 200 OK",
+                "{\"budget\":6,\"entries\":7,\"failed\":0,\"failureRate\":-1,\"free\":24,\"notPermitted\":0,\"open\":1,\"period\":4,\"slow\":0,\"slowRate\":-1,\"state\":\"HALF_OPEN\",\"total\":0,\"version\":1}",
+            ),
+        ],
+    );
+    are_answered_at(
+        &rt,
+        rt.alloc(),
+        &[
+            (
+                0,
+                HALF_OPEN,
+                "HTTP/1.1 200 OK",
+                "\r\n\r\n{\"period\":2,\"state\":\"HALF_OPEN\"}",
+            ),
+            (
+                500,
+                HALF_OPEN,
+                "HTTP/1.1 200 OK",
+                "\r\n\r\n{\"period\":4,\"state\":\"HALF_OPEN\"}",
+            ),
+        ],
+    );
+}

@@ -1,0 +1,193 @@
+//! What the tests of a desk share: a desk, callers with a seat of it, and how they ask.
+ghost use Rattle.std.specs.Prelude.{◌≡◌, map};
+ghost use Rattle.desk.specs.Services.{service_of};
+
+use crate::checks::same;
+use crate::wishes::{Wish, program, response, shared_program};
+use book::{Book, Config, ConfigParts, Reply};
+use desk::{Desk, Gate, Offered, Seat, Unclosed};
+use refusals::RefusalNumber;
+use std::alloc::Global;
+use std::marker::Brand;
+use std::process::Abort;
+use std::sync::Wait;
+use std::sync::ledger::{Blank, Ledger};
+use std::thread::Threads;
+use verifier::Verified;
+
+/// One seat, at its desk: what a thread takes along.
+#[derive(Drop)]
+pub(crate) struct Caller<'a, L: Ledger, M: Ledger + Offered> {
+    pub desk: &'a Desk<L, M>,
+    pub seat: Seat<L, M>,
+}
+
+/// Asks the service of a name; a report passes the gate.
+pub(crate) fn ask<L: Ledger, M: Ledger + Offered, R: Wait + Abort, G: Gate>(
+    rt: &R,
+    alloc: Global,
+    desk: &Desk<L, M>,
+    seat: &mut Seat<L, M>,
+    name: &str,
+    moment: u64,
+    wish: Wish,
+    gate: &G,
+) -> Reply {
+    let service = desk.find(name).expect(rt, "a service of the desk");
+    assert!(rt; seat.count() < 1_000_000);
+    match wish {
+        Wish::Acquire => desk.acquire(rt, seat, service, moment),
+        Wish::Report(ticket, status) => {
+            let outcome = response(rt, status);
+            desk.report(rt, seat, service, moment, ticket, outcome, gate)
+        }
+        Wish::Release(ticket) => desk.release(rt, seat, service, moment, ticket),
+        Wish::InstallIgnoring => {
+            desk.install(rt, seat, service, moment, shared_program(rt, alloc, true))
+        }
+        Wish::InstallDefault => {
+            desk.install(rt, seat, service, moment, shared_program(rt, alloc, false))
+        }
+        Wish::Move(state) => desk.move_to(rt, seat, service, moment, state),
+        Wish::Reset => desk.reset(rt, seat, service, moment),
+    }
+}
+
+/// What a test plays at a desk.
+pub(crate) trait Play {
+    fn play<
+        L: Ledger + Send + Sync,
+        M: Ledger + Offered + Send + Sync,
+        R: Threads + Wait + Abort + Sync,
+    >(&self, rt: &R, alloc: Global, desk: Desk<L, M>);
+}
+
+/// Plays at a new desk with services of these names, of one configuration, with the default classifier.
+pub(crate) fn play_at_a_desk<P: Play, R: Threads + Wait + Abort + Sync>(
+    rt: &R,
+    alloc: Global,
+    names: &[&str],
+    parts: ConfigParts,
+    play: &P,
+) {
+    play_at::<Brand, Brand, P, R>(
+        rt,
+        alloc,
+        Blank::new(193),
+        Blank::new(193),
+        services(rt, alloc, names, parts),
+        play,
+    );
+}
+
+/// A new desk with these services.
+pub(crate) fn open_desk<L: Ledger, M: Ledger + Offered, R: Abort>(
+    rt: &R,
+    alloc: Global,
+    entries: Blank,
+    cuts: Blank,
+    services: Vec<(String, Config, Verified)>,
+) -> Desk<L, M>
+    requires entries_name { entries.name ≡ L.name }
+    requires entries_parts { (entries.parts ≡ L.parts) × (L.parts ≡ 193) }
+    requires cuts_name { cuts.name ≡ M.name }
+    requires cuts_parts { (cuts.parts ≡ M.parts) × (M.parts ≡ 193) }
+    requires offered { M.services ≡ map service_of services.items }
+{
+    assert!(rt; services.len() <= 64);
+    Desk::<L, M>::open(alloc, entries, cuts, services).expect(rt, "ample memory")
+}
+
+/// Services of these names, of one configuration, with the default classifier.
+pub(crate) fn services(
+    rt: &impl Abort,
+    alloc: Global,
+    names: &[&str],
+    parts: ConfigParts,
+) -> Vec<(String, Config, Verified)> {
+    let mut services = Vec::new(alloc);
+    for name in names {
+        let service = service(rt, alloc, name, parts);
+        services.push(service).expect(rt, "ample memory");
+    }
+    services
+}
+
+/// A service of this name and configuration, with the default classifier.
+fn service(
+    rt: &impl Abort,
+    alloc: Global,
+    name: &str,
+    parts: ConfigParts,
+) -> (String, Config, Verified) {
+    let config = Config::new(parts).expect(rt, "parts in their ranges");
+    let name = String::from_str(alloc, name).expect(rt, "ample memory");
+    (name, config, program(rt, alloc, false))
+}
+
+/// Closes a desk, for which all its seats are given.
+pub(crate) fn close<L: Ledger, M: Ledger + Offered>(
+    rt: &impl Abort,
+    alloc: Global,
+    desk: Desk<L, M>,
+    seats: Vec<Seat<L, M>>,
+) -> Vec<Book> {
+    desk.close(alloc, seats)
+        .ok()
+        .expect(rt, "all seats are given")
+}
+
+/// Tries to close a desk for which a seat is missing.
+fn stays_open<L: Ledger, M: Ledger + Offered>(
+    rt: &impl Abort,
+    alloc: Global,
+    desk: Desk<L, M>,
+    seats: Vec<Seat<L, M>>,
+) -> Unclosed<L, M> {
+    desk.close(alloc, seats)
+        .err()
+        .expect(rt, "a seat is missing")
+}
+
+/// Closes a desk without the last of its four seats, which is refused, and then with it.
+pub(crate) fn close_late<L: Ledger, M: Ledger + Offered>(
+    rt: &impl Abort,
+    alloc: Global,
+    desk: Desk<L, M>,
+    seats: Vec<Seat<L, M>>,
+) -> Vec<Book> {
+    let mut seats = seats;
+    let last = seats.pop().expect(rt, "a last seat");
+    let Unclosed {
+        desk,
+        mut seats,
+        number,
+    } = stays_open(rt, alloc, desk, seats);
+    same(rt, number, RefusalNumber::SeatsMissing);
+    same(rt, seats.len(), 3);
+    seats.push(last).expect(rt, "ample memory");
+    close(rt, alloc, desk, seats)
+}
+
+fn play_at<
+    L: Ledger + Send + Sync,
+    M: Ledger + Offered + Send + Sync,
+    P: Play,
+    R: Threads + Wait + Abort + Sync,
+>(
+    rt: &R,
+    alloc: Global,
+    entries: Blank,
+    cuts: Blank,
+    services: Vec<(String, Config, Verified)>,
+    play: &P,
+)
+    requires entries_name { entries.name ≡ L.name }
+    requires entries_parts { (entries.parts ≡ L.parts) × (L.parts ≡ 193) }
+    requires cuts_name { cuts.name ≡ M.name }
+    requires cuts_parts { (cuts.parts ≡ M.parts) × (M.parts ≡ 193) }
+    requires offered { M.services ≡ map service_of services.items }
+{
+    let desk = open_desk::<L, M, R>(rt, alloc, entries, cuts, services);
+    play.play(rt, alloc, desk);
+}
