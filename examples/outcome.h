@@ -6,6 +6,16 @@
 
 #include <stdint.h>
 
+/* The layout of the record, 1 or 2: how much of the body's front the context has. Define it before the
+   file is included, and name the same layout where the classifier is verified and installed. */
+#ifndef OUTCOME_LAYOUT
+#define OUTCOME_LAYOUT 1
+#endif
+
+enum {
+    FRONT_BYTES = OUTCOME_LAYOUT == 2 ? 128 : 64,
+};
+
 enum verdict {
     VERDICT_SUCCESS = 0,
     VERDICT_FAILURE = 1,
@@ -33,7 +43,7 @@ enum method {
     METHOD_PATCH = 9,
 };
 
-/* The context: 128 bytes that are read only. A load has to be aligned to its size. */
+/* The context: 128 bytes in layout 1, 192 in layout 2, which are read only. A load has to be aligned to its size. */
 struct outcome {
     uint32_t kind;           /* offset 0: one of enum kind */
     uint32_t status;         /* offset 4: the status of a response */
@@ -46,12 +56,13 @@ struct outcome {
     uint64_t body_length;    /* offset 48: the length of the whole body, in bytes */
     uint64_t zero;           /* offset 56 */
     union {                  /* offset 64: the front of the body, filled up with zeros */
-        uint8_t bytes[64];
-        uint64_t words[8];   /* the lowest byte of a word stands first */
+        uint8_t bytes[FRONT_BYTES];
+        uint64_t words[FRONT_BYTES / 8]; /* the lowest byte of a word stands first */
     } body_front;
 };
 
-_Static_assert(sizeof(struct outcome) == 128, "the context has 128 bytes");
+_Static_assert(OUTCOME_LAYOUT == 1 || OUTCOME_LAYOUT == 2, "the layout is 1 or 2");
+_Static_assert(sizeof(struct outcome) == 64 + FRONT_BYTES, "the context ends with the body's front");
 _Static_assert(__builtin_offsetof(struct outcome, method) == 36, "the method is at 36");
 _Static_assert(__builtin_offsetof(struct outcome, body_front) == 64, "the body's front is at 64");
 
@@ -60,7 +71,7 @@ _Static_assert(__builtin_offsetof(struct outcome, body_front) == 64, "the body's
 /* The fact of an index from 0 to 15. */
 static uint64_t (*const fact)(uint64_t index) = (uint64_t (*)(uint64_t))1;
 
-/* The byte of the body's front at an index from 0 to 63. */
+/* The byte of the body's front at an index from 0 to 63 in layout 1, from 0 to 127 in layout 2. */
 static uint64_t (*const front_byte)(uint64_t index) = (uint64_t (*)(uint64_t))2;
 
 /* Writes the first bytes of the tag, 1 to 32, to a place on the stack, with zeros past the tag's end,

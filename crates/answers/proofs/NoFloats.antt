@@ -1,5 +1,6 @@
 -- No response has a float.
 use Rattle.std.proofs.Common.{◌≡◌, ℕ, List, [], ◌∷◌, map, false, Option, Some, None, refl}
+use Rattle.bpf_profile.specs.declared.layout.Layout.TheVariants as layout
 use Rattle.serde_json.specs.View.{items_of}
 use Rattle.serde_json.specs.Written.{has_float, items_have_float, members_have_float}
 use Rattle.service_profile.specs.declared.replies.Reply.{Reply}
@@ -17,7 +18,8 @@ reply_has_none (reply.Refused refused) = refl
 reply_has_none (reply.Permitted ticket version state) = refl
 reply_has_none (reply.Finished fate verdict steps version state) = refl
 reply_has_none (reply.Released state) = refl
-reply_has_none (reply.Installed version budget) = refl
+reply_has_none (reply.Installed version budget layout.One) = refl
+reply_has_none (reply.Installed version budget layout.Two) = refl
 reply_has_none (reply.Moved state period) = refl
 
 event_has_none : (event : EventData) → members_have_float (members_of (named event)) ≡ false

@@ -45,7 +45,7 @@ released_has s ticket =
 installed_has : (s : Situation) (program : VerifiedProgram) → has_status (installed s program).reply ≡ true
 installed_has s program =
     elim (nat_le most_versions (length s.programs - s.dropped))
-    as (λ b. has_status (cond b (refused s.standing refusal.VersionsFull) (record { reply = reply.Installed (s.first_version + length s.programs) program.budget; next = s.standing })).reply ≡ true)
+    as (λ b. has_status (cond b (refused s.standing refusal.VersionsFull) (record { reply = reply.Installed (s.first_version + length s.programs) program.budget program.layout; next = s.standing })).reply ≡ true)
     [ true ↦ refl | false ↦ refl ]
 
 decided_has : (s : Situation) (moment : ℕ) (event : EventData) → has_status (decided meant s moment event).reply ≡ true

@@ -1,5 +1,6 @@
 -- What services answer, as JSON values with their keys in ascending byte order, and the HTTP status of a reply (RFC 9110, section 15).
 use Rattle.std.specs.Prelude.{ℕ, List, [], ◌∷◌, Option, Some, None, negsuc, codes}
+use Rattle.bpf_profile.specs.declared.layout.Layout.TheVariants as layout
 use Rattle.serde_json.specs.Data.{Data, number, unsigned, negative, string, object, Members, no_members, member}
 use Rattle.refusals.specs.declared.RefusalNumber.{RefusalNumber}
 use Rattle.refusals.specs.Table.{number_of, name_of, status_of}
@@ -81,7 +82,8 @@ reply_data (reply.Finished fate verdict steps version state) = object_of (
     ∷ []
     )
 reply_data (reply.Released state) = object_of ((codes "fate", string (codes "released")) ∷ (codes "state", string (state_name state)) ∷ [])
-reply_data (reply.Installed version budget) = object_of ((codes "budget", count budget) ∷ (codes "version", count version) ∷ [])
+reply_data (reply.Installed version budget layout.One) = object_of ((codes "budget", count budget) ∷ (codes "version", count version) ∷ [])
+reply_data (reply.Installed version budget layout.Two) = object_of ((codes "budget", count budget) ∷ (codes "layout", count 2) ∷ (codes "version", count version) ∷ [])
 reply_data (reply.Moved state period) = object_of ((codes "period", count period) ∷ (codes "state", string (state_name state)) ∷ [])
 
 abbrev pub reading_data : Reading → Data

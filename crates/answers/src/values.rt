@@ -6,7 +6,7 @@ ghost use Rattle.answers.specs.Texts.{rate, refusal_data, program_refusal_data, 
 
 use crate::names::{fate_name, state_name};
 use book::{Fate, Reading, Reply, State};
-use bpf_profile::Verdict;
+use bpf_profile::{Layout, Verdict};
 use refusals::RefusalNumber;
 use serde_json::{Value, json};
 use std::alloc::{AllocError, Global};
@@ -75,10 +75,13 @@ fn released(alloc: Global, state: State) -> Result<Value, AllocError>
     json!(in alloc; {"fate": "released", "state": state})
 }
 
-fn installed(alloc: Global, version: u64, budget: u32) -> Result<Value, AllocError>
-    ensures { IfOk result (λ value. view value ≡ reply_data (replied.Installed version budget)) }
+fn installed(alloc: Global, version: u64, budget: u32, layout: Layout) -> Result<Value, AllocError>
+    ensures { IfOk result (λ value. view value ≡ reply_data (replied.Installed version budget layout)) }
 {
-    json!(in alloc; {"budget": budget, "version": version})
+    match layout {
+        Layout::One => json!(in alloc; {"budget": budget, "version": version}),
+        Layout::Two => json!(in alloc; {"budget": budget, "layout": 2, "version": version}),
+    }
 }
 
 fn moved(alloc: Global, state: State, period: u64) -> Result<Value, AllocError>
@@ -106,7 +109,11 @@ pub(crate) fn reply(alloc: Global, reply: Reply) -> Result<Value, AllocError>
             state,
         } => finished(alloc, fate, verdict, steps, version, state),
         Reply::Released { state } => released(alloc, state),
-        Reply::Installed { version, budget } => installed(alloc, version, budget),
+        Reply::Installed {
+            version,
+            budget,
+            layout,
+        } => installed(alloc, version, budget, layout),
         Reply::Moved { state, period } => moved(alloc, state, period),
     }
 }

@@ -73,7 +73,7 @@ pub extern "C" fn bench_exports_call(
     let Some(mut book) = opened(alloc, counts_seconds != 0, window_size) else {
         return 0;
     };
-    let Some(outcome) = Record::from_parts([0; 128], [0; 16], &[]) else {
+    let Some(outcome) = Record::from_parts([0; 192], [0; 16], &[]) else {
         return 0;
     };
     if !hold(&mut book, open_tickets) {

@@ -6,6 +6,7 @@ mod texts;
 mod verifying;
 
 use bpf_decode::Program;
+use bpf_profile::Layout;
 use bpf_run::{Verdict, run};
 use flow_check::check;
 use helpers::Record;
@@ -17,7 +18,7 @@ const RECORDS: u16 = 256;
 
 /// The record of a response with a status.
 fn response(status: u16) -> Option<Record> {
-    let mut context = [0u8; 128];
+    let mut context = [0u8; 192];
     let [low, high] = status.to_le_bytes();
     context[4] = low;
     context[5] = high;
@@ -142,7 +143,7 @@ pub extern "C" fn bench_exports_steps(alloc: Global, slots: u32, rounds: u32) ->
     let Ok(bytes) = computing(alloc, slots) else {
         return 0;
     };
-    let Ok(program) = verify(alloc, &bytes) else {
+    let Ok(program) = verify(alloc, &bytes, Layout::One) else {
         return 0;
     };
     let Some(outcome) = response(200) else {

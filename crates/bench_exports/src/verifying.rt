@@ -1,5 +1,6 @@
 //! Programs of three forms, and what verifying them takes.
 use crate::{BRANCH_BY_0, EXIT, MOVE, branching, computing};
+use bpf_profile::Layout;
 use std::alloc::{AllocError, Global};
 use verifier::{default_classifier, verify};
 
@@ -39,7 +40,7 @@ pub extern "C" fn bench_exports_verify(alloc: Global, form: u8, slots: u32, roun
     };
     let mut sum = 0u64;
     for _ in 0..rounds {
-        if let Ok(program) = verify(alloc, &bytes) {
+        if let Ok(program) = verify(alloc, &bytes, Layout::One) {
             sum = sum.wrapping_add(u64::from(program.budget()));
         }
     }

@@ -1,8 +1,8 @@
 -- A book with one line more.
-use Rattle.std.proofs.Common.{◌≡◌, ℕ, suc, ◌+◌, ◌-◌, ◌^◌, ◌≤◌, ◌<◌, ◌==◌, ◌&&◌, max, Bool, true, false, if◌then◌else◌, List, [], ◌∷◌, ◌++◌, length, Option, Some, None, Result, Ok, Err, arith, refl, ap, sym, ◌∙◌, subst, length-append}
+use Rattle.std.proofs.Common.{◌≡◌, ℕ, suc, ◌+◌, ◌-◌, ◌^◌, ◌≤◌, ◌<◌, max, Bool, true, false, if◌then◌else◌, List, [], ◌∷◌, ◌++◌, length, Option, Result, arith, refl, ap, sym, ◌∙◌, subst, length-append, rules}
 use Rattle.std.specs.Result.{is_err, OnOk, OnErr}
 use Rattle.std.specs.List.{filter_map, cons_option, fold}
-use Rattle.std.proofs.Math.Nat.{le-max_right, max-le}
+use Rattle.std.proofs.Math.Nat.{le-max_right}
 use Rattle.std.proofs.lemmas.List.Sums.{fold-append}
 use Rattle.service_profile.specs.declared.standings.Standing.{Standing}
 use Rattle.service_profile.specs.declared.configuration.ConfigParts.{ConfigParts}
@@ -12,14 +12,13 @@ use Rattle.book.specs.declared.service.Service.{Service}
 use Rattle.refusals.specs.declared.RefusalNumber.TheVariants as refusal
 use Rattle.service_profile.specs.declared.replies.Reply.TheVariants as reply
 use Rattle.service_profile.specs.Limits.{most_entries}
-use Rattle.service_profile.specs.Answers.{answer, line_of, with_line, IsApplied, as_documented, out_of_memory}
-use Rattle.service_profile.specs.Events.{EventData, EntryData, Rolled, History, Opening}
+use Rattle.service_profile.specs.Answers.{answer, line_of, with_line, IsApplied, as_documented}
+use Rattle.service_profile.specs.Events.{EventData, EntryData, Rolled, Opening, line}
 use Rattle.book.specs.Books.{IsBook, opening_of, journal, rolled_of}
 use Rattle.service_profile.specs.Machine.{is_refused_call, Situation, decision, is_entered}
 use Rattle.book.specs.Following.{followed, refused_after, situation_after}
-use Rattle.service_profile.specs.Histories.{Stage, Past, note_at, taken_in, install_by, situation_of, machine, opened, passed, past_of, greatest, raised, next_line, refused_of, Follows, AreLegal, IsLegal}
+use Rattle.service_profile.specs.Histories.{Stage, Past, install_by, situation_of, machine, opened, passed, past_of, greatest, raised, next_line, refused_of, Follows, AreLegal, IsLegal}
 use Rattle.book.specs.Safe.{IsSafeEvent}
-use Rattle.service_profile.specs.Events.{line}
 use Rattle.book.specs.declared.books.Start.{Start}
 use Rattle.book.specs.declared.plans.Effects.{Effects}
 use Rattle.book.specs.declared.plans.Plan.{Plan}
@@ -73,8 +72,7 @@ unfolding IsLegal
 legal_step opening lines rolled l legal follows = legal_with (opened rolled opening) lines l legal follows
 
 fewer_head : {B : Type 0} (o : Option B) (rest : List B) (n : ℕ) → length rest ≤ n → length (cons_option o rest) ≤ suc n
-fewer_head None rest n h = omega (arith, h)
-fewer_head (Some b) rest n h = omega (arith, h)
+fewer_head o rest n h = search rules
 
 fewer_mapped : {A B : Type 0} (f : A → Option B) (xs : List A) → length (filter_map f xs) ≤ length xs
 fewer_mapped f [] = omega arith
@@ -83,28 +81,10 @@ fewer_mapped f (x ∷ xs) = fewer_head (f x) (filter_map f xs) (length xs) (fewe
 -- ---- the situation that a book's parts stand for
 
 orderly_there : (opening : Opening) (service : Service) (moment : ℕ) (lines : List EntryData) (rolled : Rolled) → IsBook opening service moment lines rolled → IsOrderly (situation_of (past_of (journal opening lines rolled)))
-orderly_there opening service moment lines rolled book =
-    let past : Past = past_of (journal opening lines rolled) in
-    let few = book.sound.used in
-    let mapped = fewer_mapped (note_at past.opening.config) (taken_in past.standing.period past.stages) in
-    let taken = length_filter_le (λ (s : Stage). s.before.period == past.standing.period) past.stages in
-    record {
-      period = omega (arith, book.room.period, few);
-      periods = book.sound.ticket_periods;
-      notes = omega (arith, mapped, taken, few, book.room.line);
-      tickets = omega (arith, few);
-      next = omega (arith, book.room.ticket, few);
-      versions = omega (arith, few, book.room.version);
-    }
+orderly_there opening service moment lines rolled book = search (rules, fewer_mapped, length_filter_le)
 
 pub situated : (opening : Opening) (service : Service) (moment : ℕ) (lines : List EntryData) (rolled : Rolled) → IsBook opening service moment lines rolled → HasSituation service
-situated opening service moment lines rolled book =
-    record {
-      held = length lines - rolled.lines;
-      situation = situation_of (past_of (journal opening lines rolled));
-      stands = book.situated;
-      orderly = orderly_there opening service moment lines rolled book;
-    }
+situated opening service moment lines rolled book = search (rules, orderly_there)
 
 -- a raised moment is not before a note
 pub notes_there : (opening : Opening) (service : Service) (moment raw now : ℕ) (lines : List EntryData) (rolled : Rolled) → IsBook opening service moment lines rolled → now ≡ max raw moment → AreNotAfter now (situation_of (past_of (journal opening lines rolled))).notes
@@ -112,28 +92,18 @@ notes_there opening service moment raw now lines rolled book raised_ =
     let past : Past = past_of (journal opening lines rolled) in
     before_then (greatest past) now (situation_of past).notes (omega (arith, raised_, book.greatest_moment, le-max_right raw moment)) (notes_before past)
 
--- the effects of a decision change a situation as its line does
-pub followed_is : (s : Situation) (number seat moment : ℕ) (event : EventData) (d : Decision)
-    → followed s d.next (effects_of s.config moment event d) (install_by event d.reply) ≡ situation_after s (line number seat event moment d.reply) d.next
-followed_is s number seat moment event d = refl
-
 -- ---- whether there was memory
 
 pub where_ok : {A E P : Type 0} (r : Result A E) → is_err r ≡ false → OnOk r P → P
-where_ok (Ok a) e p = p
-where_ok (Err x) e p = let bad : ◌≡◌ {A = Bool} true false = e in cc
+where_ok r e p = search rules
 
 pub where_err : {A E P : Type 0} (r : Result A E) → is_err r ≡ true → OnErr r P → P
-where_err (Ok a) e p = let bad : ◌≡◌ {A = Bool} false true = e in cc
-where_err (Err x) e p = p
+where_err r e p = search rules
 
 -- ---- what is planned
 
 pub decided_so : (config : ConfigParts) (moment : ℕ) (event : EventData) (d : Decision) (plan : Plan) → plan ≡ planned config moment event d → plan.decision ≡ d
 decided_so config moment event d plan e = ap (λ (p : Plan). p.decision) e
-
-pub effects_so : (config : ConfigParts) (moment : ℕ) (event : EventData) (d : Decision) (plan : Plan) → plan ≡ planned config moment event d → plan.effects ≡ effects_of config moment event plan.decision
-effects_so config moment event d plan e = ap (λ (p : Plan). p.effects) e ∙ ap (effects_of config moment event) (sym (decided_so config moment event d plan e))
 
 -- ---- the book after a line
 
@@ -141,13 +111,7 @@ effects_so config moment event d plan e = ap (λ (p : Plan). p.effects) e ∙ ap
 pub follows_there : (opening : Opening) (service : Service) (moment : ℕ) (lines : List EntryData) (rolled : Rolled) (number seat raw now : ℕ) (e : Event) (d : Decision)
     → IsBook opening service moment lines rolled → number ≡ opening.line + length lines → now ≡ max raw moment → d ≡ decision (situation_of (past_of (journal opening lines rolled))) now (seen e) → is_entered d.reply ≡ true
     → Follows (past_of (journal opening lines rolled)) (line number seat (seen e) now d.reply)
-follows_there opening service moment lines rolled number seat raw now e d book numbered raised_ decided entered =
-    record {
-      numbered = numbered ∙ omega (arith, stage_count opening lines rolled, ap (λ (o : Opening). o.line) (same_opening opening lines rolled));
-      raises = omega (arith, raised_, book.greatest_moment, le-max_right raw moment);
-      replied = ap (λ (x : Decision). x.reply) decided;
-      entered = entered;
-    }
+follows_there opening service moment lines rolled number seat raw now e d book numbered raised_ decided entered = search (rules, stage_count, same_opening)
 
 pub book_step : (opening : Opening) (service after : Service) (moment : ℕ) (lines : List EntryData) (rolled : Rolled) (number seat raw now : ℕ) (e : Event) (d : Decision)
     → IsBook opening service moment lines rolled → number ≡ opening.line + length lines → now ≡ max raw moment → d ≡ decision (situation_of (past_of (journal opening lines rolled))) now (seen e) → is_entered d.reply ≡ true → now < 2 ^ 64 → seat < 2 ^ 32
@@ -178,22 +142,12 @@ book_step opening service after moment lines rolled number seat raw now e d book
 -- parts that stand for the same are those of the same book
 pub book_kept : (opening : Opening) (service after : Service) (moment : ℕ) (lines : List EntryData) (rolled : Rolled) → IsBook opening service moment lines rolled
     → ((held : ℕ) (s : Situation) → StandsFor service held s → StandsFor after held s) → after.refused ≡ service.refused → IsBook opening after moment lines rolled
-book_kept opening service after moment lines rolled book stands_ refused_ = record {
-  legal = book.legal;
-  sound = book.sound;
-  there = book.there;
-  room = book.room;
-  situated = stands_ (length lines - rolled.lines) (situation_of (past_of (journal opening lines rolled))) book.situated;
-  refused_calls = refused_ ∙ book.refused_calls;
-  greatest_moment = book.greatest_moment;
-}
+book_kept opening service after moment lines rolled book stands_ refused_ = search rules
 
 -- what a plan changes
 pub plan_effects : (opening : Opening) (service : Service) (moment : ℕ) (lines : List EntryData) (rolled : Rolled) (now : ℕ) (e : EventData) (plan : Plan) → IsBook opening service moment lines rolled
     → plan ≡ planned service.config now e (decision (situation_of (past_of (journal opening lines rolled))) now e) → plan.effects ≡ effects_of (situation_of (past_of (journal opening lines rolled))).config now e plan.decision
-plan_effects opening service moment lines rolled now e plan book planned_ =
-    let s : Situation = situation_of (past_of (journal opening lines rolled)) in
-    effects_so service.config now e (decision s now e) plan planned_ ∙ ap (λ (parts : ConfigParts). effects_of parts now e plan.decision) (sym book.situated.configured)
+plan_effects opening service moment lines rolled now e plan book planned_ = search rules
 
 pub plan_installs : (opening : Opening) (service : Service) (moment : ℕ) (lines : List EntryData) (rolled : Rolled) (now : ℕ) (e : EventData) (plan : Plan) → IsBook opening service moment lines rolled
     → plan ≡ planned service.config now e (decision (situation_of (past_of (journal opening lines rolled))) now e) → plan.effects.installs ≡ is_some (install_by e plan.decision.reply)
@@ -267,8 +221,7 @@ pub book_told : (config : ConfigParts) (start : Start) (service : Service) (mome
 book_told config start service moment lines rolled book = subst (λ (r : Rolled). IsBook (opening_of config start) service moment lines r) (rolled_is config start service moment lines rolled book) book
 
 chosen_true : {A : Type 0} (b : Bool) (x y : A) → b ≡ true → (if b then x else y) ≡ x
-chosen_true true x y e = refl
-chosen_true false x y e = let bad : ◌≡◌ {A = Bool} false true = e in cc
+chosen_true b x y e = search rules
 
 -- the history after is the documented one
 pub applied_there : (opening : Opening) (service : Service) (moment : ℕ) (lines : List EntryData) (rolled : Rolled) (number seat raw now : ℕ) (e : Event) (d : Decision)
@@ -286,47 +239,26 @@ applied_there opening service moment lines rolled number seat raw now e d book n
     (ap (λ (l : EntryData). journal opening (lines ++ l ∷ []) rolled) written
     ∙ sym (chosen_true (is_entered (answer (journal opening lines rolled) raw (seen e)).reply) (with_line (journal opening lines rolled) (line_of (journal opening lines rolled) seat raw (seen e))) (journal opening lines rolled) enters))
 
-chosen_false : {A : Type 0} (b : Bool) (x y : A) → b ≡ false → (if b then x else y) ≡ y
-chosen_false false x y e = refl
-chosen_false true x y e = let bad : ◌≡◌ {A = Bool} true false = e in cc
-
-documented : (opening : Opening) (service : Service) (moment : ℕ) (lines : List EntryData) (rolled : Rolled) (raw now : ℕ) (e : EventData) (d : Decision) → IsBook opening service moment lines rolled → now ≡ max raw moment
-    → d ≡ decision (situation_of (past_of (journal opening lines rolled))) now e → d ≡ answer (journal opening lines rolled) raw e
-documented opening service moment lines rolled raw now e d book raised_ decided =
-    decided ∙ ap (λ (m : ℕ). machine (past_of (journal opening lines rolled)) m e) (raised_ ∙ ap (λ (m : ℕ). max raw m) book.greatest_moment)
-
 -- a reply that isn't entered leaves the history
 pub unentered_there : (opening : Opening) (service : Service) (moment : ℕ) (lines : List EntryData) (rolled : Rolled) (seat raw now : ℕ) (e : EventData) (d : Decision) → IsBook opening service moment lines rolled → now ≡ max raw moment
     → d ≡ decision (situation_of (past_of (journal opening lines rolled))) now e → is_entered d.reply ≡ false → IsApplied (journal opening lines rolled) seat raw e d.reply (journal opening lines rolled)
-unentered_there opening service moment lines rolled seat raw now e d book raised_ decided none =
-    let history : History = journal opening lines rolled in
-    let same = documented opening service moment lines rolled raw now e d book raised_ decided in
-    let unentered : is_entered (answer history raw e).reply ≡ false = ap (λ (x : Decision). is_entered x.reply) (sym same) ∙ none in
-    as_documented (ap (λ (x : Decision). x.reply) same) (sym (chosen_false (is_entered (answer history raw e).reply) (with_line history (line_of history seat raw e)) history unentered))
+unentered_there opening service moment lines rolled seat raw now e d book raised_ decided none = search rules
 
 -- without memory the history stays, where a line would have come
 pub lacking_there : (opening : Opening) (service : Service) (moment : ℕ) (lines : List EntryData) (rolled : Rolled) (seat raw now : ℕ) (e : EventData) (d : Decision) → IsBook opening service moment lines rolled → now ≡ max raw moment
     → d ≡ decision (situation_of (past_of (journal opening lines rolled))) now e → is_entered d.reply ≡ true → IsApplied (journal opening lines rolled) seat raw e (reply.Refused refusal.ServiceOutOfMemory) (journal opening lines rolled)
-lacking_there opening service moment lines rolled seat raw now e d book raised_ decided entered =
-    let same = documented opening service moment lines rolled raw now e d book raised_ decided in
-    out_of_memory refl (ap (λ (x : Decision). is_entered x.reply) (sym same) ∙ entered) refl
+lacking_there opening service moment lines rolled seat raw now e d book raised_ decided entered = search rules
 
 -- ---- numbers that fit
 
 pub line_fits : (opening : Opening) (service : Service) (moment : ℕ) (lines : List EntryData) (rolled : Rolled) → IsBook opening service moment lines rolled → opening.line + length lines < 2 ^ 64
-line_fits opening service moment lines rolled book =
-    omega (arith, stage_count opening lines rolled, book.sound.used, book.room.line, ap (λ (o : Opening). o.line) (same_opening opening lines rolled))
+line_fits opening service moment lines rolled book = search (rules, stage_count, same_opening)
 
 pub refused_fits : (opening : Opening) (service : Service) (moment : ℕ) (lines : List EntryData) (rolled : Rolled) → IsBook opening service moment lines rolled → service.refused + 1 < 2 ^ 64
-refused_fits opening service moment lines rolled book =
-    let past : Past = past_of (journal opening lines rolled) in
-    let fewer = length_filter_le (λ (stage : Stage). (stage.after.period == past.standing.period) && is_refused_call stage.line.reply) past.stages in
-    omega (arith, book.refused_calls, fewer, book.sound.used, book.room.line)
+refused_fits opening service moment lines rolled book = search (rules, length_filter_le)
 
 pub held_fits : (opening : Opening) (service : Service) (moment : ℕ) (lines : List EntryData) (rolled : Rolled) → IsBook opening service moment lines rolled → length lines - rolled.lines ≤ most_entries
 held_fits opening service moment lines rolled book = omega (arith, stage_count opening lines rolled, same_lines opening lines rolled, book.sound.used)
 
 pub word_there : (opening : Opening) (service : Service) (moment : ℕ) (lines : List EntryData) (rolled : Rolled) (raw now : ℕ) → IsBook opening service moment lines rolled → raw < 2 ^ 64 → now ≡ max raw moment → now < 2 ^ 64
-word_there opening service moment lines rolled raw now book word is =
-    let bound : max raw moment ≤ 18446744073709551615 = max-le (omega (arith, word)) (omega (arith, book.greatest_moment, book.sound.moment)) in
-    omega (arith, is, bound)
+word_there opening service moment lines rolled raw now book word is = search rules

@@ -1,5 +1,5 @@
 -- The course of a list of steps: there is one in which nothing is refused for want of memory, and one alone for each choice of steps that are.
-use Rattle.std.proofs.Common.{◌≡◌, ℕ, Bool, true, false, if◌then◌else◌, List, [], ◌∷◌, map, slice_get, Option, Some, None, Result, Ok, Err, refl, ap, sym, ◌∙◌, subst}
+use Rattle.std.proofs.Common.{◌≡◌, ℕ, Bool, true, false, if◌then◌else◌, List, [], ◌∷◌, map, slice_get, Option, Some, None, Result, Ok, Err, refl, ap, sym, ◌∙◌, subst, rules}
 use Rattle.bpf_profile.specs.JudgedWork.{JudgedData}
 use Rattle.bpf_profile.specs.Programs.{VerifiedProgram}
 use Rattle.refusals.specs.declared.RefusalNumber.{RefusalNumber}
@@ -8,11 +8,11 @@ use Rattle.service_profile.specs.declared.decisions.Decision.{Decision}
 use Rattle.service_profile.specs.declared.replies.Reply.{Reply}
 use Rattle.service_profile.specs.declared.replies.Reply.TheVariants as reply
 use Rattle.service_profile.specs.declared.tickets.OpenTicket.{OpenTicket}
-use Rattle.service_profile.specs.Answers.{answer_by, with_line, IsAppliedBy, as_documented, out_of_memory, looked_up, looked_under, looked, IsLooked, looks, no_owner, reading, page_from, IsPage, copies, no_copy, is_worn_out, is_some_open, reopened, handed_out, after_cut, cut, IsCut, cuts, no_room, lines_up_to, roll, after_roll, IsRolled, rolls}
+use Rattle.service_profile.specs.Answers.{answer_by, with_line, IsAppliedBy, as_documented, looked_under, looked, IsLooked, looks, reading, page_from, IsPage, copies, is_worn_out, is_some_open, reopened, handed_out, after_cut, cut, IsCut, cuts, lines_up_to, roll, after_roll, IsRolled, rolls}
 use Rattle.service_profile.specs.Events.{EventData, acquires, finishes, releases, installs, moves, resets, EntryData, line, Opening, History}
 use Rattle.service_profile.specs.Histories.{past_of, situation_of, raised, next_line}
-use Rattle.service_profile.specs.Machine.{Situation, Judging, is_entered, is_issued, open_ticket, program_from}
-use Rattle.book.specs.Interleavings.{Hands, World, Step, acquire, look, judge, finish, release, install, move, reset, read, page, cut_off, roll_up_to, Given, replied, found, shown, handed, nothing, with_found, with_judged, IsFinish, IsTaken, Act, IsCourse, lacks_memory, HaveMemory}
+use Rattle.service_profile.specs.Machine.{Situation, Judging, is_entered, is_issued, open_ticket}
+use Rattle.book.specs.Interleavings.{World, Step, acquire, look, judge, finish, release, install, move, reset, read, page, cut_off, roll_up_to, Given, replied, found, shown, handed, nothing, with_found, with_judged, IsFinish, IsTaken, Act, IsCourse, lacks_memory, HaveMemory}
 use Rattle.book.proofs.Roomy.{decision_has_memory}
 
 -- ---- one step
@@ -63,84 +63,54 @@ turn judging w actor (roll_up_to last) = rolling w last (roll w.history last)
 -- ---- it is one that the clauses allow
 
 finish_taken : (judging : Judging) (w : World) (actor moment ticket : ℕ) (o : Option JudgedData) → IsFinish judging w actor moment ticket o (finishing judging w actor moment ticket o).given (finishing judging w actor moment ticket o).world
-finish_taken judging w actor moment ticket None = refl
-finish_taken judging w actor moment ticket (Some work) = (as_documented refl refl, refl)
+finish_taken judging w actor moment ticket o = search rules
 
 turn_taken : (judging : Judging) (w : World) (actor : ℕ) (step : Step) → IsTaken judging w actor step (turn judging w actor step).given (turn judging w actor step).world
-turn_taken judging w actor (acquire moment) = (as_documented refl refl, refl)
 turn_taken judging w actor (look ticket) = (looks refl, refl)
 turn_taken judging w actor (judge place outcome) = refl
 turn_taken judging w actor (finish moment place ticket) = finish_taken judging w actor moment ticket (slice_get (w.hands actor).works place)
-turn_taken judging w actor (release moment ticket) = (as_documented refl refl, refl)
-turn_taken judging w actor (install moment program) = (as_documented refl refl, refl)
-turn_taken judging w actor (move moment s) = (as_documented refl refl, refl)
-turn_taken judging w actor (reset moment) = (as_documented refl refl, refl)
 turn_taken judging w actor (read moment) = (refl, refl)
 turn_taken judging w actor (page from) = (copies refl, refl)
 turn_taken judging w actor cut_off = (cuts refl refl, refl)
 turn_taken judging w actor (roll_up_to last) = (rolls refl refl, refl)
+turn_taken judging w actor step = (as_documented refl refl, refl)
 
 -- ---- it isn't refused for want of memory
 
 finish_has_memory : (judging : Judging) (w : World) (actor moment ticket : ℕ) (o : Option JudgedData) → lacks_memory (finishing judging w actor moment ticket o).given ≡ false
-finish_has_memory judging w actor moment ticket None = refl
-finish_has_memory judging w actor moment ticket (Some work) = event_has_memory judging w.history moment (finishes work ticket)
-  where
-    event_has_memory : (judging : Judging) (history : History) (moment : ℕ) (event : EventData) → lacks_memory (replied (answer_by judging history moment event).reply) ≡ false
-    event_has_memory judging history moment event = decision_has_memory judging (situation_of (past_of history)) (raised (past_of history) moment) event
-
-looked_up_has_memory : (o : Option VerifiedProgram) → lacks_memory (found (looked_up o)) ≡ false
-looked_up_has_memory None = refl
-looked_up_has_memory (Some program) = refl
-
-looked_under_has_memory : (s : Situation) (o : Option OpenTicket) → lacks_memory (found (looked_under s o)) ≡ false
-looked_under_has_memory s None = refl
-looked_under_has_memory s (Some ticket) = looked_up_has_memory (program_from s.first_version s.programs ticket.version)
+finish_has_memory judging w actor moment ticket o = search (rules, decision_has_memory)
 
 looked_has_memory : (test : Bool) (s : Situation) (o : Option OpenTicket) → lacks_memory (found (if test then looked_under s o else Err refusal.NoTicket)) ≡ false
-looked_has_memory true s o = looked_under_has_memory s o
-looked_has_memory false s o = refl
+looked_has_memory test s o = search rules
 
 cut_has_memory : (worn some : Bool) (history : History) (opening : Opening) → lacks_memory (handed (handed_out history (if worn then Err refusal.JournalFull else (if some then Err refusal.TicketsOpen else Ok opening)))) ≡ false
-cut_has_memory true some history opening = refl
-cut_has_memory false true history opening = refl
-cut_has_memory false false history opening = refl
+cut_has_memory worn some history opening = search rules
 
 roll_has_memory : (worn : Bool) (lines : List EntryData) → lacks_memory (handed (if worn then Err refusal.JournalFull else Ok lines)) ≡ false
-roll_has_memory true lines = refl
-roll_has_memory false lines = refl
+roll_has_memory worn lines = search rules
 
 turn_has_memory : (judging : Judging) (w : World) (actor : ℕ) (step : Step) → lacks_memory (turn judging w actor step).given ≡ false
 turn_has_memory judging w actor (acquire moment) = decision_has_memory judging (situation_of (past_of w.history)) (raised (past_of w.history) moment) acquires
 turn_has_memory judging w actor (look ticket) =
     let s : Situation = situation_of (past_of w.history) in
     looked_has_memory (is_issued s ticket) s (open_ticket s.open_tickets ticket)
-turn_has_memory judging w actor (judge place outcome) = refl
 turn_has_memory judging w actor (finish moment place ticket) = finish_has_memory judging w actor moment ticket (slice_get (w.hands actor).works place)
 turn_has_memory judging w actor (release moment ticket) = decision_has_memory judging (situation_of (past_of w.history)) (raised (past_of w.history) moment) (releases ticket)
 turn_has_memory judging w actor (install moment program) = decision_has_memory judging (situation_of (past_of w.history)) (raised (past_of w.history) moment) (installs program)
 turn_has_memory judging w actor (move moment s) = decision_has_memory judging (situation_of (past_of w.history)) (raised (past_of w.history) moment) (moves s)
 turn_has_memory judging w actor (reset moment) = decision_has_memory judging (situation_of (past_of w.history)) (raised (past_of w.history) moment) resets
-turn_has_memory judging w actor (read moment) = refl
-turn_has_memory judging w actor (page from) = refl
 turn_has_memory judging w actor cut_off = cut_has_memory (is_worn_out (past_of w.history)) (is_some_open (situation_of (past_of w.history)).open_tickets) w.history (reopened (past_of w.history))
 turn_has_memory judging w actor (roll_up_to last) = roll_has_memory (is_worn_out (past_of w.history)) (lines_up_to w.history last)
+turn_has_memory judging w actor step = refl
 
 -- ---- it is the only one that isn't
-
-lacking : {A : Type 0} (given other : Given) → given ≡ other → lacks_memory other ≡ true → lacks_memory given ≡ false → A
-lacking given other same lacks enough = let bad : ◌≡◌ {A = Bool} true false = sym lacks ∙ ap lacks_memory (sym same) ∙ enough in cc
 
 abbrev IsOnly : Given → World → Turn → Type 0
 IsOnly given after t = (given ≡ t.given) × (after ≡ t.world)
 
-same_world : (after : World) (history : History) (hands : ℕ → Hands) → after.history ≡ history → after.hands ≡ hands → after ≡ record { history = history; hands = hands }
-same_world after history hands p q = λ i. record { history = p i; hands = q i }
-
 answered_only : (judging : Judging) (w : World) (actor moment : ℕ) (event : EventData) (r : Reply) (after : World) → IsAppliedBy judging w.history actor moment event r after.history → after.hands ≡ w.hands → lacks_memory (replied r) ≡ false
     → IsOnly (replied r) after (answering judging w actor moment event)
-answered_only judging w actor moment event r after (as_documented is leads) hands enough = (ap replied is, same_world after _ w.hands leads hands)
-answered_only judging w actor moment event r after (out_of_memory is entered stays) hands enough = lacking (replied r) (replied (reply.Refused refusal.ServiceOutOfMemory)) (ap replied is) refl enough
+answered_only judging w actor moment event r after a hands enough = search rules
 
 finish_only : (judging : Judging) (w : World) (actor moment ticket : ℕ) (o : Option JudgedData) (given : Given) (after : World) → IsFinish judging w actor moment ticket o given after → lacks_memory given ≡ false
     → IsOnly given after (finishing judging w actor moment ticket o)
@@ -150,23 +120,19 @@ finish_only judging w actor moment ticket o given after is enough = absurd is
 
 looked_only : (w : World) (actor ticket : ℕ) (result : Result VerifiedProgram RefusalNumber) (after : World) → IsLooked w.history ticket result → after ≡ with_found w actor result → lacks_memory (found result) ≡ false
     → IsOnly (found result) after (finding w actor (looked (situation_of (past_of w.history)) ticket))
-looked_only w actor ticket result after (looks is) leads enough = (ap found is, leads ∙ ap (with_found w actor) is)
-looked_only w actor ticket result after (no_owner program is there) leads enough = lacking (found result) (found (Err refusal.ServiceOutOfMemory)) (ap found is) refl enough
+looked_only w actor ticket result after a leads enough = search rules
 
 paged_only : (w : World) (from : ℕ) (result : Result (List EntryData) RefusalNumber) (after : World) → IsPage w.history from result → after ≡ w → lacks_memory (handed result) ≡ false
     → IsOnly (handed result) after (record { given = handed (Ok (page_from w.history from)); world = w })
-paged_only w from result after (copies is) stays enough = (ap handed is, stays)
-paged_only w from result after (no_copy some is) stays enough = lacking (handed result) (handed (Err refusal.ServiceOutOfMemory)) (ap handed is) refl enough
+paged_only w from result after a stays enough = search rules
 
 cut_only : (w : World) (result : Result (List EntryData) RefusalNumber) (after : World) → IsCut w.history result after.history → after.hands ≡ w.hands → lacks_memory (handed result) ≡ false
     → IsOnly (handed result) after (cutting w (cut (past_of w.history)))
-cut_only w result after (cuts is leads) hands enough = (ap handed is, same_world after _ w.hands leads hands)
-cut_only w result after (no_room opening there is stays) hands enough = lacking (handed result) (handed (Err refusal.ServiceOutOfMemory)) (ap handed is) refl enough
+cut_only w result after a hands enough = search rules
 
 roll_only : (w : World) (last : ℕ) (result : Result (List EntryData) RefusalNumber) (after : World) → IsRolled w.history last result after.history → after.hands ≡ w.hands → lacks_memory (handed result) ≡ false
     → IsOnly (handed result) after (rolling w last (roll w.history last))
-roll_only w last result after (rolls is leads) hands enough = (ap handed is, same_world after _ w.hands leads hands)
-roll_only w last result after (no_room lines there some is stays) hands enough = lacking (handed result) (handed (Err refusal.ServiceOutOfMemory)) (ap handed is) refl enough
+roll_only w last result after a hands enough = search rules
 
 turn_only : (judging : Judging) (w : World) (actor : ℕ) (step : Step) (given : Given) (after : World) → IsTaken judging w actor step given after → lacks_memory given ≡ false → IsOnly given after (turn judging w actor step)
 turn_only judging w actor (acquire moment) (replied r) after is enough = answered_only judging w actor moment acquires r after is.0 is.1 enough
@@ -197,9 +163,7 @@ having given other same enough lacks = let bad : ◌≡◌ {A = Bool} true false
 
 answered_lost : (judging : Judging) (w : World) (actor moment : ℕ) (event : EventData) (r : Reply) (after : World) → IsAppliedBy judging w.history actor moment event r after.history → after.hands ≡ w.hands → lacks_memory (replied r) ≡ true
     → IsOnly (replied r) after (record { given = replied (reply.Refused refusal.ServiceOutOfMemory); world = w })
-answered_lost judging w actor moment event r after (as_documented is leads) hands lacks =
-    having (replied r) (replied (answer_by judging w.history moment event).reply) (ap replied is) (decision_has_memory judging (situation_of (past_of w.history)) (raised (past_of w.history) moment) event) lacks
-answered_lost judging w actor moment event r after (out_of_memory is entered stays) hands lacks = (ap replied is, same_world after w.history w.hands stays hands)
+answered_lost judging w actor moment event r after a hands lacks = search rules
 
 finish_lost : (judging : Judging) (w : World) (actor moment ticket : ℕ) (o : Option JudgedData) (given : Given) (after : World) → IsFinish judging w actor moment ticket o given after → lacks_memory given ≡ true
     → IsOnly given after (record { given = replied (reply.Refused refusal.ServiceOutOfMemory); world = w })
@@ -209,28 +173,19 @@ finish_lost judging w actor moment ticket o given after is lacks = absurd is
 
 looked_lost : (w : World) (actor ticket : ℕ) (result : Result VerifiedProgram RefusalNumber) (after : World) → IsLooked w.history ticket result → after ≡ with_found w actor result → lacks_memory (found result) ≡ true
     → IsOnly (found result) after (record { given = found (Err refusal.ServiceOutOfMemory); world = w })
-looked_lost w actor ticket result after (looks is) leads lacks =
-    let s : Situation = situation_of (past_of w.history) in
-    having (found result) (found (looked s ticket)) (ap found is) (looked_has_memory (is_issued s ticket) s (open_ticket s.open_tickets ticket)) lacks
-looked_lost w actor ticket result after (no_owner program is there) leads lacks = (ap found is, leads ∙ ap (with_found w actor) is)
+looked_lost w actor ticket result after a leads lacks = search rules
 
 paged_lost : (w : World) (from : ℕ) (result : Result (List EntryData) RefusalNumber) (after : World) → IsPage w.history from result → after ≡ w → lacks_memory (handed result) ≡ true
     → IsOnly (handed result) after (record { given = handed (Err refusal.ServiceOutOfMemory); world = w })
-paged_lost w from result after (copies is) stays lacks = having (handed result) (handed (Ok (page_from w.history from))) (ap handed is) refl lacks
-paged_lost w from result after (no_copy some is) stays lacks = (ap handed is, stays)
+paged_lost w from result after a stays lacks = search rules
 
 cut_lost : (w : World) (result : Result (List EntryData) RefusalNumber) (after : World) → IsCut w.history result after.history → after.hands ≡ w.hands → lacks_memory (handed result) ≡ true
     → IsOnly (handed result) after (record { given = handed (Err refusal.ServiceOutOfMemory); world = w })
-cut_lost w result after (cuts is leads) hands lacks =
-    let past = past_of w.history in
-    having (handed result) (handed (handed_out w.history (cut past))) (ap handed is) (cut_has_memory (is_worn_out past) (is_some_open (situation_of past).open_tickets) w.history (reopened past)) lacks
-cut_lost w result after (no_room opening there is stays) hands lacks = (ap handed is, same_world after w.history w.hands stays hands)
+cut_lost w result after a hands lacks = search rules
 
 roll_lost : (w : World) (last : ℕ) (result : Result (List EntryData) RefusalNumber) (after : World) → IsRolled w.history last result after.history → after.hands ≡ w.hands → lacks_memory (handed result) ≡ true
     → IsOnly (handed result) after (record { given = handed (Err refusal.ServiceOutOfMemory); world = w })
-roll_lost w last result after (rolls is leads) hands lacks =
-    having (handed result) (handed (roll w.history last)) (ap handed is) (roll_has_memory (is_worn_out (past_of w.history)) (lines_up_to w.history last)) lacks
-roll_lost w last result after (no_room lines there some is stays) hands lacks = (ap handed is, same_world after w.history w.hands stays hands)
+roll_lost w last result after a hands lacks = search rules
 
 turn_lost : (judging : Judging) (w : World) (actor : ℕ) (step : Step) (given : Given) (after : World) → IsTaken judging w actor step given after → lacks_memory given ≡ true → IsOnly given after (losing w step)
 turn_lost judging w actor (acquire moment) (replied r) after is lacks = answered_lost judging w actor moment acquires r after is.0 is.1 lacks
@@ -303,10 +258,8 @@ course_only judging w acts given after is enough = absurd is
 pub course_settled : (judging : Judging) (w : World) (acts : List Act) (given other : List Given) (after end : World) → IsCourse judging w acts given after → IsCourse judging w acts other end → map lacks_memory given ≡ map lacks_memory other
     → (given ≡ other) × (after ≡ end)
 course_settled judging w [] [] [] after end is does alike = (refl, is ∙ sym does)
-course_settled judging w [] [] (one ∷ more) after end is does alike = absurd does
 course_settled judging w [] (one ∷ more) other after end is does alike = absurd is
 course_settled judging w (act ∷ acts) [] other after end is does alike = absurd is
-course_settled judging w (act ∷ acts) (one ∷ more) [] after end is does alike = absurd does
 course_settled judging w (act ∷ acts) (one ∷ more) (first ∷ rest) after end is does alike =
     let marks : ◌≡◌ {A = List Bool} (lacks_memory one ∷ map lacks_memory more) (lacks_memory first ∷ map lacks_memory rest) = alike in
     let mark : lacks_memory one ≡ lacks_memory first = cc in
@@ -314,3 +267,4 @@ course_settled judging w (act ∷ acts) (one ∷ more) (first ∷ rest) after en
     let step = turn_settled judging w act.actor act.step one first is.0 does.0 is.1 does.1 mark in
     let behind = course_settled judging is.0 acts more rest after end is.2 (subst (λ (v : World). IsCourse judging v acts rest end) (sym step.1) does.2) later in
     (λ i. step.0 i ∷ behind.0 i, behind.1)
+course_settled judging w acts given other after end is does alike = absurd does

@@ -1,5 +1,5 @@
 -- A book that is cut.
-use Rattle.std.proofs.Common.{◌≡◌, ℕ, zero, suc, ◌+◌, ◌-◌, ◌≤◌, ◌<◌, ◌||◌, Bool, true, false, List, [], ◌∷◌, map, length, slice_get, slice_index_or, Option, Some, Ok, Err, arith, refl, ap, sym, ◌∙◌}
+use Rattle.std.proofs.Common.{◌≡◌, ℕ, suc, ◌+◌, ◌-◌, ◌<◌, ◌||◌, Bool, true, false, List, [], ◌∷◌, length, slice_get, Option, Some, Ok, Err, arith, refl, ap, ◌∙◌, rules}
 use Rattle.std.specs.List.{filter_map}
 use Rattle.std.proofs.lemmas.Bool.{le-leb}
 use Rattle.bpf_profile.specs.Programs.{VerifiedProgram}
@@ -7,7 +7,7 @@ use Rattle.refusals.specs.declared.RefusalNumber.TheVariants as refusal
 use Rattle.service_profile.specs.declared.tickets.OpenTicket.{OpenTicket}
 use Rattle.service_profile.specs.Answers.{last_of, current_program, is_past_the_limit, is_worn_out, is_some_open, reopened, cut}
 use Rattle.service_profile.specs.Events.{EntryData, Opening, Rolled}
-use Rattle.service_profile.specs.Histories.{Past, past_of, situation_of, install_at, next_line}
+use Rattle.service_profile.specs.Histories.{Past, past_of, situation_of, install_at}
 use Rattle.service_profile.specs.Machine.{Situation, current_version, program_from}
 use Rattle.service_profile.specs.declared.configuration.ConfigParts.{ConfigParts}
 use Rattle.book.specs.Books.{IsBook, journal}
@@ -36,19 +36,6 @@ from_last first program programs =
     let place : version - first ≡ length programs = omega arith in
     rw (le-leb first version (omega arith), place) (last_place program programs)
 
-placed : {A : Type 0} (f : A → VerifiedProgram) (items : List A) (place : ℕ) (other : A) → place < length items → slice_get (map f items) place ≡ Some (f (slice_index_or items place other))
-placed f [] place other h = absurd (omega (arith, h))
-placed f (x ∷ items) zero other h = refl
-placed f (x ∷ items) (suc place) other h = placed f items place other (omega (arith, h))
-
--- the last of these programs is that of the last version
-pub last_held : {A : Type 0} (f : A → VerifiedProgram) (items : List A) (x other : A) (first : ℕ) → 1 ≤ length items → x ≡ slice_index_or items (length items - 1) other
-    → Some (f x) ≡ program_from first (map f items) (first + (length items - 1))
-last_held f items x other first some is =
-    let version : ℕ = first + (length items - 1) in
-    let place : version - first ≡ length items - 1 = omega (arith, some) in
-    rw (is, le-leb first version (omega arith), place) (sym (placed f items (length items - 1) other (omega (arith, some))))
-
 -- the program of the version of new tickets is theirs
 pub current_is : (past : Past) (program : VerifiedProgram) → Some program ≡ program_from (situation_of past).first_version (situation_of past).programs (current_version (situation_of past)) → program ≡ current_program past
 current_is past program e =
@@ -70,11 +57,7 @@ reopened_by s program line moment = record {
 
 pub reopened_is : (opening : Opening) (service : Service) (moment : ℕ) (lines : List EntryData) (rolled : Rolled) (program : VerifiedProgram) → IsBook opening service moment lines rolled → program ≡ current_program (past_of (journal opening lines rolled))
     → reopened_by (situation_of (past_of (journal opening lines rolled))) program (opening.line + length lines) moment ≡ reopened (past_of (journal opening lines rolled))
-reopened_is opening service moment lines rolled program book current =
-    let past : Past = past_of (journal opening lines rolled) in
-    ap (λ (p : VerifiedProgram). reopened_by (situation_of past) p (opening.line + length lines) moment) current
-    ∙ ap (λ (n : ℕ). reopened_by (situation_of past) (current_program past) n moment) (next_line_is opening lines rolled)
-    ∙ ap (λ (n : ℕ). reopened_by (situation_of past) (current_program past) (next_line past) n) book.greatest_moment
+reopened_is opening service moment lines rolled program book current = search (rules, next_line_is)
 
 -- the opening as the code makes it
 pub made_so : (s : Situation) (config : ConfigParts) (program : VerifiedProgram) (version period ticket line here moment : ℕ) → s.config ≡ config → version ≡ current_version s → period ≡ suc s.standing.period → ticket ≡ s.next_ticket → line ≡ here
@@ -87,15 +70,13 @@ reopens_well opening service moment lines rolled book fresh = reopened_opening (
 -- ---- a cut that is not refused
 
 pub none_open : (tickets : List OpenTicket) → length tickets ≡ 0 → is_some_open tickets ≡ false
-none_open [] e = refl
-none_open (t ∷ tickets) e = absurd (omega (arith, e))
+none_open tickets e = search rules
 
 pub cut_there : (past : Past) → is_worn_out past ≡ false → is_some_open (situation_of past).open_tickets ≡ false → cut past ≡ Ok (reopened past)
 cut_there past fresh closed = rw (fresh, closed) refl
 
 pub some_open : (tickets : List OpenTicket) → 0 < length tickets → is_some_open tickets ≡ true
-some_open [] less = absurd (omega (arith, less))
-some_open (t ∷ tickets) less = refl
+some_open tickets less = search rules
 
 pub cut_refused : (past : Past) → is_worn_out past ≡ false → is_some_open (situation_of past).open_tickets ≡ true → cut past ≡ Err refusal.TicketsOpen
 cut_refused past fresh there = rw (fresh, there) refl

@@ -1,9 +1,8 @@
 -- What the machine's replies can be, and where the breaker stands then.
-use Rattle.std.proofs.Common.{◌≡◌, ℕ, suc, ◌+◌, ◌-◌, ◌≤◌, ◌<◌, ◌⊎◌, inl, inr, ◌==◌, nat_le, nat_lt, ◌&&◌, ◌||◌, not, Bool, true, false, if◌then◌else◌, List, [], ◌∷◌, length, Option, Some, None, arith, refl, ap, sym, ◌∙◌}
-use Rattle.std.proofs.lemmas.Bool.{ltb-false, ltb-true, leb-false}
-use Rattle.std.proofs.lemmas.Bool.Decides.{Decides-eqb}
+use Rattle.std.proofs.Common.{◌≡◌, ℕ, suc, ◌+◌, ◌-◌, ◌≤◌, ◌<◌, ◌==◌, nat_le, nat_lt, ◌&&◌, not, Bool, true, false, if◌then◌else◌, List, [], ◌∷◌, length, Option, Some, None, arith, refl, sym, ◌∙◌, rules}
+use Rattle.std.proofs.lemmas.Bool.{ltb-false, leb-false}
+use Rattle.bpf_profile.specs.declared.layout.Layout.{Layout}
 use Rattle.bpf_profile.specs.declared.machine.Verdict.{Verdict}
-use Rattle.bpf_profile.specs.declared.machine.Verdict.TheVariants as verdict
 use Rattle.bpf_profile.specs.JudgedWork.{JudgedData}
 use Rattle.refusals.specs.declared.RefusalNumber.{RefusalNumber}
 use Rattle.refusals.specs.declared.RefusalNumber.TheVariants as refusal
@@ -20,12 +19,10 @@ use Rattle.service_profile.specs.declared.replies.Reply.TheVariants as reply
 use Rattle.service_profile.specs.declared.states.State.{State}
 use Rattle.service_profile.specs.declared.states.State.TheVariants as state
 use Rattle.service_profile.specs.declared.notes.Note.{Note}
-use Rattle.service_profile.specs.declared.notes.Totals.{Totals}
 use Rattle.service_profile.specs.Limits.{most_versions, most_entries}
 use Rattle.service_profile.specs.Events.{EventData, acquires, finishes, releases, installs, moves, resets}
-use Rattle.service_profile.specs.Machine.{Situation, refused, in_state, overstays, at_moment, permissions_held, half_open_permission, permission_in, placed, admitted, acquired, current_version, open_ticket, is_open, is_issued, program_from, same_program, is_ignored, fate_of, next_by, concluded, finished_by, finished_under, finished, released_under, released, installed, decided, used, is_full, decision, is_entered_refusal, meant, decision_by}
-use Rattle.service_profile.specs.Rates.{after_totals, either_reaches, minimum}
-use Rattle.service_profile.specs.Standings.{moved, is_half_open, is_disabled}
+use Rattle.service_profile.specs.Machine.{Situation, refused, in_state, overstays, at_moment, permissions_held, permission_in, placed, acquired, current_version, open_ticket, is_open, is_issued, program_from, same_program, is_ignored, fate_of, next_by, concluded, finished_by, finished_under, finished, released_under, released, installed, decided, used, is_full, decision, is_entered_refusal, meant, decision_by}
+use Rattle.service_profile.specs.Standings.{is_half_open, is_disabled}
 use Rattle.service_profile.specs.Verdicts.{judgement}
 
 -- ---- where the breaker stands: just as before, or some periods later
@@ -35,111 +32,26 @@ pub record IsNear (before after : Standing) (steps : ℕ) : Type 0 where
   pub most : after.period ≤ before.period + steps
   pub same : after.period ≡ before.period → after ≡ before
 
-near_none : (standing : Standing) (steps : ℕ) → IsNear standing standing steps
-near_none standing steps = record { least = omega arith; most = omega arith; same = λ e. refl }
-
-near_one : (s : State) (moment : ℕ) (standing : Standing) → IsNear standing (moved s moment standing) 1
-near_one s moment standing = record { least = omega arith; most = omega arith; same = λ e. absurd (omega (arith, e)) }
-
-by_test : (test : Bool) (standing a b : Standing) → IsNear standing a 1 → IsNear standing b 1 → IsNear standing (if test then a else b) 1
-by_test true standing a b p q = p
-by_test false standing a b p q = q
-
-after_totals_near : (config : ConfigParts) (moment : ℕ) (standing : Standing) (s : State) (totals : Totals) → IsNear standing (after_totals config moment standing s totals) 1
-after_totals_near config moment standing state.Closed totals =
-    by_test (nat_le (minimum config state.Closed) totals.total && either_reaches config totals) standing (moved state.Open moment standing) standing (near_one state.Open moment standing) (near_none standing 1)
-after_totals_near config moment standing state.HalfOpen totals =
-    by_test (nat_le (minimum config state.HalfOpen) totals.total) standing (if either_reaches config totals then moved state.Open moment standing else moved state.Closed moment standing) standing
-    (by_test (either_reaches config totals) standing (moved state.Open moment standing) (moved state.Closed moment standing) (near_one state.Open moment standing) (near_one state.Closed moment standing))
-    (near_none standing 1)
-after_totals_near config moment standing state.Open totals = near_none standing 1
-after_totals_near config moment standing state.Disabled totals = near_none standing 1
-after_totals_near config moment standing state.MetricsOnly totals = near_none standing 1
-after_totals_near config moment standing state.ForcedOpen totals = near_none standing 1
-
 next_by_near : (f : Fate) (config : ConfigParts) (moment : ℕ) (standing : Standing) (notes : List Note) (note : Note) → IsNear standing (next_by f config moment standing notes note) 1
-next_by_near fate.Recorded config moment standing notes note = after_totals_near config moment standing standing.state _
-next_by_near fate.Ignored config moment standing notes note = near_none standing 1
-next_by_near fate.Off config moment standing notes note = near_none standing 1
-next_by_near fate.Stale config moment standing notes note = near_none standing 1
+next_by_near f config moment standing notes note = search rules
 
 abbrev DecidesNear : Standing → Decision → Type 0
 DecidesNear standing d = IsNear standing d.next 1
 
-either_near : (test : Bool) (standing : Standing) (a b : Decision) → DecidesNear standing a → DecidesNear standing b → DecidesNear standing (if test then a else b)
-either_near true standing a b p q = p
-either_near false standing a b p q = q
-
-open_permission_near : (test : Bool) (standing : Standing) (a b : Permission) → IsNear standing a.standing 1 → IsNear standing b.standing 1 → IsNear standing (if test then a else b).standing 1
-open_permission_near true standing a b p q = p
-open_permission_near false standing a b p q = q
-
-permission_near : (s : State) (config : ConfigParts) (standing : Standing) (noted held : ℕ) (moment : ℕ) → IsNear standing (permission_in s config standing noted held moment).standing 1
-permission_near state.Closed config standing noted held moment = near_none standing 1
-permission_near state.MetricsOnly config standing noted held moment = near_none standing 1
-permission_near state.Disabled config standing noted held moment = near_none standing 1
-permission_near state.ForcedOpen config standing noted held moment = near_none standing 1
-permission_near state.Open config standing noted held moment =
-    open_permission_near (nat_le config.wait_duration_in_open_state (moment - standing.since)) standing
-    (half_open_permission config (moved state.HalfOpen moment standing) 0 0) (record { given = false; standing = standing })
-    (near_one state.HalfOpen moment standing) (near_none standing 1)
-permission_near state.HalfOpen config standing noted held moment = near_none standing 1
-
-placed_near : (s : Situation) (before : Standing) (standing : Standing) → IsNear before standing 1 → DecidesNear before (placed s standing)
-placed_near s before standing near =
-    either_near (nat_le s.config.max_concurrent_calls (length s.open_tickets)) before
-    (refused standing refusal.BulkheadFull)
-    (record { reply = reply.Permitted s.next_ticket (current_version s) standing.state; next = standing })
-    near near
-
-admitted_near : (s : Situation) (before : Standing) (permission : Permission) → IsNear before permission.standing 1 → DecidesNear before (admitted s permission)
-admitted_near s before permission near =
-    either_near permission.given before (placed s permission.standing) (refused permission.standing refusal.CallNotPermitted)
-    (placed_near s before permission.standing near) near
-
-acquired_near : (s : Situation) (moment : ℕ) → DecidesNear s.standing (acquired s moment)
-acquired_near s moment = admitted_near s s.standing _ (permission_near s.standing.state s.config s.standing (length s.notes) (permissions_held s.standing.period s.open_tickets) moment)
-
 finished_by_near : (s : Situation) (moment : ℕ) (ticket : OpenTicket) (work : JudgedData) (program : Option VerifiedProgram) → DecidesNear s.standing (finished_by meant s moment ticket work program)
-finished_by_near s moment ticket work None = near_none s.standing 1
-finished_by_near s moment ticket work (Some program) =
-    either_near (same_program work.program program) s.standing (concluded s moment ticket work.outcome (judgement program work.outcome)) (refused s.standing refusal.Stranger)
-    (next_by_near (fate_of s.standing ticket.period (judgement program work.outcome).verdict) s.config moment s.standing s.notes _)
-    (near_none s.standing 1)
+finished_by_near s moment ticket work program = search (rules, next_by_near)
 
 finished_under_near : (s : Situation) (moment : ℕ) (work : JudgedData) (ticket : Option OpenTicket) → DecidesNear s.standing (finished_under meant s moment work ticket)
-finished_under_near s moment work None = near_none s.standing 1
-finished_under_near s moment work (Some ticket) = finished_by_near s moment ticket work (program_from s.first_version s.programs ticket.version)
-
-released_under_near : (s : Situation) (ticket : Option OpenTicket) → DecidesNear s.standing (released_under s ticket)
-released_under_near s None = near_none s.standing 1
-released_under_near s (Some ticket) = near_none s.standing 1
+finished_under_near s moment work ticket = search (rules, finished_by_near)
 
 decided_near : (s : Situation) (moment : ℕ) (event : EventData) → DecidesNear s.standing (decided meant s moment event)
-decided_near s moment acquires = acquired_near s moment
-decided_near s moment (finishes work ticket) =
-    either_near (is_issued s ticket) s.standing (finished_under meant s moment work (open_ticket s.open_tickets ticket)) (refused s.standing refusal.NoTicket)
-    (finished_under_near s moment work (open_ticket s.open_tickets ticket)) (near_none s.standing 1)
-decided_near s moment (releases ticket) =
-    either_near (is_issued s ticket) s.standing (released_under s (open_ticket s.open_tickets ticket)) (refused s.standing refusal.NoTicket)
-    (released_under_near s (open_ticket s.open_tickets ticket)) (near_none s.standing 1)
-decided_near s moment (installs program) =
-    either_near (nat_le most_versions (length s.programs - s.dropped)) s.standing (refused s.standing refusal.VersionsFull) (record { reply = reply.Installed (s.first_version + length s.programs) program.budget; next = s.standing })
-    (near_none s.standing 1) (near_none s.standing 1)
-decided_near s moment (moves to) = near_one to moment s.standing
-decided_near s moment resets = near_one state.Closed moment s.standing
+decided_near s moment event = search (rules, finished_under_near)
 
 at_moment_near : (test : Bool) (s : Situation) (moment : ℕ) (event : EventData) → IsNear s.standing (decided meant (if test then in_state state.Open moment s else s) moment event).next 2
-at_moment_near true s moment event =
-    let near = decided_near (in_state state.Open moment s) moment event in
-    record { least = omega (arith, near.least); most = omega (arith, near.most); same = λ e. absurd (omega (arith, e, near.least)) }
-at_moment_near false s moment event =
-    let near = decided_near s moment event in
-    record { least = omega (arith, near.least); most = omega (arith, near.most); same = near.same }
+at_moment_near test s moment event = search (rules, decided_near)
 
 full_near : (test : Bool) (s : Situation) (moment : ℕ) (event : EventData) → IsNear s.standing (if test then refused s.standing refusal.JournalFull else decided meant (at_moment s moment) moment event).next 2
-full_near true s moment event = near_none s.standing 2
-full_near false s moment event = at_moment_near (overstays s moment) s moment event
+full_near test s moment event = search (rules, at_moment_near)
 
 pub decision_near : (s : Situation) (moment : ℕ) (event : EventData) → IsNear s.standing (decision s moment event).next 2
 unfolding decision_by
@@ -175,7 +87,7 @@ pub data Shape (s : Situation) (event : EventData) (d : Decision) : Type 0 where
   permits : (version : ℕ) (st : State) → event ≡ acquires → d.reply ≡ reply.Permitted s.next_ticket version st → version ≡ current_version s → used s ≤ (most_entries - 2) → length s.open_tickets < s.config.max_concurrent_calls → HasPermission s d.next → Shape s event d
   concludes : (work : JudgedData) (ticket : ℕ) (f : Fate) (v : Verdict) (steps version : ℕ) (st : State) → event ≡ finishes work ticket → d.reply ≡ reply.Finished f v steps version st → is_open s.open_tickets ticket ≡ true → IsPresent s d.next ticket f → IsCounted f v → IsByVersion s work ticket v steps version → Shape s event d
   lets_go : (ticket : ℕ) (st : State) → event ≡ releases ticket → d.reply ≡ reply.Released st → is_open s.open_tickets ticket ≡ true → Shape s event d
-  takes_in : (program : VerifiedProgram) (version budget : ℕ) → event ≡ installs program → d.reply ≡ reply.Installed version budget → length s.programs - s.dropped < most_versions → used s ≤ (most_entries - 1) → Shape s event d
+  takes_in : (program : VerifiedProgram) (version budget : ℕ) (layout : Layout) → event ≡ installs program → d.reply ≡ reply.Installed version budget layout → length s.programs - s.dropped < most_versions → used s ≤ (most_entries - 1) → Shape s event d
   turns : (st : State) (period : ℕ) → d.reply ≡ reply.Moved st period → used s ≤ (most_entries - 1) → Shape s event d
 
 either_shape : (test : Bool) (s : Situation) (event : EventData) (a b : Decision) → (test ≡ true → Shape s event a) → (test ≡ false → Shape s event b) → Shape s event (if test then a else b)
@@ -186,22 +98,9 @@ either_shape false s event a b p q = q refl
 refused_shape : (s : Situation) (event : EventData) (standing : Standing) (number : RefusalNumber) → used s ≤ (most_entries - 1) → Shape s event (refused standing number)
 refused_shape s event standing number room = refuses number refl (λ e. room)
 
-not_half_open : (s : Situation) (next : Standing) → is_half_open next.state ≡ false → HasPermission s next
-not_half_open s next none = λ h e. let bad : ◌≡◌ {A = Bool} true false = sym h ∙ none in cc
-
-open_given : (s : Situation) (moment : ℕ) (test : Bool) → (if test then half_open_permission s.config (moved state.HalfOpen moment s.standing) 0 0 else record { given = false; standing = s.standing }).given ≡ true
-    → HasPermission s (if test then half_open_permission s.config (moved state.HalfOpen moment s.standing) 0 0 else record { given = false; standing = s.standing }).standing
-open_given s moment true g = λ h e. absurd (omega (arith, e))
-open_given s moment false g = let bad : ◌≡◌ {A = Bool} false true = g in cc
-
 permission_given : (s : Situation) (moment : ℕ) (st : State) → s.standing.state ≡ st → (permission_in st s.config s.standing (length s.notes) (permissions_held s.standing.period s.open_tickets) moment).given ≡ true
     → HasPermission s (permission_in st s.config s.standing (length s.notes) (permissions_held s.standing.period s.open_tickets) moment).standing
-permission_given s moment state.Closed e g = not_half_open s s.standing (ap is_half_open e)
-permission_given s moment state.MetricsOnly e g = not_half_open s s.standing (ap is_half_open e)
-permission_given s moment state.Disabled e g = not_half_open s s.standing (ap is_half_open e)
-permission_given s moment state.ForcedOpen e g = let bad : ◌≡◌ {A = Bool} false true = g in cc
-permission_given s moment state.Open e g = open_given s moment (nat_le s.config.wait_duration_in_open_state (moment - s.standing.since)) g
-permission_given s moment state.HalfOpen e g = λ h same. ltb-true _ _ g
+permission_given s moment st e g = search rules
 
 acquired_shape : (s : Situation) (moment : ℕ) → used s ≤ (most_entries - 2) → Shape s acquires (acquired s moment)
 acquired_shape s moment room =
@@ -214,28 +113,18 @@ acquired_shape s moment room =
     (λ f. permits (current_version s) permission.standing.state refl refl refl room (leb-false s.config.max_concurrent_calls (length s.open_tickets) f) (permission_given s moment s.standing.state refl g)))
     (λ g. refused_shape s acquires permission.standing refusal.CallNotPermitted (omega arith))
 
-found_head : (t ticket : OpenTicket) (b rest : Bool) (later : Option OpenTicket) → (later ≡ Some ticket → rest ≡ true) → (if b then Some t else later) ≡ Some ticket → (b || rest) ≡ true
-found_head t ticket true rest later on h = refl
-found_head t ticket false rest later on h = on h
-
 -- a ticket that is found is open
 pub found_open : (tickets : List OpenTicket) (number : ℕ) (ticket : OpenTicket) → open_ticket tickets number ≡ Some ticket → is_open tickets number ≡ true
 found_open [] number ticket e = let bad : ◌≡◌ {A = Option OpenTicket} None (Some ticket) = e in cc
-found_open (t ∷ tickets) number ticket e = found_head t ticket (t.number == number) (is_open tickets number) (open_ticket tickets number) (found_open tickets number ticket) e
-
-lost_head : (t : OpenTicket) (b rest : Bool) (later : Option OpenTicket) → (later ≡ None → rest ≡ false) → (if b then Some t else later) ≡ None → (b || rest) ≡ false
-lost_head t true rest later on h = let bad : ◌≡◌ {A = Option OpenTicket} (Some t) None = h in cc
-lost_head t false rest later on h = on h
+found_open (t ∷ tickets) number ticket e = search (rules, found_open tickets number ticket)
 
 -- a ticket that is not found is not open
 pub lost_closed : (tickets : List OpenTicket) (number : ℕ) → open_ticket tickets number ≡ None → is_open tickets number ≡ false
 lost_closed [] number e = refl
-lost_closed (t ∷ tickets) number e = lost_head t (t.number == number) (is_open tickets number) (open_ticket tickets number) (lost_closed tickets number) e
+lost_closed (t ∷ tickets) number e = search (rules, lost_closed tickets number)
 
 both_false : (o b : Bool) → o ≡ false → (b && not o) ≡ false → b ≡ false
-both_false false true h e = let bad : ◌≡◌ {A = Bool} true false = e in cc
-both_false false false h e = refl
-both_false true b h e = let bad : ◌≡◌ {A = Bool} true false = h in cc
+both_false o b h e = search rules
 
 -- the room that an event has whose ticket isn't open, where the journal isn't full
 closed_room : (s : Situation) (ticket : ℕ) → (nat_lt (most_entries - 1) (used s) && not (is_open s.open_tickets ticket)) ≡ false → is_open s.open_tickets ticket ≡ false → used s ≤ (most_entries - 1)
@@ -250,29 +139,13 @@ OpenAreIssued s = (number : ℕ) → is_open s.open_tickets number ≡ true → 
 
 -- a number that wasn't issued isn't open
 unissued_closed : (s : Situation) (number : ℕ) → OpenAreIssued s → is_issued s number ≡ false → is_open s.open_tickets number ≡ false
-unissued_closed s number issued none = by_open (is_open s.open_tickets number) refl
-  where
-    by_open : (b : Bool) → is_open s.open_tickets number ≡ b → b ≡ false
-    by_open true h = let bad : ◌≡◌ {A = Bool} true false = sym (issued number h) ∙ none in cc
-    by_open false h = refl
+unissued_closed s number issued none = search rules
 
 recorded_fate : (standing : Standing) (period : ℕ) (v : Verdict) (same : Bool) → (period == standing.period) ≡ same → fate_of standing period v ≡ fate.Recorded → period ≡ standing.period
-recorded_fate standing period v true e r = (Decides-eqb period standing.period).0 e
-recorded_fate standing period v false e r =
-    let stale : fate_of standing period v ≡ fate.Stale = rw e refl in
-    let bad : ◌≡◌ {A = Fate} fate.Stale fate.Recorded = sym stale ∙ r in cc
-
-not_recorded : (f : Fate) → f ≡ fate.Recorded → f ≡ fate.Stale ⊎ ((f ≡ fate.Off) ⊎ (f ≡ fate.Ignored)) → ⊥
-not_recorded f e (inl h) = let bad : ◌≡◌ {A = Fate} fate.Recorded fate.Stale = sym e ∙ h in cc
-not_recorded f e (inr (inl h)) = let bad : ◌≡◌ {A = Fate} fate.Recorded fate.Off = sym e ∙ h in cc
-not_recorded f e (inr (inr h)) = let bad : ◌≡◌ {A = Fate} fate.Recorded fate.Ignored = sym e ∙ h in cc
+recorded_fate standing period v same e r = search rules
 
 unignored : (a b : Bool) (v : Verdict) → (if not a then fate.Stale else (if b then fate.Off else (if is_ignored v then fate.Ignored else fate.Recorded))) ≡ fate.Recorded → is_ignored v ≡ false
-unignored false b v e = absurd (not_recorded fate.Stale e (inl refl))
-unignored true true v e = absurd (not_recorded fate.Off e (inr (inl refl)))
-unignored true false verdict.Ignored e = absurd (not_recorded fate.Ignored e (inr (inr refl)))
-unignored true false verdict.Success e = refl
-unignored true false verdict.Failure e = refl
+unignored a b v e = search rules
 
 finished_by_shape : (s : Situation) (moment : ℕ) (t : OpenTicket) (work : JudgedData) (ticket : ℕ) (program : Option VerifiedProgram) → program_from s.first_version s.programs t.version ≡ program → is_open s.open_tickets ticket ≡ true → open_ticket s.open_tickets ticket ≡ Some t → Shape s (finishes work ticket) (finished_by meant s moment t work program)
 finished_by_shape s moment t work ticket None held there found = unentered_shape s (finishes work ticket) s.standing refusal.Stranger refl
@@ -292,10 +165,7 @@ finished_under_shape s moment work ticket None full e = refused_shape s (finishe
 finished_under_shape s moment work ticket (Some t) full e = finished_by_shape s moment t work ticket (program_from s.first_version s.programs t.version) refl (found_open s.open_tickets ticket t e) e
 
 finished_shape : (s : Situation) (moment : ℕ) (work : JudgedData) (ticket : ℕ) → (nat_lt (most_entries - 1) (used s) && not (is_open s.open_tickets ticket)) ≡ false → OpenAreIssued s → Shape s (finishes work ticket) (finished meant s moment work ticket)
-finished_shape s moment work ticket full issued =
-    either_shape (is_issued s ticket) s (finishes work ticket) (finished_under meant s moment work (open_ticket s.open_tickets ticket)) (refused s.standing refusal.NoTicket)
-    (λ e. finished_under_shape s moment work ticket (open_ticket s.open_tickets ticket) full refl)
-    (λ e. refused_shape s (finishes work ticket) s.standing refusal.NoTicket (closed_room s ticket full (unissued_closed s ticket issued e)))
+finished_shape s moment work ticket full issued = search (rules, either_shape, finished_under_shape, refused_shape, closed_room, unissued_closed)
 
 released_under_shape : (s : Situation) (ticket : ℕ) (found : Option OpenTicket)
     → (nat_lt (most_entries - 1) (used s) && not (is_open s.open_tickets ticket)) ≡ false → open_ticket s.open_tickets ticket ≡ found → Shape s (releases ticket) (released_under s found)
@@ -311,9 +181,9 @@ released_shape s ticket full issued =
 installed_shape : (s : Situation) (program : VerifiedProgram) → used s ≤ (most_entries - 1) → Shape s (installs program) (installed s program)
 installed_shape s program room =
     either_shape (nat_le most_versions (length s.programs - s.dropped)) s (installs program) (refused s.standing refusal.VersionsFull)
-    (record { reply = reply.Installed (s.first_version + length s.programs) program.budget; next = s.standing })
+    (record { reply = reply.Installed (s.first_version + length s.programs) program.budget program.layout; next = s.standing })
     (λ e. unentered_shape s (installs program) s.standing refusal.VersionsFull refl)
-    (λ e. takes_in program (s.first_version + length s.programs) program.budget refl refl (leb-false most_versions (length s.programs - s.dropped) e) room)
+    (λ e. takes_in program (s.first_version + length s.programs) program.budget program.layout refl refl (leb-false most_versions (length s.programs - s.dropped) e) room)
 
 decided_shape : (s : Situation) (moment : ℕ) (event : EventData) → is_full s event ≡ false → OpenAreIssued s → Shape s event (decided meant s moment event)
 decided_shape s moment acquires full issued = acquired_shape s moment (ltb-false (most_entries - 2) (used s) full)
@@ -327,12 +197,7 @@ decided_shape s moment resets full issued = turns state.Closed (suc s.standing.p
 
 -- whether the journal is full doesn't depend on where the breaker stands
 full_in_open : (s : Situation) (moment : ℕ) (event : EventData) → is_full s event ≡ false → is_full (in_state state.Open moment s) event ≡ false
-full_in_open s moment acquires full = full
-full_in_open s moment (finishes work ticket) full = full
-full_in_open s moment (releases ticket) full = full
-full_in_open s moment (installs program) full = full
-full_in_open s moment (moves to) full = full
-full_in_open s moment resets full = full
+full_in_open s moment event full = search rules
 
 -- an event that is taken after a transition has the shape that it has in the situation before
 after_expiry : (s : Situation) (moment : ℕ) (event : EventData) (d : Decision) → IsNear (in_state state.Open moment s).standing d.next 1 → Shape (in_state state.Open moment s) event d → Shape s event d
@@ -342,7 +207,7 @@ after_expiry s moment event d near (concludes work ticket f v steps version st e
     concludes work ticket f v steps version st e r there (λ g same. absurd (omega (arith, same, near.least))) counted
     (record { opened = version_is.opened; found = version_is.found; of_version = version_is.of_version; program = version_is.program; held = version_is.held; verdict_is = version_is.verdict_is; steps_are = version_is.steps_are })
 after_expiry s moment event d near (lets_go ticket st e r there) = lets_go ticket st e r there
-after_expiry s moment event d near (takes_in program version budget e r less room) = takes_in program version budget e r less room
+after_expiry s moment event d near (takes_in program version budget layout e r less room) = takes_in program version budget layout e r less room
 after_expiry s moment event d near (turns st period e room) = turns st period e room
 
 by_stay : (test : Bool) (s : Situation) (moment : ℕ) (event : EventData) → is_full s event ≡ false → OpenAreIssued s → Shape s event (decided meant (if test then in_state state.Open moment s else s) moment event)

@@ -1,16 +1,14 @@
 -- What a decision may change.
-use Rattle.std.proofs.Common.{◌≡◌, ◌-◌, ℕ, ◌≤◌, ◌<◌, ◌==◌, max, List, [], ◌∷◌, map, length, Option, Some, None, arith, refl, ap, sym, ◌∙◌}
+use Rattle.std.proofs.Common.{◌≡◌, ◌-◌, ℕ, ◌≤◌, ◌<◌, ◌==◌, max, List, [], ◌∷◌, map, length, Option, Some, None, arith, rules}
 use Rattle.std.specs.List.{filter_map, cons_option, fold, AllByRecursion}
 use Rattle.std.proofs.Math.Nat.{le-max_left, le-max_right}
 use Rattle.bpf_profile.specs.Programs.{VerifiedProgram}
 use Rattle.service_profile.specs.declared.configuration.ConfigParts.{ConfigParts}
 use Rattle.service_profile.specs.declared.decisions.Decision.{Decision}
 use Rattle.service_profile.specs.declared.notes.Note.{Note}
-use Rattle.service_profile.specs.declared.replies.Fate.TheVariants as fate
 use Rattle.service_profile.specs.declared.replies.Reply.{Reply}
-use Rattle.service_profile.specs.declared.replies.Reply.TheVariants as reply
 use Rattle.service_profile.specs.declared.tickets.OpenTicket.{OpenTicket}
-use Rattle.service_profile.specs.Events.{EventData, finishes}
+use Rattle.service_profile.specs.Events.{EventData}
 use Rattle.service_profile.specs.Histories.{Past, Stage, note_at, note_by, notes_of, taken_in, issue_by, end_by, install_by, greatest, machine, situation_of}
 use Rattle.service_profile.specs.Limits.{most_versions}
 use Rattle.service_profile.specs.Machine.{Situation}
@@ -18,8 +16,8 @@ use Rattle.windows.specs.Notes.{AreNotAfter}
 use Rattle.book.specs.Effects.{effects_of}
 use Rattle.book.specs.Situations.{AreEffects, next_open}
 use Rattle.book.specs.Sound.{IsSound}
-use Rattle.book.proofs.Deciding.{Shape, refuses, permits, concludes, lets_go, takes_in, turns, decision_near, decision_shape}
-use Rattle.book.proofs.Keeping.{open_are_issued, install_refused, install_moved}
+use Rattle.book.proofs.Deciding.{Shape, decision_near, decision_shape}
+use Rattle.book.proofs.Keeping.{open_are_issued}
 use Rattle.book.proofs.Lists.{all_kept_by, all_weaken}
 
 -- ---- a ticket that is issued
@@ -31,47 +29,19 @@ pub record Issues (s : Situation) (moment : ℕ) (event : EventData) (d : Decisi
   pub notes : note_by s.config moment event d.reply ≡ None
   pub free : length s.open_tickets < s.config.max_concurrent_calls
 
-none_issued : {P : Type 0} (r other : Reply) (period : ℕ) (t : OpenTicket) → r ≡ other → issue_by other period ≡ None → issue_by r period ≡ Some t → P
-none_issued r other period t e none h = let bad : ◌≡◌ {A = Option OpenTicket} None (Some t) = sym none ∙ ap (λ (x : Reply). issue_by x period) (sym e) ∙ h in cc
-
 pub issues : (s : Situation) (moment : ℕ) (event : EventData) (d : Decision) (t : OpenTicket) → Shape s event d → issue_by d.reply d.next.period ≡ Some t → Issues s moment event d t
-issues s moment event d t (refuses number e room) h = none_issued d.reply (reply.Refused number) d.next.period t e refl h
-issues s moment event d t (permits version st e r current room free given) h =
-    let is : ◌≡◌ {A = Option OpenTicket} (Some (record { number = s.next_ticket; version = version; period = d.next.period })) (Some t) = ap (λ (x : Reply). issue_by x d.next.period) (sym r) ∙ h in
-    let same : ◌≡◌ {A = OpenTicket} (record { number = s.next_ticket; version = version; period = d.next.period }) t = cc in
-    record {
-      next = sym same ∙ ap (λ (v : ℕ). record { number = s.next_ticket; version = v; period = d.next.period }) current;
-      ends = rw e refl;
-      notes = rw e refl;
-      free = free;
-    }
-issues s moment event d t (concludes work ticket f v steps version st e r there present counted version_is) h = none_issued d.reply (reply.Finished f v steps version st) d.next.period t r refl h
-issues s moment event d t (lets_go ticket st e r there) h = none_issued d.reply (reply.Released st) d.next.period t r refl h
-issues s moment event d t (takes_in program version budget e r less room) h = none_issued d.reply (reply.Installed version budget) d.next.period t r refl h
-issues s moment event d t (turns st period e room) h = none_issued d.reply (reply.Moved st period) d.next.period t e refl h
+issues s moment event d t a h = search rules
 
 -- ---- a program that gets a version
 
-none_installed : {P : Type 0} (event : EventData) (r : Reply) (program : VerifiedProgram) → install_by event r ≡ None → install_by event r ≡ Some program → P
-none_installed event r program none h = let bad : ◌≡◌ {A = Option VerifiedProgram} None (Some program) = sym none ∙ h in cc
-
 pub installs_few : (s : Situation) (event : EventData) (d : Decision) (program : VerifiedProgram) → Shape s event d → install_by event d.reply ≡ Some program → length s.programs - s.dropped < most_versions
-installs_few s event d program (refuses number e room) h = none_installed event d.reply program (ap (install_by event) e ∙ install_refused event number) h
-installs_few s event d program (permits version st e r current room free given) h = none_installed event d.reply program (rw e refl) h
-installs_few s event d program (concludes work ticket f v steps version st e r there present counted version_is) h = none_installed event d.reply program (rw e refl) h
-installs_few s event d program (lets_go ticket st e r there) h = none_installed event d.reply program (rw e refl) h
-installs_few s event d program (takes_in taken version budget e r less room) h = less
-installs_few s event d program (turns st period e room) h = none_installed event d.reply program (ap (install_by event) e ∙ install_moved event st period) h
+installs_few s event d program a h = search rules
 
 -- ---- notes
 
 -- a note has the moment of its line
 note_moment : (config : ConfigParts) (moment : ℕ) (event : EventData) (r : Reply) (n : Note) → note_by config moment event r ≡ Some n → n.moment ≡ moment
-note_moment config moment (finishes work ticket) (reply.Finished fate.Recorded v steps version st) n e = let is : note_by config moment (finishes work ticket) (reply.Finished fate.Recorded v steps version st) ≡ Some n = e in made_then _ n is
-  where
-    made_then : (made n : Note) → ◌≡◌ {A = Option Note} (Some made) (Some n) → n.moment ≡ made.moment
-    made_then made n e = let same : made ≡ n = cc in ap (λ (x : Note). x.moment) (sym same)
-note_moment config moment event r n e = let bad : ◌≡◌ {A = Option Note} None (Some n) = e in cc
+note_moment config moment event r n e = search rules
 
 grows : (n z : ℕ) (xs : List ℕ) → n ≤ z → n ≤ fold max z xs
 grows n z [] h = h
@@ -84,8 +54,7 @@ lines_before first (stage ∷ stages) =
     (grows stage.line.moment (max first stage.line.moment) (map (λ s. s.line.moment) stages) (le-max_right first stage.line.moment), lines_before (max first stage.line.moment) stages)
 
 mapped_head : {B : Type 0} (Q : B → Type 0) (o : Option B) (rest : List B) → ((b : B) → o ≡ Some b → Q b) → AllByRecursion Q rest → AllByRecursion Q (cons_option o rest)
-mapped_head Q None rest f h = h
-mapped_head Q (Some b) rest f h = (f b refl, h)
+mapped_head Q o rest f h = search rules
 
 all_mapped : {A B : Type 0} (P : A → Type 0) (Q : B → Type 0) (f : A → Option B) → ((a : A) (b : B) → P a → f a ≡ Some b → Q b) → (xs : List A) → AllByRecursion P xs → AllByRecursion Q (filter_map f xs)
 all_mapped P Q f g [] h = tt

@@ -1,5 +1,5 @@
 -- What an event finds is as the service has it, but for where the breaker stands and for the notes.
-use Rattle.std.proofs.Common.{◌≡◌, ◌≤◌, ◌+◌, ℕ, Bool, true, false, if◌then◌else◌, Option, Some, None, unwrap_or, arith, refl, ap, subst}
+use Rattle.std.proofs.Common.{◌≡◌, ◌≤◌, ◌+◌, ℕ, Bool, if◌then◌else◌, Option, Some, None, unwrap_or, subst, rules}
 use Rattle.service_profile.specs.declared.standings.Standing.{Standing}
 use Rattle.service_profile.specs.declared.states.State.TheVariants as state
 use Rattle.service_profile.specs.Machine.{Situation, in_state, at_moment, overstays}
@@ -11,31 +11,26 @@ use Rattle.book.specs.Finding.{IsAsFound, IsFoundAs}
 
 -- a part of a situation that the end of a stay leaves alone
 pub part : {X : Type 0} (f : Situation → X) → ((m : ℕ) (b : Situation) → f (in_state state.Open m b) ≡ f b) → (o : Option Standing) (before s : Situation) → IsAsFound o before s → (r : X) → r ≡ f before → r ≡ f s
-part f same None before s is r e = rw is e
-part f same (Some standing) before s is r e = rw (is.2, same is.1 before) e
+part f same b before s is r e = search rules
 
 found_by : (ends : Bool) (s : Situation) (moment : ℕ) → IsAsFound (if ends then Some (moved state.Open moment s.standing) else None) s (if ends then in_state state.Open moment s else s)
-found_by true s moment = (refl, moment, refl)
-found_by false s moment = refl
+found_by ends s moment = search rules
 
 pub is_found : (s : Situation) (moment : ℕ) → IsAsFound (if overstays s moment then Some (moved state.Open moment s.standing) else None) s (at_moment s moment)
 is_found s moment = found_by (overstays s moment) s moment
 
 -- at most one period more
 pub next_period : (ends : Bool) (a b : Standing) (moment : ℕ) → a ≡ b → (unwrap_or (if ends then Some (moved state.Open moment b) else None) a).period ≤ b.period + 1
-next_period true a b moment same = omega arith
-next_period false a b moment same = let e = ap (λ (t : Standing). t.period) same in omega (arith, e)
+next_period ends a b moment same = search rules
 
 config_by : (ends : Bool) (s : Situation) (moment : ℕ) → (if ends then in_state state.Open moment s else s).config ≡ s.config
-config_by true s moment = refl
-config_by false s moment = refl
+config_by ends s moment = search rules
 
 pub same_config : (s : Situation) (moment : ℕ) → (at_moment s moment).config ≡ s.config
 same_config s moment = config_by (overstays s moment) s moment
 
 notes_by : (ends : Bool) (s : Situation) (moment : ℕ) → AreNotAfter moment s.notes → AreNotAfter moment (if ends then in_state state.Open moment s else s).notes
-notes_by true s moment before = tt
-notes_by false s moment before = before
+notes_by ends s moment before = search rules
 
 -- no note that is found is after the moment
 pub notes_before : (s : Situation) (moment : ℕ) → AreNotAfter moment s.notes → AreNotAfter moment (at_moment s moment).notes

@@ -1,7 +1,7 @@
 -- How many permissions of a period are held, where a ticket ends or is issued.
-use Rattle.std.proofs.Common.{◌≡◌, ℕ, ◌+◌, ◌≤◌, ◌<◌, ◌==◌, not, Bool, true, false, cond, if◌then◌else◌, List, [], ◌∷◌, ◌++◌, map, length, Less, Option, Some, None, arith, refl, ap, sym, ◌∙◌}
+use Rattle.std.proofs.Common.{◌≡◌, ℕ, ◌+◌, ◌≤◌, ◌<◌, ◌==◌, not, Bool, true, false, cond, if◌then◌else◌, List, [], ◌∷◌, ◌++◌, map, length, Less, Option, Some, None, arith, refl, ap, sym, ◌∙◌, rules}
 use Rattle.std.specs.List.{filter, AllByRecursion}
-use Rattle.std.proofs.lemmas.Bool.Decides.{Decides-eqb, nat_tests}
+use Rattle.std.proofs.lemmas.Bool.Decides.{Decides-eqb}
 use Rattle.service_profile.specs.declared.tickets.OpenTicket.{OpenTicket}
 use Rattle.service_profile.specs.Machine.{open_ticket, permissions_held}
 use Rattle.service_profile.specs.Windows.{one_where}
@@ -11,7 +11,7 @@ use Rattle.std.proofs.lemmas.Map.Keys.{sorted_from_strictly_increasing}
 use Rattle.registry.specs.Registries.{Ascend}
 use Rattle.book.proofs.Lists.{all_kept, all_weaken, none_kept, one_kept}
 use Rattle.book.proofs.Permissions.{held_append}
-use Rattle.book.proofs.Passing.{eqb_false, eqb_false_after}
+use Rattle.book.proofs.Passing.{eqb_false_after}
 
 -- ---- numbers that ascend
 
@@ -21,7 +21,7 @@ AreAscending [] = Unit {0}
 AreAscending (ticket ∷ tickets) = AllByRecursion (λ later. ticket.number < later.number) tickets × AreAscending tickets
 
 less_is : (n k : ℕ) → nat_cmp n k ≡ Less → n < k
-less_is n k e = grind (arith, nat_tests)
+less_is n k e = grind arith
 
 all_later : (n : ℕ) (tickets : List OpenTicket) → AllByRecursion (λ k. nat_cmp n k ≡ Less) (map (λ ticket. ticket.number) tickets) → AllByRecursion (λ later. n < later.number) tickets
 all_later n [] h = tt
@@ -44,17 +44,7 @@ later_kept number (t ∷ tickets) h = rw (eqb_false_after t.number number h.0) (
 ended_head : (a b : Bool) (xs kept : List OpenTicket) (x t : OpenTicket) (later : Option OpenTicket) (test : OpenTicket → Bool) → test x ≡ a
     → (b ≡ true → kept ≡ xs) → (later ≡ Some t → length (filter test kept) + one_where (test t) ≡ length (filter test xs)) → (if b then Some x else later) ≡ Some t
     → length (filter test (cond (not b) (x ∷ kept) kept)) + one_where (test t) ≡ length (filter test (x ∷ xs))
-ended_head a true xs kept x t later test e same on h =
-    let is : ◌≡◌ {A = Option OpenTicket} (Some x) (Some t) = h in
-    let x_is : x ≡ t = cc in
-    ap (λ (ts : List OpenTicket). length (filter test ts) + one_where (test t)) (same refl)
-    ∙ by_test a x xs test e (sym (ap (λ (u : OpenTicket). one_where (test u)) x_is))
-  where
-    by_test : (a : Bool) (x : OpenTicket) (xs : List OpenTicket) (test : OpenTicket → Bool) {n : ℕ} → test x ≡ a → n ≡ one_where (test x) → length (filter test xs) + n ≡ length (filter test (x ∷ xs))
-    by_test true x xs test e is = rw (is, e) (omega arith)
-    by_test false x xs test e is = rw (is, e) (omega arith)
-ended_head true false xs kept x t later test e same on h = rw e (omega (arith, on h))
-ended_head false false xs kept x t later test e same on h = rw e (on h)
+ended_head a b xs kept x t later test e same on h = search rules
 
 -- the end of a ticket drops that ticket, and no other
 counted_ended : (test : OpenTicket → Bool) (number : ℕ) (tickets : List OpenTicket) (t : OpenTicket) → AreAscending tickets → open_ticket tickets number ≡ Some t
@@ -86,5 +76,4 @@ held_issued period tickets t e = held_append period tickets (t ∷ []) ∙ ap (�
 
 -- in a later period no permission is held
 pub none_held : (period later : ℕ) (tickets : List OpenTicket) → AllByRecursion (λ ticket. ticket.period ≤ period) tickets → period < later → permissions_held later tickets ≡ 0
-none_held period later tickets all less =
-    ap length (none_kept (λ (t : OpenTicket). t.period == later) (λ (t : OpenTicket). t.period ≤ period) (λ t h. eqb_false t.period later (omega (arith, h, less))) tickets all)
+none_held period later tickets all less = search (rules, none_kept)

@@ -1,5 +1,5 @@
 -- How many lines a book has had, holds, and has handed out.
-use Rattle.std.proofs.Common.{◌≡◌, ℕ, suc, ◌+◌, ◌-◌, max, min, List, [], ◌∷◌, ◌++◌, length, drop, take, Vec, arith, ap, sym, ◌∙◌, length-append, append_assoc}
+use Rattle.std.proofs.Common.{◌≡◌, ℕ, suc, ◌+◌, ◌-◌, max, min, List, [], ◌∷◌, ◌++◌, length, drop, take, Vec, arith, ap, sym, ◌∙◌, length-append, append_assoc, rules}
 use Rattle.std.proofs.lemmas.List.{take_all, drop_min, length-drop}
 use Rattle.std.specs.declared.alloc.Global.{Global}
 use Rattle.service_profile.specs.Events.{EntryData}
@@ -35,8 +35,4 @@ all_held pieces entries rolled is = sym (ap (λ (n : ℕ). drop n (all_lines pie
 
 -- what is left from a place on
 pub rest_of : (all entries : List EntryData) (first passed count : ℕ) → all ≡ entries → count ≡ length entries → first ≡ min passed count → take (length all - first) (drop first all) ≡ drop passed entries
-rest_of all entries first passed count same counted e =
-    take_all (length all - first) (drop first all) (omega (arith, length-drop first all))
-    ∙ ap (λ (xs : List EntryData). drop first xs) same
-    ∙ ap (λ (n : ℕ). drop n entries) (e ∙ ap (min passed) counted)
-    ∙ drop_min passed entries
+rest_of all entries first passed count same counted e = search (rules, take_all, length-drop, drop_min)

@@ -1,8 +1,9 @@
 -- Every legal history stays sound with one line more.
-use Rattle.std.proofs.Common.{◌≡◌, ℕ, ◌+◌, ◌-◌, ◌≤◌, ◌<◌, ◌==◌, nat_le, nat_lt, ◌&&◌, ◌||◌, not, Bool, true, false, List, [], ◌∷◌, ◌++◌, length, Option, Some, None, option_to_list, arith, refl, ap, sym, ◌∙◌, subst, length-append, append-nil}
+use Rattle.std.proofs.lemmas.Grind.{common_steps}
+use Rattle.std.proofs.Common.{◌≡◌, ℕ, ◌+◌, ◌-◌, ◌≤◌, ◌<◌, nat_le, nat_lt, ◌&&◌, not, Bool, true, false, List, [], ◌∷◌, ◌++◌, length, Option, Some, None, option_to_list, arith, refl, ap, sym, ◌∙◌, subst, length-append, append-nil, rules}
 use Rattle.std.specs.List.{filter, AllByRecursion}
 use Rattle.std.proofs.lemmas.Bool.{le-leb, lt-ltb}
-use Rattle.std.proofs.lemmas.Bool.Decides.{Decides-eqb}
+use Rattle.bpf_profile.specs.declared.layout.Layout.{Layout}
 use Rattle.bpf_profile.specs.Programs.{VerifiedProgram}
 use Rattle.refusals.specs.declared.RefusalNumber.{RefusalNumber}
 use Rattle.service_profile.specs.declared.standings.Standing.{Standing}
@@ -11,7 +12,7 @@ use Rattle.service_profile.specs.declared.tickets.OpenTicket.{OpenTicket}
 use Rattle.service_profile.specs.declared.replies.Reply.{Reply}
 use Rattle.service_profile.specs.declared.replies.Reply.TheVariants as reply
 use Rattle.service_profile.specs.Limits.{most_versions, most_entries}
-use Rattle.service_profile.specs.Events.{EventData, acquires, finishes, releases, installs, moves, resets, EntryData}
+use Rattle.service_profile.specs.Events.{EventData, acquires, finishes, releases, installs, EntryData}
 use Rattle.book.specs.Following.{is_number, tickets_after, one_where_some, notes_after, situation_after}
 use Rattle.service_profile.specs.Histories.{Stage, Past, issue_by, issue_at, issued, end_by, end_at, ended, open_of, install_by, install_at, programs_of, notes_of, situation_of, machine, passed, Follows, note_by}
 use Rattle.service_profile.specs.Machine.{Situation, used, is_open, is_entered, permissions_held}
@@ -27,36 +28,16 @@ use Rattle.book.proofs.Lists.{all_kept, all_kept_by, fewer_kept, map_with, all_a
 use Rattle.book.proofs.Passing.{AreBefore, IsFresh, notes_step, open_step, issued_step, greatest_step}
 
 pub end_refused : (event : EventData) (number : RefusalNumber) → end_by event (reply.Refused number) ≡ None
-end_refused acquires number = refl
-end_refused (finishes work ticket) number = refl
-end_refused (releases ticket) number = refl
-end_refused (installs program) number = refl
-end_refused (moves to) number = refl
-end_refused resets number = refl
+end_refused event number = search rules
 
 pub install_refused : (event : EventData) (number : RefusalNumber) → install_by event (reply.Refused number) ≡ None
-install_refused acquires number = refl
-install_refused (finishes work ticket) number = refl
-install_refused (releases ticket) number = refl
-install_refused (installs program) number = refl
-install_refused (moves to) number = refl
-install_refused resets number = refl
+install_refused event number = search rules
 
 end_moved : (event : EventData) (s : _) (period : ℕ) → end_by event (reply.Moved s period) ≡ None
-end_moved acquires s period = refl
-end_moved (finishes work ticket) s period = refl
-end_moved (releases ticket) s period = refl
-end_moved (installs program) s period = refl
-end_moved (moves to) s period = refl
-end_moved resets s period = refl
+end_moved event s period = search rules
 
 pub install_moved : (event : EventData) (s : _) (period : ℕ) → install_by event (reply.Moved s period) ≡ None
-install_moved acquires s period = refl
-install_moved (finishes work ticket) s period = refl
-install_moved (releases ticket) s period = refl
-install_moved (installs program) s period = refl
-install_moved (moves to) s period = refl
-install_moved resets s period = refl
+install_moved event s period = search rules
 
 -- what a line does to tickets and versions
 pub record IsMove (held : ℕ) (tickets : List OpenTicket) (next versions : ℕ) (event : EventData) (r : Reply) (period : ℕ) : Type 0 where
@@ -73,12 +54,7 @@ one_more : (tickets : List OpenTicket) (t : OpenTicket) → length (tickets_afte
 one_more tickets t = ap (λ (ts : List OpenTicket). length (ts ++ t ∷ [])) (all_kept tickets) ∙ length-append tickets (t ∷ [])
 
 one_less : (tickets : List OpenTicket) (n : ℕ) → is_open tickets n ≡ true → length (tickets_after tickets (Some n) None) + 1 ≤ length tickets
-one_less tickets n e =
-    let same = ap length (append-nil (filter (λ (t : OpenTicket). not (t.number == n)) tickets)) in
-    omega (arith, same, fewer_kept (λ (t : OpenTicket). t.number == n) tickets e)
-
-none_fresh : (next : ℕ) (o : Option ℕ) → IsFresh next o None
-none_fresh next o = record { number = λ t e. let bad : ◌≡◌ {A = Option OpenTicket} None (Some t) = e in cc }
+one_less tickets n e = search (rules, fewer_kept)
 
 no_number : (tickets : List OpenTicket) (n : ℕ) → ◌≡◌ {A = Option ℕ} None (Some n) → is_open tickets n ≡ true
 no_number tickets n e = cc
@@ -90,50 +66,20 @@ no_program event p e = cc
 still : (held : ℕ) (tickets : List OpenTicket) (next versions : ℕ) (event : EventData) (r : Reply) (period : ℕ)
     → end_by event r ≡ None → issue_by r period ≡ None → install_by event r ≡ None → held + length tickets ≤ (most_entries - 1) → versions ≤ most_versions
     → IsMove held tickets next versions event r period
-still held tickets next versions event r period ends issues installs_ room few = record {
-  fresh = rw (ends, issues) (none_fresh next None);
-  ended = λ n e. no_number tickets n (sym ends ∙ e);
-  room = rw (ends, issues) (omega (arith, untouched tickets, room));
-  versions_held = rw installs_ (omega (arith, few));
-  installed = λ p e. no_program event p (sym installs_ ∙ e);
-}
+still held tickets next versions event r period ends issues installs_ room few = search (rules, untouched)
 
 permit_move : (held : ℕ) (tickets : List OpenTicket) (next versions version : ℕ) (s : _) (period : ℕ)
     → held + length tickets ≤ (most_entries - 2) → versions ≤ most_versions → IsMove held tickets next versions acquires (reply.Permitted next version s) period
-permit_move held tickets next versions version s period room few = record {
-  fresh = record { number = λ t e. (same_number next version period t e, refl) };
-  ended = λ n e. no_number tickets n e;
-  room = omega (arith, one_more tickets (record { number = next; version = version; period = period }), room);
-  versions_held = omega (arith, few);
-  installed = λ p e. no_program acquires p e;
-}
-  where
-    same_number : (next version period : ℕ) (t : OpenTicket) → ◌≡◌ {A = Option OpenTicket} (Some (record { number = next; version = version; period = period })) (Some t) → t.number ≡ next
-    same_number next version period t e = let same : ◌≡◌ {A = OpenTicket} (record { number = next; version = version; period = period }) t = cc in sym (ap (λ (u : OpenTicket). u.number) same)
+permit_move held tickets next versions version s period room few = search (rules, one_more, no_program)
 
 end_move : (held : ℕ) (tickets : List OpenTicket) (next versions : ℕ) (event : EventData) (r : Reply) (period : ℕ) (ticket : ℕ)
     → end_by event r ≡ Some ticket → issue_by r period ≡ None → install_by event r ≡ None → is_open tickets ticket ≡ true → held + length tickets ≤ most_entries → versions ≤ most_versions
     → IsMove held tickets next versions event r period
-end_move held tickets next versions event r period ticket ends issues installs_ there room few = record {
-  fresh = rw issues (none_fresh next (end_by event r));
-  ended = λ n e. let same : ◌≡◌ {A = Option ℕ} (Some ticket) (Some n) = sym ends ∙ e in let number : ticket ≡ n = cc in subst (λ (k : ℕ). is_open tickets k ≡ true) number there;
-  room = rw (ends, issues) (omega (arith, one_less tickets ticket there, room));
-  versions_held = rw installs_ (omega (arith, few));
-  installed = λ p e. no_program event p (sym installs_ ∙ e);
-}
+end_move held tickets next versions event r period ticket ends issues installs_ there room few = search (rules, one_less)
 
-install_move : (held : ℕ) (tickets : List OpenTicket) (next versions : ℕ) (program : VerifiedProgram) (version budget period : ℕ)
-    → versions < most_versions → held + length tickets ≤ (most_entries - 1) → IsMove held tickets next versions (installs program) (reply.Installed version budget) period
-install_move held tickets next versions program version budget period few room = record {
-  fresh = none_fresh next None;
-  ended = λ n e. no_number tickets n e;
-  room = omega (arith, untouched tickets, room);
-  versions_held = omega (arith, few);
-  installed = λ p e. same_program_ p e;
-}
-  where
-    same_program_ : (p : VerifiedProgram) → ◌≡◌ {A = Option VerifiedProgram} (Some program) (Some p) → installs program ≡ installs p
-    same_program_ p e = let same : program ≡ p = cc in ap installs same
+install_move : (held : ℕ) (tickets : List OpenTicket) (next versions : ℕ) (program : VerifiedProgram) (version budget : ℕ) (layout : Layout) (period : ℕ)
+    → versions < most_versions → held + length tickets ≤ (most_entries - 1) → IsMove held tickets next versions (installs program) (reply.Installed version budget layout) period
+install_move held tickets next versions program version budget layout period few room = search (rules, no_number, untouched)
 
 pub move_of : (s : Situation) (event : EventData) (d : Decision)
     → Shape s event d → is_entered d.reply ≡ true → used s ≤ most_entries → length s.programs - s.dropped ≤ most_versions
@@ -146,8 +92,8 @@ move_of s event d (concludes work ticket fate v steps version st e f there prese
     rw (e, f) (end_move s.held s.open_tickets s.next_ticket (length s.programs - s.dropped) (finishes work ticket) (reply.Finished fate v steps version st) d.next.period ticket refl refl refl there most few)
 move_of s event d (lets_go ticket st e f there) entered most few =
     rw (e, f) (end_move s.held s.open_tickets s.next_ticket (length s.programs - s.dropped) (releases ticket) (reply.Released st) d.next.period ticket refl refl refl there most few)
-move_of s event d (takes_in program version budget e f less room) entered most few =
-    rw (e, f) (install_move s.held s.open_tickets s.next_ticket (length s.programs - s.dropped) program version budget d.next.period less room)
+move_of s event d (takes_in program version budget layout e f less room) entered most few =
+    rw (e, f) (install_move s.held s.open_tickets s.next_ticket (length s.programs - s.dropped) program version budget layout d.next.period less room)
 move_of s event d (turns st p e room) entered most few =
     rw e (still s.held s.open_tickets s.next_ticket (length s.programs - s.dropped) event (reply.Moved st p) d.next.period (end_moved event st p) refl (install_moved event st p) room few)
 
@@ -162,13 +108,9 @@ stage_of past line = record { line = line; before = past.standing; after = next_
 pub in_range : (next n : ℕ) → (1 ≤ n) → (n < next) → (nat_le 1 n && nat_lt n next) ≡ true
 in_range next n a b = rw (le-leb 1 n a, lt-ltb n next b) refl
 
-issued_head : (next number : ℕ) (t : OpenTicket) (rest b : Bool) → (1 ≤ t.number) × (t.number < next) → (rest ≡ true → (1 ≤ number) × (number < next)) → (t.number == number) ≡ b → (b || rest) ≡ true → (1 ≤ number) × (number < next)
-issued_head next number t rest true h on same e = let is : t.number ≡ number = (Decides-eqb t.number number).0 same in (omega (arith, h.0, is), omega (arith, h.1, is))
-issued_head next number t rest false h on same e = on e
-
 all_issued : (next : ℕ) (tickets : List OpenTicket) (number : ℕ) → AllByRecursion (λ ticket. (1 ≤ ticket.number) × (ticket.number < next)) tickets → is_open tickets number ≡ true → (1 ≤ number) × (number < next)
 all_issued next [] number h e = let bad : ◌≡◌ {A = Bool} false true = e in cc
-all_issued next (t ∷ tickets) number h e = issued_head next number t (is_open tickets number) (t.number == number) h.0 (all_issued next tickets number h.1) refl e
+all_issued next (t ∷ tickets) number h e = search (rules, all_issued next tickets number h.1)
 
 pub open_are_issued : (past : Past) → IsSound past → OpenAreIssued (situation_of past)
 open_are_issued past sound = λ number e.
@@ -199,10 +141,7 @@ abbrev Before : ℕ → Stage → Type 0
 Before period stage = (stage.before.period ≤ period) × (stage.after.period ≤ period)
 
 periods_step : (past : Past) (line : EntryData) → IsSound past → AreBefore (next_standing past line).period (past.stages ++ stage_of past line ∷ [])
-periods_step past line sound =
-    let near = decision_near (situation_of past) line.moment line.event in
-    let earlier = all_weaken (Before past.standing.period) (Before (next_standing past line).period) (λ (s : Stage) h. (omega (arith, h.0, near.least), omega (arith, h.1, near.least))) past.stages sound.periods in
-    all_append (Before (next_standing past line).period) past.stages (stage_of past line ∷ []) earlier ((near.least, omega arith), tt)
+periods_step past line sound = grind (arith, common_steps, decision_near, all_weaken)
 
 ended_there : (next later : ℕ) (tickets : List OpenTicket) (o : Option ℕ) → next ≤ later → AllByRecursion (λ ticket. (1 ≤ ticket.number) × (ticket.number < next)) tickets
     → ((n : ℕ) → o ≡ Some n → is_open tickets n ≡ true) → AllByRecursion (λ number. number < later) (option_to_list o)
@@ -219,8 +158,7 @@ ended_step past line sound follows le =
     subst (λ (ns : List ℕ). AllByRecursion (λ number. number < later) ns) (sym (map_with end_at past.stages (stage_of past line))) all
 
 issued_there : (next later : ℕ) (o : Option OpenTicket) (e : Option ℕ) → 1 ≤ next → IsFresh next e o → next + one_where_some o ≡ later → AllByRecursion (λ ticket. (1 ≤ ticket.number) × (ticket.number < later)) (option_to_list o)
-issued_there next later None e first fresh le = tt
-issued_there next later (Some t) e first fresh le = let new = (fresh.number t refl).0 in ((omega (arith, new, first), omega (arith, new, le)), tt)
+issued_there next later o e first fresh le = search rules
 
 open_issued_step : (past : Past) (line : EntryData) → IsSound past → Follows past line → next_ticket past + one_where_some (issue_by line.reply (next_standing past line).period) ≡ next_ticket (passed past line)
     → AllByRecursion (λ ticket. (1 ≤ ticket.number) × (ticket.number < next_ticket (passed past line))) (open_of (passed past line).stages)
@@ -238,12 +176,7 @@ open_issued_step past line sound follows next =
 
 places_after : (s : Situation) (event : EventData) (d : Decision) → Shape s event d → length s.open_tickets ≤ s.config.max_concurrent_calls
     → length (tickets_after s.open_tickets (end_by event d.reply) (issue_by d.reply d.next.period)) ≤ s.config.max_concurrent_calls
-places_after s event d (refuses number e room) le = rw (e, end_refused event number) (omega (arith, untouched s.open_tickets, le))
-places_after s event d (permits version st e f current room free given) le = rw (e, f) (omega (arith, one_more s.open_tickets (record { number = s.next_ticket; version = version; period = d.next.period }), free))
-places_after s event d (concludes work ticket fate v steps version st e f there present counted is) le = rw (e, f) (omega (arith, one_less s.open_tickets ticket there, le))
-places_after s event d (lets_go ticket st e f there) le = rw (e, f) (omega (arith, one_less s.open_tickets ticket there, le))
-places_after s event d (takes_in program version budget e f less room) le = rw (e, f) (omega (arith, untouched s.open_tickets, le))
-places_after s event d (turns st p e room) le = rw (e, end_moved event st p) (omega (arith, untouched s.open_tickets, le))
+places_after s event d a le = search (rules, untouched, one_more, one_less)
 
 -- the tickets after a line, as the machine's reply has them
 tickets_there : (past : Past) (line : EntryData) → IsSound past → Follows past line
@@ -256,23 +189,8 @@ places_step : (past : Past) (line : EntryData) → IsSound past → Follows past
 places_step past line sound follows =
     omega (arith, ap length (tickets_there past line sound follows), places_after (situation_of past) line.event (machine past line.moment line.event) (shape_there past line sound) sound.places)
 
-issued_period : (r : Reply) (period : ℕ) → AllByRecursion (λ ticket. ticket.period ≤ period) (option_to_list (issue_by r period))
-issued_period (reply.Permitted ticket version s) period = (omega arith, tt)
-issued_period (reply.Refused number) period = tt
-issued_period (reply.Finished f v steps version s) period = tt
-issued_period (reply.Released s) period = tt
-issued_period (reply.Installed version budget) period = tt
-issued_period (reply.Moved s p) period = tt
-
 ticket_periods_step : (past : Past) (line : EntryData) → IsSound past → Follows past line → AllByRecursion (λ ticket. ticket.period ≤ (next_standing past line).period) (open_of (passed past line).stages)
-ticket_periods_step past line sound follows =
-    let near = decision_near (situation_of past) line.moment line.event in
-    let r : Reply = (machine past line.moment line.event).reply in
-    let test : OpenTicket → Type 0 = λ ticket. ticket.period ≤ (next_standing past line).period in
-    let earlier = all_weaken (λ ticket. ticket.period ≤ past.standing.period) test (λ (t : OpenTicket) h. omega (arith, h, near.least)) (open_of past.stages) sound.ticket_periods in
-    let kept = all_kept_by test (λ (t : OpenTicket). not (is_number (end_by line.event r) t.number)) (open_of past.stages) earlier in
-    let all = all_append test (filter (λ (t : OpenTicket). not (is_number (end_by line.event r) t.number)) (open_of past.stages)) (option_to_list (issue_by r (next_standing past line).period)) kept (issued_period r (next_standing past line).period) in
-    subst (λ (ts : List OpenTicket). AllByRecursion test ts) (sym (tickets_there past line sound follows)) all
+ticket_periods_step past line sound follows = grind (arith, common_steps, decision_near, all_weaken, all_kept_by, tickets_there)
 
 some_permitted : (past : Past) → IsSound past → 1 ≤ past.opening.config.permitted_number_of_calls_in_half_open_state
 some_permitted past sound = within_least 1 10000 past.opening.config.permitted_number_of_calls_in_half_open_state (ranges past.opening.config sound.opening.config).permitted
@@ -289,8 +207,7 @@ permissions_step past line sound follows half =
     omega (arith, after, ap length notes, ap (permissions_held d.next.period) (tickets_there past line sound follows))
 
 one_at_most : {A : Type 0} (o : Option A) → one_where_some o ≤ 1
-one_at_most None = omega arith
-one_at_most (Some x) = omega arith
+one_at_most o = search rules
 
 installed_safe : (event : EventData) (o : Option VerifiedProgram) → ((p : VerifiedProgram) → o ≡ Some p → event ≡ installs p) → IsSafeEvent event → AreSafePrograms (option_to_list o)
 installed_safe event None from safe_ = tt
@@ -345,25 +262,10 @@ sound_step past line sound follows safe_ =
       moment = rw (greatest_step past.opening.moment past.stages (stage_of past line) follows.raises) safe_.word;
     }
 
-one_listed : {A : Type 0} (o : Option A) → length (option_to_list o) ≤ 1
-one_listed None = omega arith
-one_listed (Some x) = omega arith
-
 -- a line installs at most one program
 one_installed : (past : Past) (line : EntryData) → length (programs_of (passed past line)) ≤ length (programs_of past) + 1
-one_installed past line =
-    let programs : programs_of (passed past line) ≡ programs_of past ++ option_to_list (install_by line.event line.reply) = ap (λ (ps : List VerifiedProgram). past.opening.program ∷ ps) (map_with install_at past.stages (stage_of past line)) in
-    omega (arith, ap length programs, length-append (programs_of past) (option_to_list (install_by line.event line.reply)), one_listed (install_by line.event line.reply))
+one_installed past line = search (rules, map_with, length-append)
 
 -- a line takes at most one number, one version, and two periods
 pub room_step : (past : Past) (line : EntryData) → IsSound past → past.rolled.lines ≤ length past.stages → Follows past line → LeavesRoom past → LeavesRoom (passed past line)
-room_step past line sound held_there follows room =
-    let near = decision_near (situation_of past) line.moment line.event in
-    let held : length (passed past line).stages ≡ length past.stages + 1 = length-append past.stages (stage_of past line ∷ []) in
-    let count = issued_step past.stages (stage_of past line) in
-    record {
-      line = omega (arith, held_there, held, room.line);
-      ticket = omega (arith, held_there, held, count, room.ticket, one_at_most (issue_by line.reply (next_standing past line).period));
-      period = omega (arith, held_there, held, near.most, room.period);
-      version = omega (arith, held_there, held, room.version, one_installed past line);
-    }
+room_step past line sound held_there follows room = search (rules, decision_near, length-append, issued_step, one_installed)

@@ -1,5 +1,5 @@
 -- What every legal history keeps.
-use Rattle.std.proofs.Common.{◌≡◌, ℕ, zero, suc, ◌+◌, ◌≤◌, ◌==◌, not, Bool, true, false, cond, List, [], ◌∷◌, length, slice_get, Option, Some, None, Ok, arith, refl, ap, sym, ◌∙◌, length-append}
+use Rattle.std.proofs.Common.{◌≡◌, ℕ, zero, suc, ◌+◌, ◌≤◌, ◌==◌, not, Bool, true, false, cond, List, [], ◌∷◌, length, slice_get, Option, Some, None, Ok, arith, refl, ap, sym, ◌∙◌, length-append, rules}
 use Rattle.std.specs.List.{filter, fold, AllByRecursion}
 use Rattle.bpf_profile.specs.declared.machine.Verdict.TheVariants as verdict
 use Rattle.std.proofs.lemmas.Bool.Decides.{Decides-eqb}
@@ -11,18 +11,18 @@ use Rattle.service_profile.specs.declared.replies.Fate.TheVariants as fate
 use Rattle.service_profile.specs.declared.replies.Reply.{Reply}
 use Rattle.service_profile.specs.declared.replies.Reply.TheVariants as reply
 use Rattle.service_profile.specs.declared.states.State.{State}
-use Rattle.service_profile.specs.Events.{EventData, acquires, finishes, releases, installs, moves, resets, EntryData, Opening, History}
+use Rattle.service_profile.specs.Events.{EventData, finishes, EntryData, Opening, History}
 use Rattle.service_profile.specs.Histories.{Stage, Past, programs_of, note_by, ended, issued, is_listed, open_of, opened, passed, past_of, next_line, situation_of, machine, Follows, AreLegal, IsLegal}
 use Rattle.book.specs.Laws.{IsLine, IsService, IsMeantNote, HasMeantNote}
 use Rattle.service_profile.specs.Answers.{cut}
-use Rattle.service_profile.specs.Machine.{is_open, is_ignored, note_of}
+use Rattle.service_profile.specs.Machine.{is_open, note_of}
 use Rattle.book.specs.Safe.{IsVerifiedProgram}
 use Rattle.service_profile.specs.Openings.{IsOpening}
 use Rattle.service_profile.specs.MeantVerdicts.{IsMeantLine}
 use Rattle.book.specs.Sound.{IsSound}
 use Rattle.service_profile.specs.declared.notes.Note.{Note}
 use Rattle.book.proofs.Applying.{same_opening}
-use Rattle.book.proofs.Deciding.{Shape, refuses, permits, concludes, lets_go, takes_in, turns}
+use Rattle.book.proofs.Deciding.{Shape}
 use Rattle.book.proofs.Keeping.{shape_there, sound_step}
 use Rattle.book.proofs.Openings.{sound_opened}
 use Rattle.book.proofs.Lists.{all_weaken}
@@ -38,9 +38,7 @@ unfolding IsLegal
 service_sound safely history service = sound_from safely (opened history.rolled history.opening) history.lines (sound_opened history.opening history.rolled service.opening (safe_program safely history.opening.program service.program)) service.legal service.lines
 
 pub places_kept : Safely → (history : History) → IsService history → length (open_of (past_of history).stages) ≤ history.opening.config.max_concurrent_calls
-places_kept safely history service =
-    let sound = service_sound safely history service in
-    omega (arith, sound.places, ap (λ (o : Opening). o.config.max_concurrent_calls) (same_opening history.opening history.lines history.rolled))
+places_kept safely history service = search (rules, service_sound, same_opening)
 
 -- ---- numbers
 
@@ -61,9 +59,7 @@ numbers_kept history place l legal e = omega (arith, numbered_from (opened histo
 -- ---- spent tickets
 
 closed_head : (t : OpenTicket) (number : ℕ) (keep here rest : Bool) (others : List OpenTicket) → (t.number == number) ≡ here → (here ≡ true → keep ≡ false) → is_open others number ≡ false → is_open (cond keep (t ∷ others) others) number ≡ false
-closed_head t number false here rest others e h none = none
-closed_head t number true true rest others e h none = let bad : ◌≡◌ {A = Bool} true false = h refl in cc
-closed_head t number true false rest others e h none = rw e none
+closed_head t number keep here rest others e h none = search rules
 
 spent_closed : (numbers : List ℕ) (number : ℕ) (tickets : List OpenTicket) → is_listed numbers number ≡ true → is_open (filter (λ (t : OpenTicket). not (is_listed numbers t.number)) tickets) number ≡ false
 spent_closed numbers number [] listed = refl
@@ -78,30 +74,10 @@ spent_not_open stages number listed = spent_closed (ended stages) number (issued
 -- ---- ignored verdicts
 
 unnoted : (config : ConfigParts) (moment : ℕ) (event : EventData) (f : Fate) (steps version : ℕ) (st : State) → (f ≡ fate.Recorded → ⊥) → note_by config moment event (reply.Finished f verdict.Ignored steps version st) ≡ None
-unnoted config moment (finishes work ticket) fate.Recorded steps version st h = absurd (h refl)
-unnoted config moment (finishes work ticket) fate.Ignored steps version st h = refl
-unnoted config moment (finishes work ticket) fate.Off steps version st h = refl
-unnoted config moment (finishes work ticket) fate.Stale steps version st h = refl
-unnoted config moment acquires f steps version st h = refl
-unnoted config moment (releases ticket) f steps version st h = refl
-unnoted config moment (installs program) f steps version st h = refl
-unnoted config moment (moves to) f steps version st h = refl
-unnoted config moment resets f steps version st h = refl
-
-other_reply : (r a b : Reply) → r ≡ a → r ≡ b → a ≡ b
-other_reply r a b p q = sym p ∙ q
+unnoted config moment event f steps version st h = search rules
 
 ignored_fate : (past : Past) (event : EventData) (d : Decision) (f : Fate) (steps version : ℕ) (st : State) → Shape (situation_of past) event d → d.reply ≡ reply.Finished f verdict.Ignored steps version st → f ≡ fate.Recorded → ⊥
-ignored_fate past event d f steps version st (refuses number e room) r h = let bad : ◌≡◌ {A = Reply} (reply.Refused number) (reply.Finished f verdict.Ignored steps version st) = sym e ∙ r in cc
-ignored_fate past event d f steps version st (permits v s e p current room free given) r h = let bad : ◌≡◌ {A = Reply} (reply.Permitted (situation_of past).next_ticket v s) (reply.Finished f verdict.Ignored steps version st) = sym p ∙ r in cc
-ignored_fate past event d f steps version st (concludes work ticket g w k v s e p there present counted is) r h =
-    let same : ◌≡◌ {A = Reply} (reply.Finished g w k v s) (reply.Finished f verdict.Ignored steps version st) = sym p ∙ r in
-    let fates : g ≡ f = cc in
-    let verdicts : w ≡ verdict.Ignored = cc in
-    let bad : ◌≡◌ {A = Bool} true false = sym (ap is_ignored verdicts) ∙ counted (fates ∙ h) in cc
-ignored_fate past event d f steps version st (lets_go ticket s e p there) r h = let bad : ◌≡◌ {A = Reply} (reply.Released s) (reply.Finished f verdict.Ignored steps version st) = sym p ∙ r in cc
-ignored_fate past event d f steps version st (takes_in program v budget e p less room) r h = let bad : ◌≡◌ {A = Reply} (reply.Installed v budget) (reply.Finished f verdict.Ignored steps version st) = sym p ∙ r in cc
-ignored_fate past event d f steps version st (turns s q p room) r h = let bad : ◌≡◌ {A = Reply} (reply.Moved s q) (reply.Finished f verdict.Ignored steps version st) = sym p ∙ r in cc
+ignored_fate past event d f steps version st a r h = search rules
 
 pub ignored_unnoted : Safely → (history : History) (l : EntryData) (f : Fate) (steps version : ℕ) (st : State) → IsService history → Follows (past_of history) l → l.reply ≡ reply.Finished f verdict.Ignored steps version st
     → note_by history.opening.config l.moment l.event l.reply ≡ None

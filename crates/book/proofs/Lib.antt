@@ -20,9 +20,11 @@ pub mod Worlds
 pub mod Courses
 pub mod Cuts
 pub mod Lawful
-pub mod Seats
 pub mod Rolled
 pub mod Rolls
 pub mod Roomy
 pub mod Runs
 pub mod Pieces
+pub mod Counting
+pub mod FlatSending
+pub mod Sending

@@ -1,4 +1,4 @@
-use Rattle.std.proofs.Common.{◌≡◌, ℕ, zero, suc, slice_get, subst, ◌+◌, ◌≤◌, ◌&&◌, ◌||◌, not, Bool, true, false, cond, Option, Some, None, option_to_list, List, [], ◌∷◌, ◌++◌, length, arith, refl, ap, ◌∙◌}
+use Rattle.std.proofs.Common.{◌≡◌, ℕ, zero, suc, slice_get, subst, ◌+◌, ◌≤◌, ◌&&◌, ◌||◌, not, Bool, true, false, cond, Option, Some, None, option_to_list, List, [], ◌∷◌, ◌++◌, length, arith, refl, ap, ◌∙◌, rules}
 use Rattle.std.specs.List.{filter, filter_map, cons_option, list_any, AllByRecursion}
 use Rattle.std.proofs.lemmas.List.Elements.{filter_map-append}
 use Rattle.std.proofs.lemmas.List.Filters.{length-filter_both}
@@ -27,31 +27,19 @@ pub none_kept : {X : Type 0} (test : X → Bool) (P : X → Type 0) → ((x : X)
 none_kept test P h [] a = refl
 none_kept test P h (x ∷ xs) a = dropped_head x (test x) (filter test xs) [] (h x a.0) (none_kept test P h xs a.1)
 
-kept_head : {X : Type 0} (P : X → Type 0) (x : X) (b : Bool) (xs : List X) → P x → AllByRecursion P xs → AllByRecursion P (cond b (x ∷ xs) xs)
-kept_head P x true xs p a = (p, a)
-kept_head P x false xs p a = a
-
 pub all_kept_by : {X : Type 0} (P : X → Type 0) (test : X → Bool) (xs : List X) → AllByRecursion P xs → AllByRecursion P (filter test xs)
 all_kept_by P test [] a = tt
-all_kept_by P test (x ∷ xs) a = kept_head P x (test x) (filter test xs) a.0 (all_kept_by P test xs a.1)
-
-again_head : {X : Type 0} (x : X) (a b : Bool) (q : X → Bool) (xs ys : List X) → q x ≡ b → xs ≡ filter q ys → cond (a && b) (x ∷ xs) xs ≡ filter q (cond a (x ∷ ys) ys)
-again_head x true true q xs ys e h = rw e (ap (λ (zs : List _). x ∷ zs) h)
-again_head x true false q xs ys e h = rw e h
-again_head x false b q xs ys e h = h
+all_kept_by P test (x ∷ xs) a = search (rules, all_kept_by P test xs a.1)
 
 -- two tests at once, or one after another
 pub kept_again : {X : Type 0} (p q : X → Bool) (xs : List X) → filter (λ x. p x && q x) xs ≡ filter q (filter p xs)
 kept_again p q [] = refl
-kept_again p q (x ∷ xs) = again_head x (p x) (q x) q _ _ refl (kept_again p q xs)
-
-same_head : {X : Type 0} (x : X) (a b : Bool) (xs ys : List X) → a ≡ b → xs ≡ ys → cond a (x ∷ xs) xs ≡ cond b (x ∷ ys) ys
-same_head x a b xs ys e h = rw (e, h) refl
+kept_again p q (x ∷ xs) = search (rules, kept_again p q xs)
 
 -- tests that agree keep the same
 pub same_kept : {X : Type 0} (p q : X → Bool) → ((x : X) → p x ≡ q x) → (xs : List X) → filter p xs ≡ filter q xs
 same_kept p q h [] = refl
-same_kept p q h (x ∷ xs) = same_head x (p x) (q x) _ _ (h x) (same_kept p q h xs)
+same_kept p q h (x ∷ xs) = search (rules, same_kept p q h xs)
 
 shorter_head : {X : Type 0} (x : X) (a b rest : Bool) (xs kept : List X) → a ≡ not b → length kept ≤ length xs → (rest ≡ true → length kept + 1 ≤ length xs) → (b || rest) ≡ true → length (cond a (x ∷ kept) kept) + 1 ≤ length (x ∷ xs)
 shorter_head x true true rest xs kept e le on h = let bad : ◌≡◌ {A = Bool} true false = e in cc
@@ -77,9 +65,6 @@ map_with h xs x = filter_map-append h xs (x ∷ []) ∙ ap (λ (ys : List _). fi
 
 pub one_kept : {X : Type 0} (test : X → Bool) (x : X) → test x ≡ true → filter test (x ∷ []) ≡ x ∷ []
 one_kept test x e = rw e refl
-
-pub one_dropped : {X : Type 0} (test : X → Bool) (x : X) → test x ≡ false → filter test (x ∷ []) ≡ []
-one_dropped test x e = rw e refl
 
 -- what holds of all elements holds of the one at a place
 pub got : {A : Type 0} (P : A → Type 0) (xs : List A) (place : ℕ) (x : A) → AllByRecursion P xs → slice_get xs place ≡ Some x → P x

@@ -1,18 +1,17 @@
 -- The verdict of a finished call is the meaning's for the version that its ticket names.
-use Rattle.std.proofs.Common.{◌≡◌, ℕ, ◌-◌, nat_le, ◌==◌, Bool, true, false, cond, if◌then◌else◌, List, [], ◌∷◌, ◌++◌, slice_get, Option, Some, None, arith, refl, ap, sym, ◌∙◌, subst}
+use Rattle.std.proofs.Common.{◌≡◌, ℕ, ◌-◌, nat_le, ◌==◌, Bool, true, false, cond, if◌then◌else◌, List, [], ◌∷◌, ◌++◌, slice_get, Option, Some, None, arith, refl, ap, sym, ◌∙◌, subst, rules}
 use Rattle.std.specs.Prelude.{Contains}
 use Rattle.std.specs.List.{filter}
 use Rattle.std.proofs.lemmas.Bool.Decides.{Decides-eqb}
 use Rattle.std.proofs.lemmas.List.Elements.{Contains-append_left, Contains-append_right}
 use Rattle.bpf_profile.specs.declared.machine.Verdict.{Verdict}
-use Rattle.bpf_profile.specs.Limits.{context_size}
+use Rattle.bpf_profile.specs.Layouts.{context_size}
 use Rattle.bpf_profile.specs.Meaning.{Judges}
 use Rattle.bpf_profile.specs.JudgedWork.{JudgedData}
 use Rattle.bpf_profile.specs.Programs.{VerifiedProgram}
 use Rattle.service_profile.specs.declared.decisions.Decision.{Decision}
 use Rattle.service_profile.specs.declared.tickets.OpenTicket.{OpenTicket}
 use Rattle.service_profile.specs.declared.replies.Fate.{Fate}
-use Rattle.service_profile.specs.declared.replies.Reply.{Reply}
 use Rattle.service_profile.specs.declared.replies.Reply.TheVariants as reply
 use Rattle.service_profile.specs.declared.states.State.{State}
 use Rattle.service_profile.specs.Events.{EventData, finishes}
@@ -21,7 +20,8 @@ use Rattle.service_profile.specs.Machine.{open_ticket}
 use Rattle.book.specs.Safe.{AreSafePrograms, IsJudged}
 use Rattle.service_profile.specs.MeantVerdicts.{IsMeant}
 use Rattle.service_profile.specs.Verdicts.{judgement}
-use Rattle.book.proofs.Deciding.{Shape, refuses, permits, concludes, lets_go, takes_in, turns, IsByVersion}
+use Rattle.bpf_profile.proofs.Layouts.{fits_layout}
+use Rattle.book.proofs.Deciding.{Shape, IsByVersion}
 use Rattle.book.proofs.Judging.{judgement_judges, program_safe}
 use Rattle.book.proofs.Lists.{still_there}
 
@@ -46,8 +46,7 @@ found_there keep (t ∷ tickets) number u e = kept_head t u (keep t) tickets (fi
 -- ---- later versions and tickets change nothing
 
 pub later_held : (test : Bool) (programs more : List VerifiedProgram) (place : ℕ) (program : VerifiedProgram) → (if test then slice_get programs place else None) ≡ Some program → (if test then slice_get (programs ++ more) place else None) ≡ Some program
-later_held true programs more place program e = still_there programs more place program e
-later_held false programs more place program e = e
+later_held test programs more place program e = search (rules, still_there)
 
 pub still_meant : (first : ℕ) (programs more : List VerifiedProgram) (tickets others : List OpenTicket) (work : JudgedData) (ticket : ℕ) (v : Verdict) (steps version : ℕ)
     → IsMeant first programs tickets work ticket v steps version → IsMeant first (programs ++ more) (tickets ++ others) work ticket v steps version
@@ -68,7 +67,7 @@ by_version : (past : Past) (work : JudgedData) (ticket : ℕ) (v : Verdict) (ste
 by_version past work ticket v steps version safe_ judged_ is =
     let there = found_there _ (issued past.stages) ticket is.opened is.found in
     let good = program_safe past.opening.version (programs_of past) version is.program safe_ is.held in
-    let judges = judgement_judges is.program work.outcome good judged_.outcome in
+    let judges = judgement_judges is.program work.outcome good (fits_layout is.program.layout work.outcome judged_.outcome) in
     record {
       issued = is.opened;
       listed = there.0;
@@ -76,28 +75,10 @@ by_version past work ticket v steps version safe_ judged_ is =
       of_version = is.of_version;
       program = is.program;
       held = is.held;
-      meant = subst (λ (w : Verdict). Judges context_size is.program.slots work.outcome w steps) is.verdict_is (subst (λ (k : ℕ). Judges context_size is.program.slots work.outcome (judgement is.program work.outcome).verdict k) is.steps_are judges);
+      meant = subst (λ (w : Verdict). Judges (context_size is.program.layout) is.program.slots work.outcome w steps) is.verdict_is (subst (λ (k : ℕ). Judges (context_size is.program.layout) is.program.slots work.outcome (judgement is.program work.outcome).verdict k) is.steps_are judges);
     }
 
 pub meant_by : (past : Past) (event : EventData) (d : Decision) (work : JudgedData) (ticket : ℕ) (f : Fate) (v : Verdict) (steps version : ℕ) (st : State)
     → AreSafePrograms (programs_of past) → IsJudged work → Shape (situation_of past) event d → event ≡ finishes work ticket → d.reply ≡ reply.Finished f v steps version st
     → IsMeant past.opening.version (programs_of past) (issued past.stages) work ticket v steps version
-meant_by past event d work ticket f v steps version st safe_ judged_ (refuses number e room) same r = let bad : ◌≡◌ {A = Reply} (reply.Refused number) (reply.Finished f v steps version st) = sym e ∙ r in cc
-meant_by past event d work ticket f v steps version st safe_ judged_ (permits w s e p current room free given) same r = let bad : ◌≡◌ {A = Reply} (reply.Permitted (situation_of past).next_ticket w s) (reply.Finished f v steps version st) = sym p ∙ r in cc
-meant_by past event d work ticket f v steps version st safe_ judged_ (concludes other number g w k n s e p there present counted is) same r =
-    let events : ◌≡◌ {A = EventData} (finishes other number) (finishes work ticket) = sym e ∙ same in
-    let works : other ≡ work = cc in
-    let numbers : number ≡ ticket = cc in
-    let replies : ◌≡◌ {A = Reply} (reply.Finished g w k n s) (reply.Finished f v steps version st) = sym p ∙ r in
-    let verdicts : w ≡ v = cc in
-    let counts : k ≡ steps = cc in
-    let versions : n ≡ version = cc in
-    by_version past work ticket v steps version safe_ judged_
-    (subst (λ (x : JudgedData). IsByVersion (situation_of past) x ticket v steps version) works
-    (subst (λ (x : ℕ). IsByVersion (situation_of past) other x v steps version) numbers
-    (subst (λ (x : Verdict). IsByVersion (situation_of past) other number x steps version) verdicts
-    (subst (λ (x : ℕ). IsByVersion (situation_of past) other number w x version) counts
-    (subst (λ (x : ℕ). IsByVersion (situation_of past) other number w k x) versions is)))))
-meant_by past event d work ticket f v steps version st safe_ judged_ (lets_go number s e p there) same r = let bad : ◌≡◌ {A = Reply} (reply.Released s) (reply.Finished f v steps version st) = sym p ∙ r in cc
-meant_by past event d work ticket f v steps version st safe_ judged_ (takes_in program w budget e p less room) same r = let bad : ◌≡◌ {A = Reply} (reply.Installed w budget) (reply.Finished f v steps version st) = sym p ∙ r in cc
-meant_by past event d work ticket f v steps version st safe_ judged_ (turns s q p room) same r = let bad : ◌≡◌ {A = Reply} (reply.Moved s q) (reply.Finished f v steps version st) = sym p ∙ r in cc
+meant_by past event d work ticket f v steps version st safe_ judged_ a same r = search (rules, by_version)

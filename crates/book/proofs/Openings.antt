@@ -1,5 +1,5 @@
 -- A book that has just been opened, and what any book shows.
-use Rattle.std.proofs.Common.{◌≡◌, ℕ, suc, ◌+◌, ◌-◌, ◌≤◌, ◌⊎◌, inl, inr, List, [], length, None, Result, Ok, Err, arith, refl, ap, sym, ◌∙◌}
+use Rattle.std.proofs.Common.{◌≡◌, ℕ, suc, ◌+◌, ◌-◌, ◌≤◌, ◌⊎◌, inl, inr, List, [], length, None, Result, Ok, Err, arith, ap, sym, ◌∙◌, rules}
 use Rattle.book.specs.Safe.{IsSafeProgram}
 use Rattle.refusals.specs.declared.RefusalNumber.{RefusalNumber}
 use Rattle.refusals.specs.declared.RefusalNumber.TheVariants as refusal
@@ -21,52 +21,17 @@ use Rattle.book.specs.Sound.{IsSound}
 use Rattle.book.proofs.Applying.{same_opening, stage_count}
 
 pub sound_opened : (opening : Opening) (rolled : Rolled) → IsOpening opening → IsSafeProgram opening.program → IsSound (opened rolled opening)
-sound_opened opening rolled good program = record {
-  opening = good;
-  periods = tt;
-  period = omega arith;
-  ended = tt;
-  open_issued = tt;
-  few_issued = omega arith;
-  ticket_periods = tt;
-  places = omega arith;
-  permissions = λ h. omega arith;
-  used = omega arith;
-  versions = omega arith;
-  programs = (program, tt);
-  lines = tt;
-  verdicts = tt;
-  moment = good.moment;
-}
+sound_opened opening rolled good program = search rules
 
 pub is_first : (config : ConfigParts) (program : VerifiedProgram) → bad_field config ≡ None → IsOpening (first_opening config program)
-is_first config program good = record {
-  config = good;
-  version = omega arith;
-  first_version = omega arith;
-  period = omega arith;
-  first_period = omega arith;
-  ticket = omega arith;
-  first_ticket = omega arith;
-  line = omega arith;
-  first_line = omega arith;
-  moment = omega arith;
-}
+is_first config program good = search rules
 
 pub legal_opened : (opening : Opening) → IsLegal (history_of opening [])
 unfolding IsLegal
 legal_opened opening = tt
 
 pub first_book : (opening : Opening) (service : Service) → IsOpening opening → IsSafeProgram opening.program → StandsFor service 0 (situation_of (opened nothing_rolled opening)) → service.refused ≡ 0 → IsBook opening service opening.moment [] nothing_rolled
-first_book opening service good program stands none = record {
-  legal = legal_opened opening;
-  there = omega arith;
-  room = record { line = omega (arith, good.line); ticket = omega (arith, good.ticket); period = omega (arith, good.period); version = omega (arith, good.version) };
-  sound = sound_opened opening nothing_rolled good program;
-  situated = stands;
-  refused_calls = none;
-  greatest_moment = refl;
-}
+first_book opening service good program stands none = search (rules, legal_opened)
 
 -- ---- what a book shows
 
@@ -81,9 +46,7 @@ pub reads_so : (past : Past) (moment last : ℕ) (metrics : Metrics) (version bu
     → count ≡ length (situation_of past).open_tickets → free ≡ past.opening.config.max_concurrent_calls - length (situation_of past).open_tickets → not_permitted ≡ refused_of past → suc last ≡ next_line past
     → ◌≡◌ {A = Reading} (record { state = metrics.state; period = metrics.period; version = version; budget = budget; total = metrics.total; failed = metrics.failed; slow = metrics.slow; failure_rate = metrics.failure_rate; slow_rate = metrics.slow_rate; open_tickets = count; free = free; not_permitted = not_permitted; entries = last })
     (reading past moment)
-reads_so past moment last metrics version budget count free not_permitted a b c d e f g =
-    let before : last ≡ next_line past - 1 = omega (arith, g) in
-    rw (a, b, c, d, e, f, before) refl
+reads_so past moment last metrics version budget count free not_permitted a b c d e f g = search rules
 
 pub looked_there : (history : History) (ticket : ℕ) (program : VerifiedProgram) (r : Result VerifiedProgram RefusalNumber)
     → looked (situation_of (past_of history)) ticket ≡ Ok program → (r ≡ Ok program) ⊎ (r ≡ Err refusal.ServiceOutOfMemory) → IsLooked history ticket r

@@ -1,5 +1,5 @@
 -- In HALF_OPEN the permissions that are held and the notes are never more than the permitted number.
-use Rattle.std.proofs.Common.{◌≡◌, ℕ, ◌+◌, ◌≤◌, ◌<◌, ◌==◌, not, Bool, true, false, cond, if◌then◌else◌, List, [], ◌∷◌, ◌++◌, length, Option, Some, None, option_to_list, arith, refl, ap, sym, ◌∙◌, subst, length-append, append-nil}
+use Rattle.std.proofs.Common.{◌≡◌, ℕ, ◌+◌, ◌≤◌, ◌<◌, ◌==◌, not, Bool, true, false, cond, if◌then◌else◌, List, [], ◌∷◌, ◌++◌, length, Option, Some, None, option_to_list, arith, refl, ap, sym, ◌∙◌, subst, length-append, append-nil, rules}
 use Rattle.std.specs.List.{filter, AllByRecursion}
 use Rattle.std.proofs.lemmas.Bool.Decides.{Decides-eqb}
 use Rattle.std.proofs.lemmas.List.Elements.{filter-append}
@@ -11,51 +11,36 @@ use Rattle.service_profile.specs.declared.configuration.ConfigParts.{ConfigParts
 use Rattle.service_profile.specs.declared.decisions.Decision.{Decision}
 use Rattle.service_profile.specs.declared.tickets.OpenTicket.{OpenTicket}
 use Rattle.service_profile.specs.declared.replies.Fate.{Fate}
-use Rattle.service_profile.specs.declared.replies.Fate.TheVariants as fate
 use Rattle.service_profile.specs.declared.replies.Reply.{Reply}
 use Rattle.service_profile.specs.declared.replies.Reply.TheVariants as reply
 use Rattle.service_profile.specs.declared.states.State.{State}
 use Rattle.service_profile.specs.declared.notes.Note.{Note}
-use Rattle.service_profile.specs.Events.{EventData, acquires, finishes, releases, installs, moves, resets}
-use Rattle.book.specs.Following.{notes_after, is_number, tickets_after}
+use Rattle.service_profile.specs.Events.{EventData, finishes}
+use Rattle.book.specs.Following.{notes_after, tickets_after}
 use Rattle.service_profile.specs.Histories.{note_by, issue_by, end_by}
 use Rattle.service_profile.specs.Machine.{Situation, permissions_held, open_ticket}
 use Rattle.service_profile.specs.Standings.{is_half_open}
 use Rattle.book.proofs.Deciding.{Shape, refuses, permits, concludes, lets_go, takes_in, turns, IsNear, IsPresent}
 use Rattle.book.proofs.Lists.{length_filter_le, all_kept, all_kept_by, none_kept}
-use Rattle.book.proofs.Passing.{eqb_false, strictly}
+use Rattle.book.proofs.Passing.{strictly}
 
 -- ---- counting the tickets of a period
 
 pub held_append : (period : ℕ) (xs ys : List OpenTicket) → permissions_held period (xs ++ ys) ≡ permissions_held period xs + permissions_held period ys
-held_append period xs ys =
-    ap length (filter-append (λ (t : OpenTicket). t.period == period) xs ys)
-    ∙ length-append (filter (λ (t : OpenTicket). t.period == period) xs) (filter (λ (t : OpenTicket). t.period == period) ys)
+held_append period xs ys = search (rules, filter-append, length-append)
 
 held_one : (period : ℕ) (t : OpenTicket) → permissions_held period (t ∷ []) ≤ 1
 held_one period t = length_filter_le (λ (u : OpenTicket). u.period == period) (t ∷ [])
 
-kept_count : (a b : Bool) (xs ys : List OpenTicket) (t : OpenTicket) (test : OpenTicket → Bool) → test t ≡ a → length (filter test xs) ≤ length (filter test ys) → length (filter test (cond b (t ∷ xs) xs)) ≤ length (filter test (t ∷ ys))
-kept_count true true xs ys t test e le = rw e (omega (arith, le))
-kept_count true false xs ys t test e le = rw e (omega (arith, le))
-kept_count false true xs ys t test e le = rw e le
-kept_count false false xs ys t test e le = rw e le
-
 -- dropping tickets holds no more
 held_kept : (period : ℕ) (keep : OpenTicket → Bool) (xs : List OpenTicket) → permissions_held period (filter keep xs) ≤ permissions_held period xs
 held_kept period keep [] = omega arith
-held_kept period keep (t ∷ xs) = kept_count (t.period == period) (keep t) (filter keep xs) xs t (λ (u : OpenTicket). u.period == period) refl (held_kept period keep xs)
+held_kept period keep (t ∷ xs) = search (rules, held_kept period keep xs)
 
 dropped_count : (a b : Bool) (xs ys : List OpenTicket) (t u : OpenTicket) (later : Option OpenTicket) (test : OpenTicket → Bool) → test t ≡ a → test u ≡ true
     → length (filter test xs) ≤ length (filter test ys) → (later ≡ Some u → length (filter test xs) + 1 ≤ length (filter test ys)) → (if b then Some t else later) ≡ Some u
     → length (filter test (cond (not b) (t ∷ xs) xs)) + 1 ≤ length (filter test (t ∷ ys))
-dropped_count true true xs ys t u later test e f le on same = rw e (omega (arith, le))
-dropped_count false true xs ys t u later test e f le on same =
-    let is : ◌≡◌ {A = Option OpenTicket} (Some t) (Some u) = same in
-    let is_u : t ≡ u = cc in
-    let bad : ◌≡◌ {A = Bool} false true = sym e ∙ ap test is_u ∙ f in cc
-dropped_count true false xs ys t u later test e f le on same = rw e (omega (arith, on same))
-dropped_count false false xs ys t u later test e f le on same = rw e (on same)
+dropped_count a b xs ys t u later test e f le on same = search rules
 
 -- dropping a ticket of the period holds one less
 held_dropped : (period number : ℕ) (xs : List OpenTicket) (t : OpenTicket) → open_ticket xs number ≡ Some t → t.period ≡ period
@@ -80,36 +65,16 @@ held_after_end period tickets n = ap (permissions_held period) (append-nil (filt
 -- ---- which replies make no note
 
 pub note_refused : (config : ConfigParts) (moment : ℕ) (event : EventData) (number : RefusalNumber) → note_by config moment event (reply.Refused number) ≡ None
-note_refused config moment acquires number = refl
-note_refused config moment (finishes work ticket) number = refl
-note_refused config moment (releases ticket) number = refl
-note_refused config moment (installs program) number = refl
-note_refused config moment (moves to) number = refl
-note_refused config moment resets number = refl
+note_refused config moment event number = search rules
 
 pub note_moved : (config : ConfigParts) (moment : ℕ) (event : EventData) (s : State) (period : ℕ) → note_by config moment event (reply.Moved s period) ≡ None
-note_moved config moment acquires s period = refl
-note_moved config moment (finishes work ticket) s period = refl
-note_moved config moment (releases ticket) s period = refl
-note_moved config moment (installs program) s period = refl
-note_moved config moment (moves to) s period = refl
-note_moved config moment resets s period = refl
+note_moved config moment event s period = search rules
 
 end_none : (event : EventData) (number : RefusalNumber) → end_by event (reply.Refused number) ≡ None
-end_none acquires number = refl
-end_none (finishes work ticket) number = refl
-end_none (releases ticket) number = refl
-end_none (installs program) number = refl
-end_none (moves to) number = refl
-end_none resets number = refl
+end_none event number = search rules
 
 end_none_moved : (event : EventData) (s : State) (period : ℕ) → end_by event (reply.Moved s period) ≡ None
-end_none_moved acquires s period = refl
-end_none_moved (finishes work ticket) s period = refl
-end_none_moved (releases ticket) s period = refl
-end_none_moved (installs program) s period = refl
-end_none_moved (moves to) s period = refl
-end_none_moved resets s period = refl
+end_none_moved event s period = search rules
 
 -- ---- a line in the same period
 
@@ -123,15 +88,7 @@ concluded_left : (s : Situation) (work : JudgedData) (ticket : ℕ) (f : Fate) (
     → (next : Standing) → IsPresent s next ticket f → next.period ≡ s.standing.period
     → permissions_held s.standing.period s.open_tickets + length s.notes ≤ limit
     → Left s (finishes work ticket) (reply.Finished f v steps version st) period moment ≤ limit
-concluded_left s work ticket fate.Recorded v steps version st period moment limit next present same le =
-    let t = present refl same in
-    omega (arith, le, held_after_end s.standing.period s.open_tickets ticket, held_dropped s.standing.period ticket s.open_tickets t.0 t.1 t.2, length-append s.notes (option_to_list (note_by s.config moment (finishes work ticket) (reply.Finished fate.Recorded v steps version st))))
-concluded_left s work ticket fate.Ignored v steps version st period moment limit next present same le =
-    omega (arith, le, held_after_end s.standing.period s.open_tickets ticket, held_kept s.standing.period (λ (t : OpenTicket). not (t.number == ticket)) s.open_tickets, no_more_notes s.notes)
-concluded_left s work ticket fate.Off v steps version st period moment limit next present same le =
-    omega (arith, le, held_after_end s.standing.period s.open_tickets ticket, held_kept s.standing.period (λ (t : OpenTicket). not (t.number == ticket)) s.open_tickets, no_more_notes s.notes)
-concluded_left s work ticket fate.Stale v steps version st period moment limit next present same le =
-    omega (arith, le, held_after_end s.standing.period s.open_tickets ticket, held_kept s.standing.period (λ (t : OpenTicket). not (t.number == ticket)) s.open_tickets, no_more_notes s.notes)
+concluded_left s work ticket f v steps version st period moment limit next present same le = search (rules, held_after_end, held_dropped, length-append, held_kept)
 
 left_there : (s : Situation) (event : EventData) (d : Decision) (moment : ℕ) → Shape s event d → d.next ≡ s.standing → is_half_open d.next.state ≡ true
     → permissions_held s.standing.period s.open_tickets + length s.notes ≤ s.config.permitted_number_of_calls_in_half_open_state
@@ -145,24 +102,16 @@ left_there s event d moment (concludes work ticket f v steps version st e r ther
     rw (e, r) (concluded_left s work ticket f v steps version st d.next.period moment s.config.permitted_number_of_calls_in_half_open_state d.next present (ap (λ (x : Standing). x.period) same) le)
 left_there s event d moment (lets_go ticket st e r there) same half le =
     rw (e, r) (omega (arith, le, held_after_end s.standing.period s.open_tickets ticket, held_kept s.standing.period (λ (t : OpenTicket). not (t.number == ticket)) s.open_tickets, no_more_notes s.notes))
-left_there s event d moment (takes_in program version budget e r less room) same half le =
+left_there s event d moment (takes_in program version budget layout e r less room) same half le =
     rw (e, r) (omega (arith, le, held_after_none s.standing.period s.open_tickets, no_more_notes s.notes))
 left_there s event d moment (turns st p e room) same half le =
     rw (e, end_none_moved event st p, note_moved s.config moment event st p) (omega (arith, le, held_after_none s.standing.period s.open_tickets, no_more_notes s.notes))
 
 -- ---- a line that begins a period
 
-held_option : (period : ℕ) (o : Option OpenTicket) → permissions_held period (option_to_list o) ≤ 1
-held_option period None = omega arith
-held_option period (Some t) = held_one period t
-
 held_later : (period later : ℕ) (tickets : List OpenTicket) (e : Option ℕ) (o : Option OpenTicket) → AllByRecursion (λ ticket. ticket.period ≤ period) tickets → period < later
     → permissions_held later (tickets_after tickets e o) ≤ 1
-held_later period later tickets e o all less =
-    let kept : List OpenTicket = filter (λ (t : OpenTicket). not (is_number e t.number)) tickets in
-    let none = none_kept (λ (t : OpenTicket). t.period == later) (λ (t : OpenTicket). t.period ≤ period) (λ t h. eqb_false t.period later (omega (arith, h, less))) kept
-    (all_kept_by (λ (t : OpenTicket). t.period ≤ period) (λ (t : OpenTicket). not (is_number e t.number)) tickets all) in
-    omega (arith, held_append later kept (option_to_list o), ap length none, held_option later o)
+held_later period later tickets e o all less = search (rules, none_kept, all_kept_by, held_append)
 
 by_period : (s : Situation) (event : EventData) (d : Decision) (moment : ℕ) (test : Bool) → (d.next.period == s.standing.period) ≡ test → Shape s event d → IsNear s.standing d.next 2
     → AllByRecursion (λ ticket. ticket.period ≤ s.standing.period) s.open_tickets → 1 ≤ s.config.permitted_number_of_calls_in_half_open_state

@@ -1,5 +1,5 @@
 -- The pieces that rolls hand out.
-use Rattle.std.proofs.Common.{◌≡◌, ℕ, ◌+◌, ◌-◌, ◌≤◌, Bool, true, false, if◌then◌else◌, List, [], ◌∷◌, ◌++◌, length, take, drop, Ok, Err, arith, refl, ap, sym, ◌∙◌, length-append, append_assoc, append-nil}
+use Rattle.std.proofs.Common.{◌≡◌, ℕ, ◌+◌, ◌-◌, ◌≤◌, Bool, true, false, if◌then◌else◌, List, [], ◌∷◌, ◌++◌, length, take, drop, Ok, Err, arith, refl, ap, sym, ◌∙◌, length-append, append_assoc, append-nil, rules}
 use Rattle.std.proofs.lemmas.List.{take-append-drop, drop-append-le, drop-drop}
 use Rattle.refusals.specs.declared.RefusalNumber.TheVariants as refusal
 use Rattle.service_profile.specs.Answers.{answer, line_of, with_line, applied, is_worn_out, count_up_to, lines_up_to, after_roll, rolled_up_to, held_lines}
@@ -18,15 +18,12 @@ grown_by true h l = (l ∷ [], refl)
 grown_by false h l = ([], sym (append-nil h.lines))
 
 rolled_grown : (worn : Bool) (h : History) (last : ℕ) → Grows (after_roll h last (if worn then Err refusal.JournalFull else Ok (lines_up_to h last))).lines h.lines
-rolled_grown true h last = ([], sym (append-nil h.lines))
-rolled_grown false h last = ([], sym (append-nil h.lines))
+rolled_grown worn h last = search rules
 
 step_grown : (h : History) (ask : Ask) → Grows (after_ask h ask).lines h.lines
 step_grown h (gives seat moment event) = grown_by (is_entered (answer h moment event).reply) h (line_of h seat moment event)
-step_grown h (looks ticket) = ([], sym (append-nil h.lines))
-step_grown h (reads moment) = ([], sym (append-nil h.lines))
-step_grown h (pages from) = ([], sym (append-nil h.lines))
 step_grown h (rolls_up_to last) = rolled_grown (is_worn_out (past_of h)) h last
+step_grown h ask = ([], sym (append-nil h.lines))
 
 run_grown : (h : History) (rest : List Ask) → Grows (history_after h rest).lines h.lines
 run_grown h [] = ([], sym (append-nil h.lines))

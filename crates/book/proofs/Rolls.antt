@@ -1,14 +1,13 @@
 -- A book that is rolled.
-use Rattle.std.proofs.Common.{◌≡◌, ℕ, suc, ◌+◌, ◌-◌, ◌≤◌, ◌<◌, ◌^◌, max, min, Bool, false, if◌then◌else◌, List, [], ◌∷◌, ◌++◌, length, take, drop, Vec, Ok, Err, arith, refl, ap, sym, ◌∙◌, subst, length-append, append_assoc, append-nil}
+use Rattle.std.proofs.Common.{◌≡◌, ℕ, suc, ◌+◌, ◌-◌, ◌≤◌, ◌<◌, max, min, Bool, false, if◌then◌else◌, List, [], ◌∷◌, ◌++◌, length, take, drop, Vec, Ok, Err, arith, refl, ap, sym, ◌∙◌, subst, length-append, append_assoc, append-nil, rules}
 use Rattle.std.specs.declared.alloc.Global.{Global}
-use Rattle.std.proofs.lemmas.Bool.{ltb-false}
 use Rattle.std.proofs.lemmas.List.{take-append-drop, length-take-le}
 use Rattle.refusals.specs.declared.RefusalNumber.TheVariants as refusal
 use Rattle.service_profile.specs.declared.configuration.ConfigParts.{ConfigParts}
 use Rattle.service_profile.specs.Events.{EntryData, Opening, Rolled, History, rolled_to}
-use Rattle.service_profile.specs.Histories.{Past, past_of, situation_of, next_line, greatest, refused_of}
-use Rattle.service_profile.specs.Machine.{Situation, current_version}
-use Rattle.service_profile.specs.Answers.{count_unneeded, is_past_the_limit, is_worn_out, held_lines, count_up_to, lines_up_to, roll, after_roll, IsRolled, rolls, no_room}
+use Rattle.service_profile.specs.Histories.{Past, past_of, situation_of, greatest, refused_of}
+use Rattle.service_profile.specs.Machine.{Situation}
+use Rattle.service_profile.specs.Answers.{count_unneeded, is_worn_out, held_lines, count_up_to, lines_up_to, roll, IsRolled, no_room}
 use Rattle.book.specs.declared.books.Start.{Start}
 use Rattle.book.specs.declared.service.Service.{Service}
 use Rattle.book.specs.Books.{IsBook, all_lines, lines_handed, journal, opening_of, rolled_of}
@@ -19,7 +18,7 @@ use Rattle.book.specs.Sound.{IsSound, LeavesRoom}
 use Rattle.book.proofs.Applying.{stage_count, same_opening, same_rolled}
 use Rattle.book.proofs.Rolled.{holding, rolled_legal}
 use Rattle.book.proofs.Versions.{dropped_told}
-use Rattle.book.proofs.Worlds.{none_of, sound_rolled}
+use Rattle.book.proofs.Worlds.{sound_rolled}
 
 -- ---- the lines stay
 
@@ -29,10 +28,7 @@ more_handed (p ∷ pieces) piece = ap (λ (ls : List EntryData). p.items ++ ls) 
 
 pub lines_stay : (pieces : List (Vec EntryData Global)) (piece : Vec EntryData Global) (entries staying : List EntryData) (count : ℕ) → piece.items ≡ take count entries → staying ≡ drop count entries
     → all_lines (pieces ++ piece ∷ []) staying ≡ all_lines pieces entries
-lines_stay pieces piece entries staying count first rest =
-    ap (λ (ls : List EntryData). ls ++ staying) (more_handed pieces piece)
-    ∙ append_assoc (lines_handed pieces) piece.items staying
-    ∙ ap (λ (ls : List EntryData). lines_handed pieces ++ ls) (ap (λ (ls : List EntryData). ls ++ staying) first ∙ ap (λ (ls : List EntryData). take count entries ++ ls) rest ∙ take-append-drop count entries)
+lines_stay pieces piece entries staying count first rest = search (rules, more_handed, append_assoc, take-append-drop)
 
 pub handed_count : (pieces : List (Vec EntryData Global)) (piece : Vec EntryData Global) (rolled count : ℕ) → rolled ≡ length (lines_handed pieces) → length piece.items ≡ count → rolled + count ≡ length (lines_handed (pieces ++ piece ∷ []))
 handed_count pieces piece rolled count is e = omega (arith, is, e, ap length (more_handed pieces piece), length-append (lines_handed pieces) piece.items)
@@ -40,25 +36,11 @@ handed_count pieces piece rolled count is e = omega (arith, is, e, ap length (mo
 -- ---- what the history says
 
 stands_holding : (service : Service) (held n : ℕ) (s : Situation) → StandsFor service held s → StandsFor service n (holding n s)
-stands_holding service held n s stands = record {
-  configured = stands.configured;
-  stands = stands.stands;
-  places = stands.places;
-  registered = record { first = stands.registered.first; some = stands.registered.some; versions = stands.registered.versions; needed = stands.registered.needed; tickets = stands.registered.tickets; next = stands.registered.next };
-  entered = refl;
-}
+stands_holding service held n s stands = search rules
 
 -- where no number is past its limit there is room
 room_there : (past : Past) (rolled : Rolled) → is_worn_out past ≡ false → LeavesRoom (with_rolled rolled past)
-room_there past rolled e =
-    let a = none_of (is_past_the_limit (next_line past)) _ e in
-    let b = none_of (is_past_the_limit (situation_of past).next_ticket) _ a.1 in
-    let c = none_of (is_past_the_limit (suc past.standing.period)) (is_past_the_limit (suc (current_version (situation_of past)))) b.1 in
-    let line = ltb-false (2 ^ 63) (next_line past) a.0 in
-    let ticket = ltb-false (2 ^ 63) (situation_of past).next_ticket b.0 in
-    let period = ltb-false (2 ^ 63) (suc past.standing.period) c.0 in
-    let version = ltb-false (2 ^ 63) (suc (current_version (situation_of past))) c.1 in
-    record { line = omega (arith, line); ticket = omega (arith, ticket); period = omega (arith, period); version = omega (arith, version) }
+room_there past rolled e = search rules
 
 abbrev pub more_taken : Opening → List EntryData → Rolled → ℕ → Rolled
 more_taken opening lines rolled count = record { lines = rolled.lines + count; programs = count_unneeded (situation_of (past_of (journal opening lines rolled))) }
@@ -116,9 +98,7 @@ pub roll_there : (history : History) (last : ℕ) → is_worn_out (past_of histo
 roll_there history last fresh = ap (λ (b : Bool). if b then Err refusal.JournalFull else Ok (lines_up_to history last)) fresh
 
 up_to : (history : History) (last count : ℕ) (entries : List EntryData) → count_up_to history last ≡ history.rolled.lines + count → held_lines history ≡ entries → lines_up_to history last ≡ take count entries
-up_to history last count entries e held =
-    let same : count_up_to history last - history.rolled.lines ≡ count = omega (arith, e) in
-    ap (λ (n : ℕ). take n (held_lines history)) same ∙ ap (take count) held
+up_to history last count entries e held = search rules
 
 -- the history after a roll of so many lines
 abbrev pub rolled_by : ℕ → History → History
@@ -126,10 +106,7 @@ rolled_by count history = rolled_to (more_taken history.opening history.lines hi
 
 pub rolled_well : (history after : History) (last count : ℕ) (piece entries : List EntryData) → is_worn_out (past_of history) ≡ false → count_up_to history last ≡ history.rolled.lines + count → held_lines history ≡ entries
     → piece ≡ take count entries → after ≡ rolled_by count history → IsRolled history last (Ok piece) after
-rolled_well history after last count piece entries fresh e held is then_ =
-    let done = roll_there history last fresh in
-    rolls (ap Ok (is ∙ sym (up_to history last count entries e held)) ∙ sym done)
-    (then_ ∙ ap (λ (n : ℕ). rolled_to (record { lines = n; programs = count_unneeded (situation_of (past_of history)) }) history) (sym e) ∙ ap (after_roll history last) (sym done))
+rolled_well history after last count piece entries fresh e held is then_ = search rules
 
 pub no_room_there : (history after : History) (last count : ℕ) (entries : List EntryData) → is_worn_out (past_of history) ≡ false → count_up_to history last ≡ history.rolled.lines + count → held_lines history ≡ entries → count < length entries → after ≡ history
     → IsRolled history last (Err refusal.ServiceOutOfMemory) after

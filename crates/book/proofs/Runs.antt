@@ -1,37 +1,30 @@
 -- What is told with rolls among all that is asked, and without them.
-use Rattle.std.proofs.Common.{◌≡◌, sym, ℕ, ◌-◌, ◌⊎◌, inl, inr, max, Bool, true, false, if◌then◌else◌, List, [], ◌∷◌, take, drop, Ok, Err, arith, refl, ap, ◌∙◌, subst}
-use Rattle.std.proofs.Math.Nat.{le-max_right}
+use Rattle.std.proofs.Common.{◌≡◌, sym, ℕ, ◌-◌, ◌⊎◌, max, Bool, true, false, if◌then◌else◌, List, [], ◌∷◌, take, drop, Ok, Err, arith, refl, ap, ◌∙◌, subst, rules}
 use Rattle.refusals.specs.declared.RefusalNumber.TheVariants as refusal
 use Rattle.service_profile.specs.declared.decisions.Decision.{Decision}
 use Rattle.service_profile.specs.declared.replies.Reply.TheVariants as reply
 use Rattle.service_profile.specs.Answers.{answer, line_of, with_line, applied, looked, reading, is_worn_out, taken_up_to, lines_up_to, after_roll}
-use Rattle.service_profile.specs.Events.{EventData, EntryData, Rolled, History, rolled_to}
-use Rattle.service_profile.specs.Histories.{Past, past_of, situation_of, machine, raised, greatest, next_line, IsLegal}
+use Rattle.service_profile.specs.Events.{EventData, Rolled, History, rolled_to}
+use Rattle.service_profile.specs.Histories.{Past, past_of, situation_of, machine, raised, IsLegal}
 use Rattle.service_profile.specs.Machine.{is_entered}
-use Rattle.book.specs.Rolling.{IsFurther, with_rolled}
-use Rattle.book.specs.Rolling.{Ask, gives, looks, reads, pages, rolls_up_to, Told, replied, found, shown, paged, told, after_ask, history_after, heard, without_rolls, NeverFull, PagesAreHeld}
+use Rattle.book.specs.Rolling.{Ask, gives, looks, reads, pages, rolls_up_to, Told, replied, found, shown, paged, told, after_ask, history_after, heard, without_rolls, NeverFull, PagesAreHeld, IsFurther, with_rolled}
 use Rattle.book.proofs.Applying.{legal_step, same_rolled}
-use Rattle.book.proofs.Rolled.{SaysNoRoom, journal_full, versions_full, machine_further, rolled_legal, roll_goes_further}
+use Rattle.book.proofs.Rolled.{SaysNoRoom, machine_further, rolled_legal, roll_goes_further}
 
 -- ---- one event
 
 line_legal : (history : History) (seat moment : ℕ) (event : EventData) → IsLegal history → is_entered (answer history moment event).reply ≡ true → IsLegal (with_line history (line_of history seat moment event))
-line_legal history seat moment event legal entered =
-    legal_step history.opening history.lines history.rolled (line_of history seat moment event) legal
-    (record { numbered = refl; raises = le-max_right moment (greatest (past_of history)); replied = refl; entered = entered })
+line_legal history seat moment event legal entered = search (rules, legal_step)
 
 applied_by : (entered : Bool) (history : History) (seat moment : ℕ) (event : EventData) → is_entered (answer history moment event).reply ≡ entered → IsLegal history
     → IsLegal (if entered then with_line history (line_of history seat moment event) else history)
-applied_by true history seat moment event e legal = line_legal history seat moment event legal e
-applied_by false history seat moment event e legal = legal
+applied_by entered history seat moment event e legal = search (rules, line_legal)
 
 applied_legal : (history : History) (seat moment : ℕ) (event : EventData) → IsLegal history → IsLegal (applied history seat moment event)
 applied_legal history seat moment event legal = applied_by (is_entered (answer history moment event).reply) history seat moment event refl legal
 
 full_or_same : (d e : Decision) → SaysNoRoom d ⊎ (e ≡ d) → (d.reply ≡ reply.Refused refusal.JournalFull → ⊥) → (d.reply ≡ reply.Refused refusal.VersionsFull → ⊥) → e ≡ d
-full_or_same d e (inl (journal_full f)) h g = absurd (h f)
-full_or_same d e (inl (versions_full f)) h g = absurd (g f)
-full_or_same d e (inr f) h g = f
+full_or_same d e a h g = search rules
 
 past_rolled : (history : History) (rolled : Rolled) → IsLegal history → IsFurther history.rolled rolled → past_of (rolled_to rolled history) ≡ with_rolled rolled (past_of history)
 past_rolled history rolled legal le = (rolled_legal history rolled legal le).1
@@ -44,23 +37,14 @@ same_answer history rolled moment event legal le roomy versioned =
     ∙ full_or_same (answer history moment event) (machine (with_rolled rolled past) (raised past moment) event) (machine_further past rolled (raised past moment) event further) roomy versioned
 
 chosen_rolled : (test : Bool) (rolled : Rolled) (a b : History) → (if test then rolled_to rolled a else rolled_to rolled b) ≡ rolled_to rolled (if test then a else b)
-chosen_rolled true rolled a b = refl
-chosen_rolled false rolled a b = refl
+chosen_rolled test rolled a b = search rules
 
 same_applied : (history : History) (rolled : Rolled) (seat moment : ℕ) (event : EventData) → IsLegal history → IsFurther history.rolled rolled → answer (rolled_to rolled history) moment event ≡ answer history moment event
     → applied (rolled_to rolled history) seat moment event ≡ rolled_to rolled (applied history seat moment event)
-same_applied history rolled seat moment event legal le same =
-    let past : Past = past_of history in
-    let line : line_of (rolled_to rolled history) seat moment event ≡ line_of history seat moment event =
-    ap (λ (d : Decision). record { number = next_line (past_of (rolled_to rolled history)); seat = seat; event = event; moment = raised (past_of (rolled_to rolled history)) moment; reply = d.reply }) same
-    ∙ ap (λ (p : Past). record { number = next_line p; seat = seat; event = event; moment = raised p moment; reply = (answer history moment event).reply }) (past_rolled history rolled legal le) in
-    ap (λ (d : Decision). if is_entered d.reply then with_line (rolled_to rolled history) (line_of (rolled_to rolled history) seat moment event) else rolled_to rolled history) same
-    ∙ ap (λ (l : EntryData). if is_entered (answer history moment event).reply then with_line (rolled_to rolled history) l else rolled_to rolled history) line
-    ∙ chosen_rolled (is_entered (answer history moment event).reply) rolled (with_line history (line_of history seat moment event)) history
+same_applied history rolled seat moment event legal le same = search (rules, past_rolled)
 
 kept_rolled : (test : Bool) (a b : History) → a.rolled ≡ b.rolled → (if test then a else b).rolled ≡ b.rolled
-kept_rolled true a b e = e
-kept_rolled false a b e = refl
+kept_rolled test a b e = search rules
 
 pub applied_keeps : (history : History) (seat moment : ℕ) (event : EventData) → (applied history seat moment event).rolled ≡ history.rolled
 applied_keeps history seat moment event = kept_rolled (is_entered (answer history moment event).reply) (with_line history (line_of history seat moment event)) history refl

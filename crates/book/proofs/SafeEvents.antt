@@ -1,6 +1,6 @@
 -- From what operators can meet to what is safe: programs, events and lines.
-use Rattle.std.proofs.Common.{◌≡◌, ℕ, List, subst}
-use Rattle.bpf_profile.specs.Limits.{context_size}
+use Rattle.std.proofs.Common.{ℕ, List, rules}
+use Rattle.bpf_profile.specs.Layouts.{context_size}
 use Rattle.bpf_profile.specs.Safety.{IsSafe}
 use Rattle.bpf_profile.specs.JudgedWork.{JudgedData}
 use Rattle.bpf_profile.specs.Programs.{VerifiedProgram}
@@ -12,7 +12,7 @@ use Rattle.book.specs.Safe.{IsVerifiedProgram, IsSafeProgram, IsJudged, IsSafeEv
 
 -- what decoding, flow and the analysis accept is safe: a law of the verifier
 abbrev pub Safely : Type 0
-Safely = (bytes : List ℕ) (program : VerifiedProgram) → IsVerification bytes program → IsSafe context_size program.slots program.budget
+Safely = (bytes : List ℕ) (program : VerifiedProgram) → IsVerification bytes program → IsSafe (context_size program.layout) program.slots program.budget
 
 pub safe_program : Safely → (program : VerifiedProgram) → IsVerifiedProgram program → IsSafeProgram program
 safe_program safely program verified_ = record { verified = verified_; program_there = verified_.1.spelled.program; safe = safely verified_.0 program verified_.1 }
@@ -32,39 +32,21 @@ line_safe safely line good = record { word = good.word; seat = good.seat; event 
 -- ---- events that bring no program and no work
 
 pub acquire_safe : IsSafeEvent acquires
-acquire_safe = record {
-  installs_safe = λ program e. (let bad : ◌≡◌ {A = EventData} acquires (installs program) = e in cc);
-  judged = λ work ticket e. (let bad : ◌≡◌ {A = EventData} acquires (finishes work ticket) = e in cc);
-}
+acquire_safe = search rules
 
 pub release_safe : (number : ℕ) → IsSafeEvent (releases number)
-release_safe number = record {
-  installs_safe = λ program e. (let bad : ◌≡◌ {A = EventData} (releases number) (installs program) = e in cc);
-  judged = λ work ticket e. (let bad : ◌≡◌ {A = EventData} (releases number) (finishes work ticket) = e in cc);
-}
+release_safe number = search rules
 
 pub move_safe : (to : State) → IsSafeEvent (moves to)
-move_safe to = record {
-  installs_safe = λ program e. (let bad : ◌≡◌ {A = EventData} (moves to) (installs program) = e in cc);
-  judged = λ work ticket e. (let bad : ◌≡◌ {A = EventData} (moves to) (finishes work ticket) = e in cc);
-}
+move_safe to = search rules
 
 pub reset_safe : IsSafeEvent resets
-reset_safe = record {
-  installs_safe = λ program e. (let bad : ◌≡◌ {A = EventData} resets (installs program) = e in cc);
-  judged = λ work ticket e. (let bad : ◌≡◌ {A = EventData} resets (finishes work ticket) = e in cc);
-}
+reset_safe = search rules
 
 -- ---- events that bring a safe program, or judged work
 
 pub install_safe : (program : VerifiedProgram) → IsSafeProgram program → IsSafeEvent (installs program)
-install_safe program good = record {
-  installs_safe = λ other e. (let same : program ≡ other = cc in subst IsSafeProgram same good);
-  judged = λ work ticket e. (let bad : ◌≡◌ {A = EventData} (installs program) (finishes work ticket) = e in cc);
-}
+install_safe program good = search rules
 
 pub finish_safe : (work : JudgedData) (ticket : ℕ) → IsJudged work → IsSafeEvent (finishes work ticket)
-finish_safe work ticket good = record {
-  installs_safe = λ program e. (let bad : ◌≡◌ {A = EventData} (finishes work ticket) (installs program) = e in cc);
-  judged = λ other number e. (let same : work ≡ other = cc in subst IsJudged same good);
-}
+finish_safe work ticket good = search rules

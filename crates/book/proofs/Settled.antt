@@ -1,10 +1,9 @@
 -- Where a service's parts stand after each change.
-use Rattle.std.proofs.Common.{◌≡◌, ℕ, ◌+◌, ◌-◌, ◌≤◌, ◌<◌, ◌==◌, nat_le, nat_lt, ◌&&◌, not, Bool, true, false, if◌then◌else◌, List, [], ◌∷◌, ◌++◌, Option, Some, None, option_to_list, Result, Ok, Err, arith, refl, ap, sym, ◌∙◌, subst, append-nil}
-use Rattle.std.specs.List.{filter, AllByRecursion}
+use Rattle.std.proofs.Common.{◌≡◌, ℕ, ◌+◌, ◌-◌, ◌≤◌, ◌<◌, ◌==◌, nat_le, nat_lt, ◌&&◌, Bool, true, false, if◌then◌else◌, List, [], ◌∷◌, ◌++◌, Option, Some, None, option_to_list, Result, Ok, Err, arith, refl, ap, sym, ◌∙◌, append-nil, rules}
+use Rattle.std.specs.List.{AllByRecursion}
 use Rattle.std.specs.Option.{option_map, IfSome, OnSome}
-use Rattle.std.specs.Result.{OnOk, OnErr}
+use Rattle.std.specs.Result.{OnErr}
 use Rattle.service_profile.specs.Windows.{one_where}
-use Rattle.std.proofs.lemmas.Bool.{lt-ltb}
 use Rattle.std.proofs.lemmas.Bool.Decides.{Decides-eqb}
 use Rattle.bpf_profile.specs.Programs.{VerifiedProgram}
 use Rattle.breaker.specs.Calls as calls
@@ -21,12 +20,12 @@ use Rattle.service_profile.specs.declared.tickets.OpenTicket.{OpenTicket}
 use Rattle.service_profile.specs.Answers.{looked, looked_under, looked_up}
 use Rattle.service_profile.specs.Machine.{Situation, open_ticket, permissions_held}
 use Rattle.book.specs.declared.plans.Effects.{Effects}
-use Rattle.book.specs.Following.{admitted, changed_by, followed, installed_in, is_number, one_where_some, standing_so, tickets_after, with_ticket, without}
+use Rattle.book.specs.Following.{admitted, changed_by, followed, installed_in, one_where_some, standing_so, tickets_after, with_ticket, without}
 use Rattle.book.specs.Situations.{AreEffects, IsLater, IsOrderly, IsRegistered, next_open, breaker_of}
 use Rattle.book.proofs.Held.{held_ended, held_issued, none_held}
 use Rattle.book.proofs.Lists.{all_append, all_kept, all_kept_by, length_filter_le}
 use Rattle.book.proofs.Passing.{strictly}
-use Rattle.book.proofs.Versions.{current_same, current_held, program_same, found_keeps}
+use Rattle.book.proofs.Versions.{current_same, program_same, found_keeps}
 
 -- ---- the breaker
 
@@ -46,12 +45,7 @@ stand_followed s next made later periods = stand_by (next.period == s.standing.p
 
 back_by : (test : Bool) (s : Situation) (less : ℕ) → less + (if test then 1 else 0) ≡ permissions_held s.standing.period s.open_tickets
     → ◌≡◌ {A = BreakerSituation} (if test then calls.without_permission (breaker_of s) else breaker_of s) (record { config = s.config; standing = s.standing; notes = s.notes; held = less })
-back_by true s less e =
-    let is : permissions_held s.standing.period s.open_tickets - 1 ≡ less = omega (arith, e) in
-    ap (λ (n : ℕ). record { config = s.config; standing = s.standing; notes = s.notes; held = n }) is
-back_by false s less e =
-    let is : permissions_held s.standing.period s.open_tickets ≡ less = omega (arith, e) in
-    ap (λ (n : ℕ). record { config = s.config; standing = s.standing; notes = s.notes; held = n }) is
+back_by test s less e = search rules
 
 -- the permission of the ticket that ends is given back
 pub stand_without : (s : Situation) (number : ℕ) (t : OpenTicket) → Ascend s.open_tickets → open_ticket s.open_tickets number ≡ Some t → calls.given_back t.period (breaker_of s) ≡ breaker_of (without s (Some number))
@@ -62,67 +56,34 @@ stand_with s t e = ap (λ (n : ℕ). record { config = s.config; standing = s.st
 
 -- a breaker after a permission is taken
 pub one_taken : (before after : HeldBreaker) (s : BreakerSituation) → after ≡ record before { held = before.held + 1 } → breakers.StandsFor before s → breakers.StandsFor after (calls.with_permission s)
-one_taken before after s e stands =
-    subst (λ (b : HeldBreaker). breakers.StandsFor b (calls.with_permission s)) (sym e)
-    (record { configured = stands.configured; standing = stands.standing; held = ap (λ (n : ℕ). n + 1) stands.held; notes = stands.notes })
+one_taken before after s e stands = search rules
 
 -- ---- the bulkhead
 
 pub place_taken : (before after : Taken) (places taken : ℕ) → before ≡ record { places = places; taken = taken } → after ≡ entered before → taken < places → after ≡ record { places = places; taken = taken + 1 }
-place_taken before after places taken is e free = e ∙ ap entered is ∙ entered_free (nat_lt taken places) _ _ (lt-ltb taken places free)
-  where
-    entered_free : {A : Type 0} (b : Bool) (x y : A) → b ≡ true → (if b then x else y) ≡ x
-    entered_free true x y h = refl
-    entered_free false x y h = let bad : ◌≡◌ {A = Bool} false true = h in cc
+place_taken before after places taken is e free = search rules
 
 pub place_given : (before after : Taken) (places taken less : ℕ) → before ≡ record { places = places; taken = taken } → after ≡ record { places = before.places; taken = before.taken - 1 } → less + 1 ≡ taken → after ≡ record { places = places; taken = less }
-place_given before after places taken less is e one =
-    let left : taken - 1 ≡ less = omega (arith, one) in
-    e ∙ ap (λ (b : Taken). record { places = b.places; taken = b.taken - 1 }) is ∙ ap (λ (n : ℕ). record { places = places; taken = n }) left
+place_given before after places taken less is e one = search rules
 
 -- ---- the registry
 
 found_by : (issued : Bool) (found : Option OpenTicket) (t : OpenTicket) → ◌≡◌ {A = Result OpenTicket RefusalNumber} (if issued then spent_or_open found else Err refusal.NoTicket) (Ok t) → found ≡ Some t
-found_by true (Some x) t e = let is : ◌≡◌ {A = Result OpenTicket RefusalNumber} (Ok x) (Ok t) = e in let same : x ≡ t = cc in ap Some same
-found_by true None t e = let bad : ◌≡◌ {A = Result OpenTicket RefusalNumber} (Err refusal.TicketSpent) (Ok t) = e in cc
-found_by false found t e = let bad : ◌≡◌ {A = Result OpenTicket RefusalNumber} (Err refusal.NoTicket) (Ok t) = e in cc
+found_by issued found t e = search rules
 
 -- a ticket that ends was open
 pub ended_open : (r : RegistryData) (number : ℕ) (t : OpenTicket) → ticket_in r number ≡ Ok t → open_ticket r.open_tickets number ≡ Some t
 ended_open r number t e = found_by (is_issued r number) (open_ticket r.open_tickets number) t e
 
 pub registered_with : (before after : RegistryData) (s : Situation) (next : Standing) → after ≡ registries.with_ticket before next.period → IsRegistered before s → IsRegistered after (admitted s next)
-registered_with before after s next e is =
-    let current = current_same before s is in
-    let ticket : next_open s next.period ≡ registries.next_open before next.period = rw (is.next, current) refl in
-    subst (λ (r : RegistryData). IsRegistered r (admitted s next)) (sym e)
-    (record {
-      first = is.first;
-      some = is.some;
-      versions = is.versions;
-      needed = all_append (λ ticket. s.first_version + s.dropped ≤ ticket.version) s.open_tickets (next_open s next.period ∷ []) is.needed (current_held s is.some, tt);
-      tickets = ap (λ (ts : List OpenTicket). ts ++ next_open s next.period ∷ []) is.tickets ∙ ap (λ (t : OpenTicket). before.open_tickets ++ t ∷ []) ticket;
-      next = ap (λ (n : ℕ). n + 1) is.next;
-    })
+registered_with before after s next e is = search (rules, current_same, all_append)
 
 pub registered_without : (before after : RegistryData) (s : Situation) (number : ℕ) → after ≡ registries.without_ticket before number → IsRegistered before s → IsRegistered after (without s (Some number))
-registered_without before after s number e is =
-    subst (λ (r : RegistryData). IsRegistered r (without s (Some number))) (sym e)
-    (record {
-      first = is.first;
-      some = is.some;
-      versions = is.versions;
-      needed = all_kept_by (λ ticket. s.first_version + s.dropped ≤ ticket.version) (λ (t : OpenTicket). not (t.number == number)) s.open_tickets is.needed;
-      tickets = ap (filter (λ (t : OpenTicket). not (t.number == number))) is.tickets;
-      next = is.next;
-    })
+registered_without before after s number e is = search (rules, all_kept_by)
 
 -- where a ticket is not open nothing ends
 pub nothing_ends : (before after : RegistryData) (s : Situation) (number : ℕ) → after ≡ registries.without_ticket before number → after ≡ before → IsRegistered before s → s ≡ without s (Some number)
-nothing_ends before after s number e same is =
-    let kept : before.open_tickets ≡ filter (λ (t : OpenTicket). not (t.number == number)) before.open_tickets = ap (λ (r : RegistryData). r.open_tickets) (sym same ∙ e) in
-    let tickets : s.open_tickets ≡ filter (λ (t : OpenTicket). not (t.number == number)) s.open_tickets = is.tickets ∙ kept ∙ ap (filter (λ (t : OpenTicket). not (t.number == number))) (sym is.tickets) in
-    ap (λ (ts : List OpenTicket). record s { open_tickets = ts }) tickets
+nothing_ends before after s number e same is = search rules
 
 -- ---- the situation after all changes
 
@@ -145,23 +106,12 @@ followed_so s next effects installs changes = by_issue effects.issued s next eff
 
 -- a situation stays orderly where a ticket ends
 pub orderly_without : (s : Situation) (ended : Option ℕ) → IsOrderly s → IsOrderly (without s ended)
-orderly_without s ended orderly = record {
-  period = orderly.period;
-  periods = all_kept_by (λ (t : OpenTicket). t.period ≤ s.standing.period) (λ (t : OpenTicket). not (is_number ended t.number)) s.open_tickets orderly.periods;
-  notes = orderly.notes;
-  tickets = omega (arith, orderly.tickets, length_filter_le (λ (t : OpenTicket). not (is_number ended t.number)) s.open_tickets);
-  next = orderly.next;
-  versions = orderly.versions;
-}
+orderly_without s ended orderly = search (rules, all_kept_by, length_filter_le)
 
 -- ---- what a breaker stands for
 
 pub back_standing : (period : ℕ) (s : BreakerSituation) → (calls.given_back period s).standing ≡ s.standing
-back_standing period s = either_stands (period == s.standing.period)
-  where
-    either_stands : (b : Bool) → (if b then calls.without_permission s else s).standing ≡ s.standing
-    either_stands true = refl
-    either_stands false = refl
+back_standing period s = search rules
 
 -- some permission is held under a ticket of the present period that is open
 pub some_held : (s : Situation) (number : ℕ) (t : OpenTicket) → Ascend s.open_tickets → open_ticket s.open_tickets number ≡ Some t → t.period ≡ s.standing.period → 0 < permissions_held s.standing.period s.open_tickets
@@ -172,23 +122,16 @@ some_held s number t ascend found e =
 
 -- ---- whether there was memory
 
-pub any_ok : {A E P : Type 0} (r : Result A E) → P → OnOk r P
-any_ok (Ok a) p = p
-any_ok (Err x) p = tt
-
 pub any_err : {A E P : Type 0} (r : Result A E) → P → OnErr r P
-any_err (Ok a) p = tt
-any_err (Err x) p = p
+any_err r p = search rules
 
 -- a note that there is
 pub noted : {P : Note → Type 0} (made : Option Note) → ((n : Note) → made ≡ Some n → P n) → IfSome made P
-noted None f = tt
-noted (Some n) f = f n refl
+noted made f = search rules
 
 -- a program that gets a version
 pub installs_some : {A : Type 0} {P : Type 0} (f : A → VerifiedProgram) (installed : Option A) (installs : Option VerifiedProgram) → option_map f installed ≡ installs → ((program : VerifiedProgram) → installs ≡ Some program → P) → OnSome installed P
-installs_some f None installs e g = tt
-installs_some f (Some a) installs e g = g (f a) (sym e)
+installs_some f installed installs e g = search rules
 
 -- ---- the program that judges under a ticket
 

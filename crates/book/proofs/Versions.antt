@@ -1,7 +1,6 @@
 -- Versions that are held, and programs that were dropped.
-use Rattle.std.proofs.Common.{◌≡◌, ◌==◌, ℕ, zero, suc, ◌+◌, ◌-◌, ◌≤◌, ◌<◌, min, Bool, true, false, if◌then◌else◌, List, [], ◌∷◌, ◌++◌, length, drop, slice_get, Option, Some, None, arith, refl, ap, sym, ◌∙◌, subst, length-append}
+use Rattle.std.proofs.Common.{◌≡◌, ◌==◌, ℕ, zero, suc, ◌+◌, ◌-◌, ◌≤◌, ◌<◌, min, Bool, if◌then◌else◌, List, [], ◌∷◌, ◌++◌, length, drop, slice_get, Option, Some, None, arith, refl, ap, sym, ◌∙◌, subst, length-append, rules}
 use Rattle.std.specs.List.{AllByRecursion}
-use Rattle.std.proofs.lemmas.Bool.{le-leb}
 use Rattle.std.proofs.lemmas.List.{length-drop, drop-append-le, drop-drop}
 use Rattle.bpf_profile.specs.Programs.{VerifiedProgram}
 use Rattle.registry.specs.Registries as registries
@@ -9,6 +8,7 @@ use Rattle.registry.specs.Registries.{RegistryData}
 use Rattle.service_profile.specs.declared.tickets.OpenTicket.{OpenTicket}
 use Rattle.service_profile.specs.Answers.{least_version, least_needed, count_unneeded}
 use Rattle.service_profile.specs.Machine.{Situation, current_version, open_ticket, program_from}
+use Rattle.book.specs.Finding.{ticket_in}
 use Rattle.book.specs.Following.{without_unneeded}
 use Rattle.book.specs.Situations.{IsRegistered}
 
@@ -27,6 +27,10 @@ next_same r s is = omega (arith, held_count r s is, is.first, is.some)
 pub current_held : (s : Situation) → s.dropped < length s.programs → s.first_version + s.dropped ≤ current_version s
 current_held s some = omega (arith, some)
 
+-- the open ticket of a number, or why it is not open
+pub ticket_same : (r : RegistryData) (s : Situation) (number : ℕ) → IsRegistered r s → registries.ticket_in r number ≡ ticket_in s number
+ticket_same r s number is = rw (is.tickets, is.next) refl
+
 -- ---- the program of a version that is held
 
 got_behind : {A : Type 0} (xs : List A) (dropped place : ℕ) → slice_get (drop dropped xs) place ≡ slice_get xs (dropped + place)
@@ -37,17 +41,10 @@ got_behind (x ∷ xs) (suc dropped) place =
     got_behind xs dropped place ∙ ap (slice_get (x ∷ xs)) (sym more)
 
 pub program_same : (r : RegistryData) (s : Situation) (version : ℕ) → IsRegistered r s → s.first_version + s.dropped ≤ version → program_from r.first_version r.programs version ≡ program_from s.first_version s.programs version
-program_same r s version is le =
-    let place : s.dropped + (version - r.first_version) ≡ version - s.first_version = omega (arith, le, is.first) in
-    ap (λ (b : Bool). if b then slice_get r.programs (version - r.first_version) else None) (le-leb r.first_version version (omega (arith, le, is.first)))
-    ∙ ap (λ (programs : List VerifiedProgram). slice_get programs (version - r.first_version)) (sym is.versions)
-    ∙ got_behind s.programs s.dropped (version - r.first_version)
-    ∙ ap (slice_get s.programs) place
-    ∙ ap (λ (b : Bool). if b then slice_get s.programs (version - s.first_version) else None) (sym (le-leb s.first_version version (omega (arith, le))))
+program_same r s version is le = search (rules, got_behind)
 
 found_head : (P : OpenTicket → Type 0) (t : OpenTicket) (found : OpenTicket) (b : Bool) (o : Option OpenTicket) → P t → (o ≡ Some found → P found) → (if b then Some t else o) ≡ Some found → P found
-found_head P t found true o p h e = let same : ◌≡◌ {A = Option OpenTicket} (Some t) (Some found) = e in let is : t ≡ found = cc in subst P is p
-found_head P t found false o p h e = h e
+found_head P t found b o p h e = search rules
 
 -- what holds of each open ticket holds of the one that is found
 pub found_keeps : (P : OpenTicket → Type 0) (tickets : List OpenTicket) (number : ℕ) (found : OpenTicket) → AllByRecursion P tickets → open_ticket tickets number ≡ Some found → P found
@@ -57,16 +54,7 @@ found_keeps P (t ∷ tickets) number found all e = found_head P t found (t.numbe
 -- ---- a program more
 
 pub registered_more : (before after : RegistryData) (s : Situation) (program : VerifiedProgram) (room : ℕ) → after ≡ registries.with_program before program room → IsRegistered before s → IsRegistered after (record s { programs = s.programs ++ program ∷ [] })
-registered_more before after s program room e is =
-    subst (λ (r : RegistryData). IsRegistered r (record s { programs = s.programs ++ program ∷ [] })) (sym e)
-    (record {
-      first = is.first;
-      some = omega (arith, is.some, length-append s.programs (program ∷ []));
-      versions = drop-append-le s.dropped s.programs (program ∷ []) (omega (arith, is.some)) ∙ ap (λ (ps : List VerifiedProgram). ps ++ program ∷ []) is.versions;
-      needed = is.needed;
-      tickets = is.tickets;
-      next = is.next;
-    })
+registered_more before after s program room e is = search (rules, length-append, drop-append-le)
 
 -- ---- programs that nobody needs any more
 

@@ -1,10 +1,9 @@
 -- Whatever steps are taken, in any order, each answer is the documented machine's on the meaning's verdicts, and the history stays legal.
-use Rattle.std.proofs.Common.{◌≡◌, ℕ, suc, ◌^◌, ◌≤◌, ◌<◌, ◌==◌, ◌||◌, Bool, true, false, if◌then◌else◌, List, [], ◌∷◌, slice_get, Option, Some, None, Result, Ok, Err, arith, refl, ap, sym, ◌∙◌, subst}
+use Rattle.std.proofs.Common.{◌≡◌, bytes_eq, ℕ, ◌^◌, ◌≤◌, ◌<◌, ◌==◌, Bool, true, false, if◌then◌else◌, List, [], ◌∷◌, slice_get, Option, Some, None, Result, Ok, Err, arith, refl, ap, sym, ◌∙◌, subst, rules}
 use Rattle.std.specs.List.{filter_map}
 use Rattle.std.proofs.Math.Nat.{le-max_right, max-le}
-use Rattle.std.proofs.lemmas.Bool.{ltb-false}
 use Rattle.std.proofs.lemmas.Slice.Eq.{bytes_eq-Decides}
-use Rattle.bpf_profile.specs.Limits.{context_size}
+use Rattle.bpf_profile.specs.Limits.{record_size}
 use Rattle.bpf_profile.specs.Outcomes.{Outcome, IsOutcome}
 use Rattle.bpf_profile.specs.JudgedWork.{JudgedData}
 use Rattle.refusals.specs.declared.RefusalNumber.{RefusalNumber}
@@ -14,18 +13,20 @@ use Rattle.service_profile.specs.declared.decisions.Decision.{Decision}
 use Rattle.service_profile.specs.declared.replies.Reply.{Reply}
 use Rattle.service_profile.specs.declared.tickets.OpenTicket.{OpenTicket}
 use Rattle.service_profile.specs.declared.states.State.TheVariants as state
-use Rattle.service_profile.specs.Answers.{answer_by, with_line, line_of, IsAppliedBy, as_documented, out_of_memory, IsApplied, looked_up, looked_under, IsLooked, looks, no_owner, last_of, current_program, is_past_the_limit, is_worn_out, is_some_open, reopened, cut, after_cut, IsCut, cuts, no_room, roll, after_roll, taken_up_to, IsRolled, rolls}
-use Rattle.service_profile.specs.Events.{EventData, acquires, finishes, releases, installs, moves, resets, EntryData, line, Opening, Rolled, nothing_rolled, History}
-use Rattle.service_profile.specs.Histories.{Past, past_of, situation_of, programs_of, machine, raised, greatest, next_line, install_at, Follows, IsLegal}
+use Rattle.service_profile.specs.Answers.{answer_by, with_line, line_of, IsAppliedBy, as_documented, out_of_memory, IsApplied, looked_up, looked_under, IsLooked, looks, no_owner, last_of, current_program, is_worn_out, is_some_open, reopened, cut, after_cut, IsCut, cuts, no_room, roll, after_roll, taken_up_to, IsRolled, rolls}
+use Rattle.service_profile.specs.Events.{EventData, acquires, finishes, releases, installs, moves, resets, EntryData, Opening, Rolled, nothing_rolled, History}
+use Rattle.service_profile.specs.Histories.{Past, past_of, situation_of, programs_of, machine, raised, greatest, install_at, Follows, IsLegal}
 use Rattle.book.specs.Interleavings.{Hands, World, Step, acquire, look, judge, finish, release, install, move, reset, read, page, cut_off, roll_up_to, Given, replied, found, shown, handed, nothing, IsEventTaken, holding, with_found, work_of, with_judged, IsFinish, IsTaken, Act, IsCourse, begun, IsStep, AreSteps, AreHands, IsWorld}
-use Rattle.service_profile.specs.Machine.{Situation, Judging, meant, carried, decision_by, refused, is_full, in_state, overstays, at_moment, is_issued, open_ticket, program_from, same_program, bytes_of, concluded, finished_by, finished_under, finished, is_entered, current_version}
+use Rattle.service_profile.specs.Machine.{Situation, Judging, meant, carried, decision_by, refused, is_full, in_state, overstays, at_moment, is_issued, open_ticket, program_from, same_program, bytes_of, concluded, finished_by, finished_under, finished, is_entered}
 use Rattle.book.specs.Safe.{IsSafeProgram, AreSafePrograms, IsJudged, IsSafeEvent}
 use Rattle.service_profile.specs.Openings.{IsOpening}
 use Rattle.book.specs.Sound.{IsSound}
 use Rattle.book.specs.Rolling.{IsFurther, with_rolled}
+use Rattle.bpf_profile.specs.Layouts.{number_of}
+use Rattle.bpf_profile.proofs.Layouts.{fits_layout, same_layout}
 use Rattle.book.proofs.Applying.{legal_step, past_with, same_rolled}
 use Rattle.book.proofs.Rolled.{rolled_legal, roll_goes_further}
-use Rattle.book.proofs.Judging.{slots_by_bytes, judgement_by_slots, judgement_judges, program_safe}
+use Rattle.book.proofs.Judging.{slots_by_bytes, right_of_both, same_number, judgement_by_slots, judgement_judges, program_safe}
 use Rattle.book.proofs.Keeping.{sound_step}
 use Rattle.book.proofs.Lists.{all_append, got}
 use Rattle.book.proofs.Openings.{sound_opened, legal_opened}
@@ -34,16 +35,17 @@ use Rattle.book.proofs.SafeEvents.{Safely, safe_program, acquire_safe, release_s
 -- ---- verdicts: what judged work carries is what the meaning says
 
 same_slots_there : (a b : VerifiedProgram) → IsSafeProgram a → IsSafeProgram b → same_program a b ≡ true → a.slots ≡ b.slots
-same_slots_there a b p q e =
-    slots_by_bytes a b (bytes_of a) (bytes_of b) (record { program = p.program_there; text = refl }) (record { program = q.program_there; text = refl })
-    ((bytes_eq-Decides (bytes_of a) (bytes_of b)).0 e)
+same_slots_there a b p q e = search (rules, slots_by_bytes, bytes_eq-Decides)
+
+same_layout_there : (a b : VerifiedProgram) → same_program a b ≡ true → a.layout ≡ b.layout
+same_layout_there a b e = same_layout a.layout b.layout (same_number (number_of a.layout) (number_of b.layout) (right_of_both (bytes_eq (bytes_of a) (bytes_of b)) (number_of a.layout == number_of b.layout) e))
 
 same_answer : (s : Situation) (moment : ℕ) (ticket : OpenTicket) (work : JudgedData) (program : VerifiedProgram) (same : Bool) → same_program work.program program ≡ same → IsJudged work → IsSafeProgram program
     → (if same then concluded s moment ticket work.outcome (carried program work) else refused s.standing refusal.Stranger)
     ≡ (if same then concluded s moment ticket work.outcome (meant program work) else refused s.standing refusal.Stranger)
 same_answer s moment ticket work program true e judged_ accepted_ =
     let slots = same_slots_there work.program program judged_.program accepted_ e in
-    let same = judgement_by_slots program work.program.slots work.outcome work.verdict work.steps slots accepted_.safe judged_.outcome judged_.tied in
+    let same = judgement_by_slots program work.program.slots work.program.layout work.outcome work.verdict work.steps slots (same_layout_there work.program program e) accepted_.safe judged_.outcome judged_.tied in
     ap (concluded s moment ticket work.outcome) (sym same)
 same_answer s moment ticket work program false e judged_ accepted_ = refl
 
@@ -62,19 +64,14 @@ finished_same s moment work ticket all judged_ =
     ap (λ (d : Decision). if is_issued s ticket then d else refused s.standing refusal.NoTicket) (finished_under_same s moment work (open_ticket s.open_tickets ticket) all judged_)
 
 at_moment_safe : (test : Bool) (s : Situation) (moment : ℕ) → AreSafePrograms s.programs → AreSafePrograms (if test then in_state state.Open moment s else s).programs
-at_moment_safe true s moment all = all
-at_moment_safe false s moment all = all
+at_moment_safe test s moment all = search rules
 
 decision_same : (s : Situation) (moment : ℕ) (event : EventData) → AreSafePrograms s.programs → IsSafeEvent event → decision_by carried s moment event ≡ decision_by meant s moment event
 unfolding decision_by
 decision_same s moment (finishes work ticket) all safe_ =
     ap (λ (d : Decision). if is_full s (finishes work ticket) then refused s.standing refusal.JournalFull else d)
     (finished_same (at_moment s moment) moment work ticket (at_moment_safe (overstays s moment) s moment all) (safe_.judged work ticket refl))
-decision_same s moment acquires all safe_ = refl
-decision_same s moment (releases ticket) all safe_ = refl
-decision_same s moment (installs program) all safe_ = refl
-decision_same s moment (moves to) all safe_ = refl
-decision_same s moment resets all safe_ = refl
+decision_same s moment event all safe_ = refl
 
 -- on safe programs and judged work it decides as the documented machine does
 abbrev pub DecidesAlike : Judging → Type 0
@@ -90,10 +87,7 @@ meant_alike s moment event all safe_ = refl
 
 applied_same : (one other : Judging) (history : History) (seat moment : ℕ) (event : EventData) (r : Reply) (after : History) → answer_by one history moment event ≡ answer_by other history moment event
     → IsAppliedBy one history seat moment event r after → IsAppliedBy other history seat moment event r after
-applied_same one other history seat moment event r after same (as_documented is leads) =
-    as_documented (is ∙ ap (λ (d : Decision). d.reply) same)
-    (leads ∙ ap (λ (d : Decision). if is_entered d.reply then with_line history (line (next_line (past_of history)) seat event (raised (past_of history) moment) d.reply) else history) same)
-applied_same one other history seat moment event r after same (out_of_memory is entered stays) = out_of_memory is (ap (λ (d : Decision). is_entered d.reply) (sym same) ∙ entered) stays
+applied_same one other history seat moment event r after same a = search rules
 
 -- a legal and sound history
 pub record IsKept (history : History) : Type 0 where
@@ -140,8 +134,7 @@ answered_well one other p q w actor moment event r after whole word seat safe_ a
 -- ---- hands
 
 chosen_hands : (test : Bool) (a b : Hands) → AreHands a → AreHands b → AreHands (if test then a else b)
-chosen_hands true a b p q = p
-chosen_hands false a b p q = q
+chosen_hands test a b p q = search rules
 
 held_world : (w : World) (actor : ℕ) (hands : Hands) → IsWorld w → AreHands hands → IsWorld (holding w actor hands)
 held_world w actor hands whole good = record { legal = whole.legal; sound = whole.sound; hands = λ other. chosen_hands (other == actor) hands (w.hands other) good (whole.hands other) }
@@ -170,10 +163,10 @@ found_world w actor (Ok program) all whole =
     (record { programs = all_append IsSafeProgram (w.hands actor).programs (program ∷ []) (whole.hands actor).programs (all program refl, tt); works = (whole.hands actor).works })
 found_world w actor (Err number) all whole = whole
 
-judged_world : (w : World) (actor : ℕ) (outcome : Outcome) (o : Option VerifiedProgram) → ((p : VerifiedProgram) → o ≡ Some p → IsSafeProgram p) → IsOutcome context_size outcome → IsWorld w → IsWorld (with_judged w actor outcome o)
+judged_world : (w : World) (actor : ℕ) (outcome : Outcome) (o : Option VerifiedProgram) → ((p : VerifiedProgram) → o ≡ Some p → IsSafeProgram p) → IsOutcome record_size outcome → IsWorld w → IsWorld (with_judged w actor outcome o)
 judged_world w actor outcome None all fits whole = whole
 judged_world w actor outcome (Some program) all fits whole =
-    let judged_ : IsJudged (work_of program outcome) = record { program = all program refl; outcome = fits; tied = judgement_judges program outcome (all program refl) fits } in
+    let judged_ : IsJudged (work_of program outcome) = record { program = all program refl; outcome = fits; tied = judgement_judges program outcome (all program refl) (fits_layout program.layout outcome fits) } in
     held_world w actor _ whole
     (record { programs = (whole.hands actor).programs; works = all_append IsJudged (w.hands actor).works (work_of program outcome ∷ []) (whole.hands actor).works (judged_, tt) })
 
@@ -187,39 +180,11 @@ last_safe x (y ∷ ys) p all = last_safe y ys all.0 all.1
 pub current_safe : (past : Past) → IsSound past → IsSafeProgram (current_program past)
 current_safe past sound = last_safe past.opening.program (filter_map install_at past.stages) sound.programs.0 sound.programs.1
 
-pub none_of : (a b : Bool) → (a || b) ≡ false → (a ≡ false) × (b ≡ false)
-none_of true b e = let bad : ◌≡◌ {A = Bool} true false = e in cc
-none_of false b e = (refl, e)
-
 pub reopened_opening : (past : Past) → IsSound past → is_worn_out past ≡ false → IsOpening (reopened past)
-reopened_opening past sound e =
-    let a = none_of (is_past_the_limit (next_line past)) _ e in
-    let b = none_of (is_past_the_limit (situation_of past).next_ticket) _ a.1 in
-    let c = none_of (is_past_the_limit (suc past.standing.period)) (is_past_the_limit (suc (current_version (situation_of past)))) b.1 in
-    let line = ltb-false (2 ^ 63) (next_line past) a.0 in
-    let ticket = ltb-false (2 ^ 63) (situation_of past).next_ticket b.0 in
-    let period = ltb-false (2 ^ 63) (suc past.standing.period) c.0 in
-    let version = ltb-false (2 ^ 63) (suc (current_version (situation_of past))) c.1 in
-    record {
-      config = sound.opening.config;
-      version = omega (arith, version);
-      first_version = omega (arith, sound.opening.first_version);
-      period = omega (arith, period);
-      first_period = omega arith;
-      ticket = omega (arith, ticket);
-      first_ticket = omega (arith, sound.opening.first_ticket);
-      line = omega (arith, line);
-      first_line = omega (arith, sound.opening.first_line);
-      moment = sound.moment;
-    }
+reopened_opening past sound e = search rules
 
 cut_by : (past : Past) (worn some : Bool) (opening : Opening) → is_worn_out past ≡ worn → IsSound past → (if worn then Err refusal.JournalFull else (if some then Err refusal.TicketsOpen else Ok (reopened past))) ≡ Ok opening → IsOpening opening
-cut_by past true some opening e sound f = let bad : ◌≡◌ {A = Result Opening RefusalNumber} (Err refusal.JournalFull) (Ok opening) = f in cc
-cut_by past false true opening e sound f = let bad : ◌≡◌ {A = Result Opening RefusalNumber} (Err refusal.TicketsOpen) (Ok opening) = f in cc
-cut_by past false false opening e sound f =
-    let same : ◌≡◌ {A = Result Opening RefusalNumber} (Ok (reopened past)) (Ok opening) = f in
-    let is : reopened past ≡ opening = cc in
-    subst (λ (o : Opening). IsOpening o) is (reopened_opening past sound e)
+cut_by past worn some opening e sound f = search rules
 
 pub cut_opening : (past : Past) (opening : Opening) → IsSound past → cut past ≡ Ok opening → IsOpening opening
 cut_opening past opening sound e = cut_by past (is_worn_out past) (is_some_open (situation_of past).open_tickets) opening refl sound e
@@ -247,23 +212,7 @@ cut_world history result after kept (no_room opening there is stays) = subst IsK
 -- ---- rolls
 
 pub sound_rolled : (past : Past) (rolled : Rolled) → IsSound past → IsFurther past.rolled rolled → IsSound (with_rolled rolled past)
-sound_rolled past rolled sound further = record {
-  opening = sound.opening;
-  periods = sound.periods;
-  period = sound.period;
-  ended = sound.ended;
-  open_issued = sound.open_issued;
-  few_issued = sound.few_issued;
-  ticket_periods = sound.ticket_periods;
-  places = sound.places;
-  permissions = sound.permissions;
-  used = omega (arith, further.lines, sound.used);
-  versions = omega (arith, further.programs, sound.versions);
-  programs = sound.programs;
-  lines = sound.lines;
-  verdicts = sound.verdicts;
-  moment = sound.moment;
-}
+sound_rolled past rolled sound further = search rules
 
 roll_kept : (history : History) (last : ℕ) (r : Result (List EntryData) RefusalNumber) → IsKept history → IsKept (after_roll history last r)
 roll_kept history last (Err number) kept = kept

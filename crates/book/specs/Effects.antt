@@ -44,6 +44,12 @@ permitted_plan standing ticket = record {
   effects = record { note = None; ended = None; issued = Some ticket; installs = false; refuses_call = false };
 }
 
+abbrev pub released_plan : Standing → ℕ → Plan
+released_plan standing ticket = record {
+  decision = record { reply = reply.Released standing.state; next = standing };
+  effects = record { note = None; ended = Some ticket; issued = None; installs = false; refuses_call = false };
+}
+
 -- a verdict under a ticket, with its note, and where the breaker stands after it
 abbrev pub reported_plan : OpenTicket → Verdict → ℕ → Fate → Option Note → Standing → Plan
 reported_plan ticket verdict steps fate note next = record {

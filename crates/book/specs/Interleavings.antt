@@ -1,7 +1,7 @@
 -- Any list of atomic steps of workers and operators on a service. The world is one history, and what each actor holds. What a step gives, and the world after it, are such as the clause of its call says.
 use Rattle.std.specs.Prelude.{◌≡◌, ℕ, ◌^◌, ◌<◌, ◌==◌, Bool, true, false, if◌then◌else◌, List, [], ◌∷◌, ◌++◌, slice_get, Option, Some, None, Result, Ok, Err}
 use Rattle.std.specs.List.{AllByRecursion}
-use Rattle.bpf_profile.specs.Limits.{context_size}
+use Rattle.bpf_profile.specs.Limits.{record_size}
 use Rattle.bpf_profile.specs.Outcomes.{Outcome, IsOutcome}
 use Rattle.bpf_profile.specs.JudgedWork.{JudgedData}
 use Rattle.refusals.specs.declared.RefusalNumber.{RefusalNumber}
@@ -119,7 +119,7 @@ begun opening = record { history = history_of opening []; hands = λ actor. reco
 abbrev pub IsStep : Step → Type 0
 IsStep (acquire moment) = moment < 2 ^ 64
 IsStep (look ticket) = Unit {0}
-IsStep (judge place outcome) = IsOutcome context_size outcome
+IsStep (judge place outcome) = IsOutcome record_size outcome
 IsStep (finish moment place ticket) = moment < 2 ^ 64
 IsStep (release moment ticket) = moment < 2 ^ 64
 IsStep (install moment program) = (moment < 2 ^ 64) × IsVerifiedProgram program

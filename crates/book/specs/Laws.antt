@@ -1,7 +1,7 @@
 -- Premises of the laws of the book.
 use Rattle.std.specs.Prelude.{◌≡◌, ℕ, ◌^◌, ◌<◌, Some}
 use Rattle.std.specs.List.{AllByRecursion}
-use Rattle.bpf_profile.specs.Limits.{context_size}
+use Rattle.bpf_profile.specs.Limits.{record_size}
 use Rattle.bpf_profile.specs.Outcomes.{IsOutcome}
 use Rattle.bpf_profile.specs.JudgedWork.{JudgedData, IsTied}
 use Rattle.bpf_profile.specs.Programs.{VerifiedProgram}
@@ -17,7 +17,7 @@ use Rattle.service_profile.specs.MeantVerdicts.{IsMeant}
 -- the meaning's verdict and steps of a verified program on an outcome's record
 pub record IsJudgedWork (work : JudgedData) : Type 0 where
   pub program : IsVerifiedProgram work.program
-  pub outcome : IsOutcome context_size work.outcome
+  pub outcome : IsOutcome record_size work.outcome
   pub tied : IsTied work
 
 -- what is installed was verified, and work that is brought was judged

@@ -9,3 +9,5 @@ pub mod Laws
 pub mod Books
 pub mod Seen
 pub mod Rolling
+pub mod Good
+pub mod Counts

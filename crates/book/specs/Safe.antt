@@ -1,7 +1,8 @@
 -- Programs that were verified, and what is safe of them.
 use Rattle.std.specs.Prelude.{◌≡◌, ℕ, ◌^◌, ◌<◌, List}
 use Rattle.std.specs.List.{AllByRecursion}
-use Rattle.bpf_profile.specs.Limits.{context_size}
+use Rattle.bpf_profile.specs.Layouts.{context_size}
+use Rattle.bpf_profile.specs.Limits.{record_size}
 use Rattle.bpf_profile.specs.Outcomes.{IsOutcome}
 use Rattle.bpf_profile.specs.Safety.{IsSafe}
 use Rattle.bpf_profile.specs.Spelling.{IsProgram}
@@ -18,7 +19,7 @@ IsVerifiedProgram program = (bytes : List ℕ) × IsVerification bytes program
 pub record IsSafeProgram (program : VerifiedProgram) : Type 0 where
   pub verified : IsVerifiedProgram program
   pub program_there : IsProgram program.slots
-  pub safe : IsSafe context_size program.slots program.budget
+  pub safe : IsSafe (context_size program.layout) program.slots program.budget
 
 abbrev pub AreSafePrograms : List VerifiedProgram → Type 0
 AreSafePrograms programs = AllByRecursion IsSafeProgram programs
@@ -26,7 +27,7 @@ AreSafePrograms programs = AllByRecursion IsSafeProgram programs
 -- the meaning's verdict and steps of a safe program on an outcome's record
 pub record IsJudged (work : JudgedData) : Type 0 where
   pub program : IsSafeProgram work.program
-  pub outcome : IsOutcome context_size work.outcome
+  pub outcome : IsOutcome record_size work.outcome
   pub tied : IsTied work
 
 -- a program that an event installs is safe, and work that it brings was judged

@@ -2,13 +2,14 @@
 ghost use Rattle.std.specs.Prelude.{◌≡◌, ◌+◌, ◌-◌, ◌≤◌, ◌<◌, ◌^◌, ◌++◌, ◌∷◌, [], ℕ, length, nat_le};
 ghost use Rattle.std.specs.Arc.{arc_value};
 ghost use Rattle.std.specs.Option.{option_map};
-ghost use Rattle.service_profile.specs.Machine.{Situation, at_moment, current_version, is_issued, open_ticket, permission_in, permissions_held, program_from};
+ghost use Rattle.service_profile.specs.Machine.{Situation, at_moment, current_version, permission_in, permissions_held, program_from};
 ghost use Rattle.service_profile.specs.Rates.{after_notes};
 ghost use Rattle.windows.specs.Notes.{AreNotAfter};
 ghost use Rattle.book.specs.Situations.{HasSituation, StandsFor};
-ghost use Rattle.book.specs.Finding.{IsFoundAs, HasFound, found_standing};
+ghost use Rattle.book.specs.Finding.{IsFoundAs, HasFound, found_standing, ticket_in};
 
 use crate::service::Service;
+use refusals::RefusalNumber;
 use service_profile::{ConfigParts, Note, OpenTicket, Permission, Standing};
 use std::sync::Arc;
 use verifier::Verified;
@@ -95,18 +96,11 @@ impl FoundService<'_> {
         self.service.next_ticket()
     }
 
-    /// Whether a number was given to a ticket.
-    pub(crate) fn is_issued(&self, ticket: u64) -> bool
-        ensures { (held : ℕ) (s : Situation) → IsFoundAs self.now held s → result ≡ is_issued s ticket }
+    /// The open ticket of a number, or why it is not open.
+    pub(crate) fn ticket(&self, number: u64) -> Result<OpenTicket, RefusalNumber>
+        ensures { (held : ℕ) (s : Situation) → IsFoundAs self.now held s → result ≡ ticket_in s number }
     {
-        self.service.is_issued(ticket)
-    }
-
-    /// The open ticket of a number.
-    pub(crate) fn open_ticket(&self, ticket: u64) -> Option<OpenTicket>
-        ensures { (held : ℕ) (s : Situation) → IsFoundAs self.now held s → result ≡ open_ticket s.open_tickets ticket }
-    {
-        self.service.open_ticket(ticket)
+        self.service.registry.ticket(number)
     }
 
     /// The program of a version that was not dropped.

@@ -3,7 +3,7 @@
 ghost use Rattle.std.specs.Prelude.{◌≡◌, ◌≢◌, ◌≤◌, ◌<◌, ◌+◌, ◌⊎◌, ◌↔◌, ◌++◌, ℕ, suc, List, [], map, length, drop, Some, None, Ok, true, false, slice_get};
 ghost use Rattle.std.specs.List.{AllByRecursion};
 ghost use Rattle.bpf_profile.specs.declared.machine.Verdict.TheVariants as verdict;
-ghost use Rattle.bpf_profile.specs.Limits.{context_size};
+ghost use Rattle.bpf_profile.specs.Layouts.{context_size};
 ghost use Rattle.bpf_profile.specs.Meaning.{Judges};
 ghost use Rattle.bpf_profile.specs.Outcomes.{Outcome, IsOutcome};
 ghost use Rattle.bpf_profile.specs.Programs.{VerifiedProgram};
@@ -31,7 +31,7 @@ use verifier::laws::accepted_programs_are_safe;
 
 /// The verdict that the machine takes for a verified program and a record is the meaning's.
 pub fn judgements_are_the_meaning()
-    ensures { (program : VerifiedProgram) (outcome : Outcome) → IsVerifiedProgram program → IsOutcome context_size outcome → Judges context_size program.slots outcome (judgement program outcome).verdict (judgement program outcome).steps }
+    ensures { (program : VerifiedProgram) (outcome : Outcome) → IsVerifiedProgram program → IsOutcome (context_size program.layout) outcome → Judges (context_size program.layout) program.slots outcome (judgement program outcome).verdict (judgement program outcome).steps }
 {
     accepted_programs_are_safe();
 }

@@ -4,7 +4,7 @@ ghost use Rattle.std.specs.Prelude.{◌≡◌, ◌+◌, ◌<◌, ◌≤◌, ◌^
 ghost use Rattle.service_profile.specs.Events.{EventData, acquires, finishes, releases, installs, moves, resets};
 ghost use Rattle.service_profile.specs.Machine.{Situation, judged_as, acquired, same_program, fate_of, note_of, concluded, finished, finished_by, finished_under, released, installed, moved_to, is_full, decided, decision, is_entered, is_entered_refusal, meant};
 ghost use Rattle.windows.specs.Notes.{AreNotAfter};
-ghost use Rattle.book.specs.Effects.{permitted_plan, planned, reported_plan};
+ghost use Rattle.book.specs.Effects.{permitted_plan, planned, released_plan, reported_plan};
 ghost use Rattle.book.specs.Seen.{seen};
 ghost use Rattle.book.specs.Situations.{HasSituation, StandsFor};
 ghost use Rattle.book.specs.Finding.{IsFoundAs, HasFound};
@@ -125,12 +125,13 @@ fn concluded(found: &FoundService<'_>, moment: u64, ticket: OpenTicket, judged: 
     }
 }
 
-/// Whether two programs have the same bytes, and so the same slots.
+/// Whether two programs have the same bytes, and so the same slots, and the same layout.
 fn same_program(left: &Verified, right: &Verified) -> bool
     ensures same { result ≡ same_program left.now right.now }
     ensures slots { result ≡ true → left.now.slots ≡ right.now.slots }
+    ensures layout { result ≡ true → left.now.layout ≡ right.now.layout }
 {
-    left.bytes() == right.bytes()
+    left.bytes() == right.bytes() && left.layout().number() == right.layout().number()
 }
 
 /// The answer under a ticket whose version has this program.
@@ -174,26 +175,16 @@ fn finished(found: &FoundService<'_>, moment: u64, judged: &Judged, ticket: u64)
     requires { HasFound found.now }
     ensures { (held : ℕ) (s : Situation) → IsFoundAs found.now held s → AreNotAfter moment s.notes → result ≡ planned s.config moment (finishes judged.now ticket) (finished meant s moment judged.now ticket) }
 {
-    if !found.is_issued(ticket) {
-        return Plan::refused(found.standing(), RefusalNumber::NoTicket);
-    }
-    match found.open_ticket(ticket) {
-        Some(open) => finished_under(found, moment, judged, open),
-        None => Plan::refused(found.standing(), RefusalNumber::TicketSpent),
+    match found.ticket(ticket) {
+        Ok(open) => finished_under(found, moment, judged, open),
+        Err(number) => Plan::refused(found.standing(), number),
     }
 }
 
-/// The answer to the end of a ticket with no outcome.
-fn released(found: &FoundService<'_>, ticket: u64) -> Plan
-    ensures { (moment : ℕ) (held : ℕ) (s : Situation) → IsFoundAs found.now held s → result ≡ planned s.config moment (releases ticket) (released s ticket) }
+/// The end of an open ticket with no outcome.
+fn ended(standing: Standing, ticket: u64) -> Plan
+    ensures { result ≡ released_plan standing ticket }
 {
-    let standing = found.standing();
-    if !found.is_issued(ticket) {
-        return Plan::refused(standing, RefusalNumber::NoTicket);
-    }
-    if found.open_ticket(ticket).is_none() {
-        return Plan::refused(standing, RefusalNumber::TicketSpent);
-    }
     let mut effects = Effects::NONE;
     effects.ended = Some(ticket);
     Plan {
@@ -204,6 +195,17 @@ fn released(found: &FoundService<'_>, ticket: u64) -> Plan
             next: standing,
         },
         effects,
+    }
+}
+
+/// The answer to the end of a ticket with no outcome.
+fn released(found: &FoundService<'_>, ticket: u64) -> Plan
+    ensures { (moment : ℕ) (held : ℕ) (s : Situation) → IsFoundAs found.now held s → result ≡ planned s.config moment (releases ticket) (released s ticket) }
+{
+    let standing = found.standing();
+    match found.ticket(ticket) {
+        Ok(_) => ended(standing, ticket),
+        Err(number) => Plan::refused(standing, number),
     }
 }
 
@@ -222,6 +224,7 @@ fn installed(found: &FoundService<'_>, program: &Verified) -> Plan
             reply: Reply::Installed {
                 version: found.next_version(),
                 budget: program.budget(),
+                layout: program.layout(),
             },
             next: standing,
         },

@@ -7,7 +7,7 @@ ghost use Rattle.breaker.specs.Calls.{metrics_of};
 ghost use Rattle.service_profile.specs.Answers.{looked, map_ok};
 ghost use Rattle.service_profile.specs.Events.{nothing_rolled};
 ghost use Rattle.service_profile.specs.Histories.{opened, situation_of};
-ghost use Rattle.service_profile.specs.Machine.{Situation, current_version, is_issued, is_open, open_ticket, permission_in, permissions_held, program_from};
+ghost use Rattle.service_profile.specs.Machine.{Situation, current_version, is_open, permission_in, permissions_held, program_from};
 ghost use Rattle.service_profile.specs.Openings.{IsOpening};
 ghost use Rattle.service_profile.specs.Rates.{after_notes};
 ghost use Rattle.windows.specs.Notes.{AreNotAfter};
@@ -21,7 +21,7 @@ use breaker::{Breaker, Metrics};
 use bulkhead::Bulkhead;
 use refusals::RefusalNumber;
 use registry::Registry;
-use service_profile::{Config, Note, OpenTicket, Permission, Standing};
+use service_profile::{Config, Note, Permission, Standing};
 use std::alloc::{AllocError, Global};
 use std::sync::Arc;
 use verifier::Verified;
@@ -121,20 +121,6 @@ impl Service {
         ensures { (held : ℕ) (s : Situation) → StandsFor self.now held s → result ≡ s.next_ticket }
     {
         self.registry.next_ticket()
-    }
-
-    /// Whether a number was given to a ticket.
-    pub(crate) fn is_issued(&self, ticket: u64) -> bool
-        ensures { (held : ℕ) (s : Situation) → StandsFor self.now held s → result ≡ is_issued s ticket }
-    {
-        self.registry.is_issued(ticket)
-    }
-
-    /// The open ticket of a number.
-    pub(crate) fn open_ticket(&self, ticket: u64) -> Option<OpenTicket>
-        ensures { (held : ℕ) (s : Situation) → StandsFor self.now held s → result ≡ open_ticket s.open_tickets ticket }
-    {
-        self.registry.open_ticket(ticket)
     }
 
     /// Whether the ticket of a number is open.

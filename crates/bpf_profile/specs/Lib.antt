@@ -1,4 +1,5 @@
 pub mod Limits
+pub mod Layouts
 pub mod Words
 pub mod Opcodes
 pub mod Slots

@@ -9,17 +9,17 @@ most_slots = 4096
 abbrev pub stack_size : ℕ
 stack_size = 512
 
--- how many bytes of the context programs see
-abbrev pub context_size : ℕ
-context_size = 128
+-- how many bytes of context a record has: as many as programs of the longest layout see
+abbrev pub record_size : ℕ
+record_size = 192
 
--- where the body's front begins in the context
+-- where the body's front begins in the context; it goes on to the context's end
 abbrev pub front_offset : ℕ
 front_offset = 64
 
--- how many bytes the body's front has
+-- how many bytes of the body's front a record has
 abbrev pub front_size : ℕ
-front_size = 64
+front_size = 128
 
 -- how many facts an outcome has
 abbrev pub fact_count : ℕ

@@ -1,5 +1,5 @@
 -- The record of an outcome, as a program sees it.
-use Rattle.std.specs.Prelude.{ℕ, ◌^◌, ◌<◌, ◌≤◌, ◌≡◌, List, length, drop}
+use Rattle.std.specs.Prelude.{ℕ, ◌^◌, ◌<◌, ◌≤◌, ◌≡◌, List, length, take, drop}
 use Rattle.std.specs.List.{AllByRecursion}
 use Rattle.byteorder.specs.Endian.{little_number}
 use Rattle.bpf_profile.specs.Limits.{fact_count, most_tag_bytes}
@@ -21,6 +21,16 @@ pub record IsOutcome (size : ℕ) (outcome : Outcome) : Type 0 where
   pub sixteen : length outcome.facts ≡ fact_count
   pub tag : AreBytes outcome.tag
   pub short : length outcome.tag ≤ most_tag_bytes
+
+-- two records of which a context of this size, the facts and the tag are the same
+pub record AgreeOn (size : ℕ) (left right : Outcome) : Type 0 where
+  pub context : take size left.context ≡ take size right.context
+  pub facts : left.facts ≡ right.facts
+  pub tag : left.tag ≡ right.tag
+
+-- the record with a context of this size alone
+abbrev pub shortened : ℕ → Outcome → Outcome
+shortened size outcome = record outcome { context = take size outcome.context }
 
 -- how long the call took, in milliseconds: the double word at offset 8
 abbrev pub duration_of : Outcome → ℕ

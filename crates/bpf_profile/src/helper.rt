@@ -7,7 +7,8 @@ ghost use Rattle.bpf_profile.specs.Helpers.{helper_of};
 pub enum Helper {
     /// Helper 1: the fact with the index R1, from 0 to 15.
     Fact,
-    /// Helper 2: the byte of the body's front with the index R1, from 0 to 63.
+    /// Helper 2: the byte of the body's front with the index R1, from 0 on: there are
+    /// 64 in a context of layout 1, and 128 in one of layout 2.
     FrontByte,
     /// Helper 3: writes the first R2 bytes of the tag, 1 to 32, to the stack at R1, zeros past the tag's
     /// end. The answer is the tag's length.

@@ -9,7 +9,7 @@ ghost use Rattle.bpf_profile.specs.declared.slot.Slot.{Slot};
 ghost use Rattle.bpf_profile.specs.Words.{IsWord, arithmetic, low, bits_of};
 ghost use Rattle.bpf_profile.specs.Faults.{IsLeastFault, IsFaultless, decoding_fault_at, slots_of};
 ghost use Rattle.bpf_profile.specs.Spelling.{IsProgram, Fault, first_fault, is_bad_length};
-ghost use Rattle.bpf_profile.specs.Outcomes.{Outcome, IsOutcome};
+ghost use Rattle.bpf_profile.specs.Outcomes.{Outcome, IsOutcome, AgreeOn, shortened};
 ghost use Rattle.bpf_profile.specs.Machine.{State, Effect};
 ghost use Rattle.bpf_profile.specs.Meaning.{step, Ends, Judges, instruction_at};
 ghost use Rattle.bpf_profile.specs.Flow.{IsBudget, Edge, flow_fault, flow_fault_at};
@@ -96,6 +96,17 @@ pub fn flow_fault_is_the_least()
 /// Each edge of a program whose flow is accepted leads forward, to an instruction.
 pub fn edges_lead_forward()
     ensures { (slots : List Slot) → IsProgram slots → flow_fault slots ≡ None → (from to : ℕ) → Edge slots from to → (from < to) × IsSome (instruction_at slots to) }
+{}
+
+/// The part of a record that a program sees decides alone: on two records whose first bytes, so many as the context has,
+/// facts and tag agree, a program has the same verdict after the same number of steps.
+pub fn context_decides()
+    ensures { (size : ℕ) (slots : List Slot) (left right : Outcome) (v : Verdict) (steps : ℕ) → AgreeOn size left right → (Judges size slots left v steps ↔ Judges size slots right v steps) }
+{}
+
+/// So its verdict on a record is the one on a record that has no more than the context.
+pub fn longer_records_change_nothing()
+    ensures { (size : ℕ) (slots : List Slot) (outcome : Outcome) (v : Verdict) (steps : ℕ) → Judges size slots outcome v steps ↔ Judges size slots (shortened size outcome) v steps }
 {}
 
 /// A safe program has a verdict on every outcome, within its budget.

@@ -6,6 +6,7 @@ mod fields;
 mod helper;
 mod instruction;
 pub mod laws;
+mod layout;
 mod limits;
 mod machine;
 mod opcode;
@@ -16,8 +17,9 @@ pub use helper::Helper;
 pub use instruction::{
     ByteOrder, Comparison, Extension, Instruction, Operand, Operation, Size, Width,
 };
+pub use layout::Layout;
 pub use limits::{
-    CONTEXT_SIZE, FACT_COUNT, FRONT_OFFSET, FRONT_SIZE, MOST_SLOTS, MOST_TAG_BYTES, STACK_SIZE,
+    FACT_COUNT, FRONT_OFFSET, FRONT_SIZE, MOST_SLOTS, MOST_TAG_BYTES, RECORD_SIZE, STACK_SIZE,
 };
 pub use machine::{Cell, Region, TrapReason, Value, Verdict};
 pub use opcode::{Opcode, Source};

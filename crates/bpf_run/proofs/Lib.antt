@@ -1,5 +1,6 @@
 pub mod Addresses
 pub mod ArithmeticWords
+pub mod Contexts
 pub mod HelperWords
 pub mod Leading
 pub mod LoadedWords

@@ -1,7 +1,8 @@
 //! The helper functions that a program may call (RFC 9669, section 4.3.1). Arguments are in R1 to R5,
 //! the answer comes in R0.
 ghost use Rattle.std.specs.Prelude.{◌≡◌, ◌≤◌, ◌<◌, ◌+◌, length, IfOk};
-ghost use Rattle.bpf_profile.specs.Limits.{most_slots, stack_size, context_size, most_tag_bytes};
+ghost use Rattle.bpf_profile.specs.Layouts.{context_size};
+ghost use Rattle.bpf_profile.specs.Limits.{most_slots, stack_size, most_tag_bytes};
 ghost use Rattle.bpf_profile.specs.Helpers.{stack_offset, number_argument, stretch_of, fact, front_byte, copy_tag, tag_starts, helper_answer, called};
 ghost use Rattle.bpf_slow.specs.Progress.{effect_of_step, answer_with};
 
@@ -11,8 +12,8 @@ use crate::memory::place_of;
 use crate::progress::Progress;
 use crate::registers::number_or;
 use bpf_profile::{
-    Cell, FACT_COUNT, FRONT_SIZE, Helper, MOST_TAG_BYTES, Region, Register, STACK_SIZE, TrapReason,
-    Value,
+    Cell, FACT_COUNT, FRONT_OFFSET, Helper, Layout, MOST_TAG_BYTES, Region, Register, STACK_SIZE,
+    TrapReason, Value,
 };
 use helpers::Record;
 use std::marker::Model;
@@ -86,12 +87,13 @@ impl PlainMachine {
         Ok(outcome.fact(i as usize))
     }
 
-    /// Helper 2: byte R1 of the body's front.
-    fn front_byte(&self, outcome: &Record) -> Result<u64, TrapReason>
-        ensures { answer_with result self.now.stack ≡ front_byte context_size outcome.now self.now }
+    /// Helper 2: byte R1 of the body's front, of which there is as much as the layout's context has.
+    fn front_byte(&self, outcome: &Record, layout: Layout) -> Result<u64, TrapReason>
+        ensures { answer_with result self.now.stack ≡ front_byte (context_size layout) outcome.now self.now }
     {
         let i = self.number_argument(Register::new(1))?;
-        if i >= FRONT_SIZE as u64 {
+        let end = layout.context_size();
+        if i >= end || FRONT_OFFSET as u64 + i >= end {
             return Err(TrapReason::Argument);
         }
         Ok(u64::from(outcome.front_byte(i as usize)))
@@ -128,14 +130,19 @@ impl PlainMachine {
     }
 
     /// The answer of a helper, which may write to the stack.
-    fn helper_answer(&mut self, outcome: &Record, helper: u32) -> Result<u64, TrapReason>
-        ensures answer { answer_with result self.new.stack ≡ helper_answer context_size outcome.now self.old helper }
+    fn helper_answer(
+        &mut self,
+        outcome: &Record,
+        layout: Layout,
+        helper: u32,
+    ) -> Result<u64, TrapReason>
+        ensures answer { answer_with result self.new.stack ≡ helper_answer (context_size layout) outcome.now self.old helper }
         ensures slot { self.new.slot ≡ self.old.slot }
         ensures registers { self.new.registers ≡ self.old.registers }
     {
         match Helper::with_number(helper) {
             Some(Helper::Fact) => self.fact(outcome),
-            Some(Helper::FrontByte) => self.front_byte(outcome),
+            Some(Helper::FrontByte) => self.front_byte(outcome, layout),
             Some(Helper::CopyTag) => self.copy_tag(outcome),
             Some(Helper::TagStarts) => self.tag_starts(outcome),
             None => Err(TrapReason::Helper),
@@ -143,11 +150,16 @@ impl PlainMachine {
     }
 
     /// Calls a helper, and goes to the next slot. R1 to R5 are unset then.
-    pub(crate) fn call(&mut self, outcome: &Record, helper: u32) -> Result<Progress, TrapReason>
+    pub(crate) fn call(
+        &mut self,
+        outcome: &Record,
+        layout: Layout,
+        helper: u32,
+    ) -> Result<Progress, TrapReason>
         requires { self.old.slot < most_slots }
-        ensures { effect_of_step result self.new ≡ called context_size outcome.now self.old helper }
+        ensures { effect_of_step result self.new ≡ called (context_size layout) outcome.now self.old helper }
     {
-        let answer = self.helper_answer(outcome, helper)?;
+        let answer = self.helper_answer(outcome, layout, helper)?;
         self.answer_call(answer);
         self.jump(self.slot() + 1);
         Ok(Progress::Goes)

@@ -1,6 +1,7 @@
 //! Loads and stores (RFC 9669, sections 5.1 and 5.2).
 ghost use Rattle.std.specs.Prelude.{◌≡◌, ◌≤◌, ◌<◌, ◌+◌, ◌%◌, ◌^◌, IfOk, OnOk};
-ghost use Rattle.bpf_profile.specs.Limits.{most_slots, context_size};
+ghost use Rattle.bpf_profile.specs.Layouts.{context_size};
+ghost use Rattle.bpf_profile.specs.Limits.{most_slots};
 ghost use Rattle.bpf_profile.specs.Machine.{address_of, place_of, region_size, place_for, loaded, load_value, is_stack, stored};
 ghost use Rattle.bpf_profile.specs.Words.{bytes_in};
 ghost use Rattle.bpf_slow.specs.Progress.{effect_of_step};
@@ -9,7 +10,7 @@ use crate::cells::{value_of_cells, write_value};
 use crate::machine::PlainMachine;
 use crate::progress::Progress;
 use bpf_profile::{
-    CONTEXT_SIZE, Cell, Extension, Operand, Region, Register, STACK_SIZE, Size, TrapReason, Value,
+    Cell, Extension, Layout, Operand, Region, Register, STACK_SIZE, Size, TrapReason, Value,
 };
 use bpf_words::extended;
 use helpers::Record;
@@ -55,26 +56,27 @@ pub(crate) fn place_of(region: Region, offset: u64) -> u64
     }
 }
 
-fn region_size(region: Region) -> u64
-    ensures { result ≡ region_size context_size region }
+/// The size of the region in bytes; the context has as many as the layout says.
+fn region_size(layout: Layout, region: Region) -> u64
+    ensures { result ≡ region_size (context_size layout) region }
 {
     match region {
         Region::Stack => STACK_SIZE as u64,
-        Region::Context => CONTEXT_SIZE as u64,
+        Region::Context => layout.context_size(),
     }
 }
 
 /// The place of an access that is aligned and lies in its region.
-fn place_for(size: Size, at: Address) -> Result<usize, TrapReason>
-    ensures place { result ≡ place_for context_size (bytes_in size) at }
+fn place_for(layout: Layout, size: Size, at: Address) -> Result<usize, TrapReason>
+    ensures place { result ≡ place_for (context_size layout) (bytes_in size) at }
     ensures aligned { OnOk result (at.offset % bytes_in size ≡ 0) }
-    ensures inside { IfOk result (λ place. (place ≡ place_of at.region at.offset) × (place + bytes_in size ≤ region_size context_size at.region)) }
+    ensures inside { IfOk result (λ place. (place ≡ place_of at.region at.offset) × (place + bytes_in size ≤ region_size (context_size layout) at.region)) }
 {
     if at.offset % size.bytes() != 0 {
         return Err(TrapReason::Misaligned);
     }
     let place = place_of(at.region, at.offset);
-    let end = region_size(at.region);
+    let end = region_size(layout, at.region);
     if place > end || end - place < size.bytes() {
         return Err(TrapReason::OutOfBounds);
     }
@@ -92,12 +94,13 @@ impl PlainMachine {
     fn loaded(
         &self,
         outcome: &Record,
+        layout: Layout,
         extension: Extension,
         size: Size,
         region: Region,
         place: usize,
     ) -> Result<Value, TrapReason>
-        requires inside { place + bytes_in size ≤ region_size context_size region }
+        requires inside { place + bytes_in size ≤ region_size (context_size layout) region }
         requires aligned { region ≡ Region.Context → place % bytes_in size ≡ 0 }
         ensures { result ≡ loaded outcome.now self.now extension (bytes_in size) region place }
     {
@@ -116,29 +119,31 @@ impl PlainMachine {
     pub(crate) fn load_value(
         &self,
         outcome: &Record,
+        layout: Layout,
         size: Size,
         extension: Extension,
         base: Register,
         distance: u64,
     ) -> Result<Value, TrapReason>
-        ensures { result ≡ load_value context_size outcome.now self.now size extension base distance }
+        ensures { result ≡ load_value (context_size layout) outcome.now self.now size extension base distance }
     {
         let pointer = self.read_register(base)?;
         let at = address_of(pointer, distance)?;
-        let place = place_for(size, at)?;
-        self.loaded(outcome, extension, size, at.region, place)
+        let place = place_for(layout, size, at)?;
+        self.loaded(outcome, layout, extension, size, at.region, place)
     }
 
     /// Stores the operand, and goes to the next slot.
     pub(crate) fn store(
         &mut self,
+        layout: Layout,
         size: Size,
         base: Register,
         distance: u64,
         operand: &Operand,
     ) -> Result<Progress, TrapReason>
         requires { self.old.slot < most_slots }
-        ensures { effect_of_step result self.new ≡ stored context_size self.old size base distance operand.now }
+        ensures { effect_of_step result self.new ≡ stored (context_size layout) self.old size base distance operand.now }
     {
         let pointer = self.read_register(base)?;
         let value = self.read_operand(operand)?;
@@ -146,7 +151,7 @@ impl PlainMachine {
         if !is_stack(at.region) {
             return Err(TrapReason::ContextWrite);
         }
-        let place = place_for(size, at)?;
+        let place = place_for(layout, size, at)?;
         let mut room = [Cell::Unset; 8];
         let cells = &mut room[..size.bytes() as usize];
         write_value(value, cells)?;

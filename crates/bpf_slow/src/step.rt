@@ -1,13 +1,16 @@
 //! One step.
 ghost use Rattle.std.specs.Prelude.{◌≡◌, ◌≤◌, ◌<◌, ◌+◌, ◌^◌, length};
-ghost use Rattle.bpf_profile.specs.Limits.{most_slots, context_size};
+ghost use Rattle.bpf_profile.specs.Layouts.{context_size};
+ghost use Rattle.bpf_profile.specs.Limits.{most_slots};
 ghost use Rattle.bpf_profile.specs.Machine.{goes};
 ghost use Rattle.bpf_profile.specs.Meaning.{sets, effect_of, step};
 ghost use Rattle.bpf_slow.specs.Progress.{effect_of_step};
 
 use crate::machine::PlainMachine;
 use crate::progress::Progress;
-use bpf_profile::{Instruction, Operand, Register, Slot, TrapReason, Value, instruction_at};
+use bpf_profile::{
+    Instruction, Layout, Operand, Register, Slot, TrapReason, Value, instruction_at,
+};
 use bpf_words::target_of;
 use helpers::Record;
 
@@ -30,10 +33,11 @@ impl PlainMachine {
     fn execute(
         &mut self,
         outcome: &Record,
+        layout: Layout,
         instruction: &Instruction,
     ) -> Result<Progress, TrapReason>
         requires { self.old.slot < most_slots }
-        ensures { effect_of_step result self.new ≡ effect_of context_size outcome.now self.old instruction.now }
+        ensures { effect_of_step result self.new ≡ effect_of (context_size layout) outcome.now self.old instruction.now }
     {
         match *instruction {
             Instruction::Arithmetic {
@@ -77,7 +81,7 @@ impl PlainMachine {
                 base,
                 offset,
             } => {
-                let value = self.load_value(outcome, size, extension, base, offset);
+                let value = self.load_value(outcome, layout, size, extension, base, offset);
                 self.set(destination, value)
             }
             Instruction::Store {
@@ -85,7 +89,7 @@ impl PlainMachine {
                 base,
                 offset,
                 ref operand,
-            } => self.store(size, base, offset, operand),
+            } => self.store(layout, size, base, offset, operand),
             Instruction::Jump { distance, .. } => {
                 self.jump(target_of(self.slot(), distance));
                 Ok(Progress::Goes)
@@ -97,23 +101,28 @@ impl PlainMachine {
                 ref right,
                 distance,
             } => self.branch(comparison, width, left, right, distance),
-            Instruction::Call { helper } => self.call(outcome, helper),
+            Instruction::Call { helper } => self.call(outcome, layout, helper),
             Instruction::Exit => self.exit(),
         }
     }
 
     /// One step of the program. On a trap or an answer nothing is said of the state.
     #[tactic(auto, unfolding(bpf_profile::specs::Meaning::step))]
-    pub(crate) fn step(&mut self, slots: &[Slot], outcome: &Record) -> Result<Progress, TrapReason>
+    pub(crate) fn step(
+        &mut self,
+        slots: &[Slot],
+        outcome: &Record,
+        layout: Layout,
+    ) -> Result<Progress, TrapReason>
         requires { length slots.now ≤ most_slots }
-        ensures { effect_of_step result self.new ≡ step context_size slots.now outcome.now self.old }
+        ensures { effect_of_step result self.new ≡ step (context_size layout) slots.now outcome.now self.old }
     {
         let slot = self.slot();
         if slot >= slots.len() {
             return Err(TrapReason::OutsideProgram);
         }
         match instruction_at(slots, slot) {
-            Some(instruction) => self.execute(outcome, &instruction),
+            Some(instruction) => self.execute(outcome, layout, &instruction),
             None => Err(TrapReason::OutsideProgram),
         }
     }

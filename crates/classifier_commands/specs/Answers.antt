@@ -2,8 +2,8 @@
 use Rattle.std.specs.Prelude.{◌≡◌, ◌⊎◌, ℕ, List, length, Option, Some, None}
 use Rattle.serde_json.specs.Data.{Data}
 use Rattle.refusals.specs.declared.RefusalNumber.TheVariants.{ProgramOutOfMemory, BadHex, BadJson, BadValue}
-use Rattle.bpf_profile.specs.declared.slot.Slot.{Slot}
-use Rattle.bpf_profile.specs.Limits.{context_size}
+use Rattle.bpf_profile.specs.declared.layout.Layout.{Layout}
+use Rattle.bpf_profile.specs.Layouts.{context_size}
 use Rattle.bpf_profile.specs.Meaning.{Judges}
 use Rattle.bpf_profile.specs.Outcomes.{Outcome}
 use Rattle.bpf_profile.specs.Safety.{IsSafe}
@@ -18,27 +18,27 @@ use Rattle.texts.specs.Hexadecimal.{hex_of}
 
 -- ---- programs
 
--- the text is hexadecimal of a program with these slots, which flow and analysis accept; the budget is that of its flow, and with it the program is safe
-abbrev pub IsAdmitted : List ℕ → List Slot → ℕ → Type 0
-IsAdmitted text slots budget =
-    (bytes : List ℕ) × (hex_of text ≡ Some bytes) × IsVerification bytes (record { slots = slots; budget = budget }) × IsSafe context_size slots budget
+-- the text is hexadecimal of this program, which flow and analysis accept on records of the layout; its budget is that of its flow, and with it the program is safe
+abbrev pub IsAdmitted : Layout → List ℕ → VerifiedProgram → Type 0
+IsAdmitted layout text program =
+    (bytes : List ℕ) × (hex_of text ≡ Some bytes) × IsVerification bytes program × (program.layout ≡ layout) × IsSafe (context_size layout) program.slots program.budget
 
--- the text is hexadecimal of a program that is accepted
-abbrev pub IsAccepted : List ℕ → Type 0
-IsAccepted text = (slots : List Slot) × (budget : ℕ) × IsAdmitted text slots budget
+-- the text is hexadecimal of a program that is accepted on records of the layout
+abbrev pub IsAccepted : Layout → List ℕ → Type 0
+IsAccepted layout text = (program : VerifiedProgram) × IsAdmitted layout text program
 
 -- why the text is no program that is accepted: memory ran out, it is no hexadecimal, or its bytes are refused for their first fault
-abbrev pub IsTextRefused : List ℕ → CommandRefusal → Type 0
-IsTextRefused text fault =
+abbrev pub IsTextRefused : Layout → List ℕ → CommandRefusal → Type 0
+IsTextRefused layout text fault =
     (fault.number ≡ ProgramOutOfMemory)
     ⊎ ((fault.number ≡ BadHex) × (hex_of text ≡ None))
-    ⊎ ((bytes : List ℕ) × (hex_of text ≡ Some bytes) × IsRefused bytes (record { slot = fault.place; number = fault.number }))
+    ⊎ ((bytes : List ℕ) × (hex_of text ≡ Some bytes) × IsRefused layout bytes (record { slot = fault.place; number = fault.number }))
 
 -- what `verify` answers
-abbrev pub IsVerifyAnswer : List ℕ → Answer → Type 0
-IsVerifyAnswer text (answer.Judged verdict steps budget) = ⊥
-IsVerifyAnswer text (answer.Accepted budget count) = (slots : List Slot) × IsAdmitted text slots budget × (count ≡ length slots)
-IsVerifyAnswer text (answer.Refused fault) = IsTextRefused text fault
+abbrev pub IsVerifyAnswer : Layout → List ℕ → Answer → Type 0
+IsVerifyAnswer layout text (answer.Judged verdict steps budget) = ⊥
+IsVerifyAnswer layout text (answer.Accepted budget count) = (program : VerifiedProgram) × IsAdmitted layout text program × (budget ≡ program.budget) × (count ≡ length program.slots)
+IsVerifyAnswer layout text (answer.Refused fault) = IsTextRefused layout text fault
 
 -- ---- outcomes
 
@@ -52,10 +52,10 @@ IsOutcomeRefused text fault =
     ((fault.number ≡ BadJson) × (json_of text ≡ None))
     ⊎ ((d : Data) × (fault.number ≡ BadValue) × (json_of text ≡ Some d) × (outcome_of d ≡ None))
 
--- what a program's slots, with their budget, answer to the text of an outcome
+-- what a program's slots, with their budget, answer to the text of an outcome, of which the program sees as much as its layout has
 abbrev pub IsJudgement : VerifiedProgram → List ℕ → Answer → Type 0
 IsJudgement program text (answer.Judged verdict steps budget) =
-    (outcome : Outcome) × IsOutcomeRead text outcome × Judges context_size program.slots outcome verdict steps × (budget ≡ program.budget)
+    (outcome : Outcome) × IsOutcomeRead text outcome × Judges (context_size program.layout) program.slots outcome verdict steps × (budget ≡ program.budget)
 IsJudgement program text (answer.Accepted budget count) = ⊥
 IsJudgement program text (answer.Refused fault) = IsOutcomeRefused text fault
 
@@ -69,10 +69,10 @@ abbrev pub IsReadJudgement : VerifiedProgram → Option (List ℕ) → Answer �
 IsReadJudgement program known answered = (read : List ℕ) × IsAllOf known read × IsJudgement program read answered
 
 -- a program that is admitted answers so to the outcome that is read
-abbrev pub IsAnswered : List ℕ → Option (List ℕ) → Answer → Type 0
-IsAnswered text known answered = (program : VerifiedProgram) × IsAdmitted text program.slots program.budget × IsReadJudgement program known answered
+abbrev pub IsAnswered : Layout → List ℕ → Option (List ℕ) → Answer → Type 0
+IsAnswered layout text known answered = (program : VerifiedProgram) × IsAdmitted layout text program × IsReadJudgement program known answered
 
 -- what `judge` answers: a refused program comes first
-abbrev pub IsJudgeAnswer : List ℕ → Option (List ℕ) → Answer → Type 0
-IsJudgeAnswer text known (answer.Refused fault) = IsTextRefused text fault ⊎ IsAnswered text known (answer.Refused fault)
-IsJudgeAnswer text known answered = IsAnswered text known answered
+abbrev pub IsJudgeAnswer : Layout → List ℕ → Option (List ℕ) → Answer → Type 0
+IsJudgeAnswer layout text known (answer.Refused fault) = IsTextRefused layout text fault ⊎ IsAnswered layout text known (answer.Refused fault)
+IsJudgeAnswer layout text known answered = IsAnswered layout text known answered

@@ -2,6 +2,8 @@
 use Rattle.std.specs.Prelude.{◌≡◌, ◌⊎◌, ℕ, List, [], ◌∷◌, ◌++◌, length, slice_index_or, codes, Option, ⊤}
 use Rattle.std.specs.Borrow.{Bor}
 use Rattle.std.specs.Io.KnownBytes.{Appends}
+use Rattle.bpf_profile.specs.declared.layout.Layout.{Layout}
+use Rattle.bpf_profile.specs.declared.layout.Layout.TheVariants as layout
 use Rattle.classifier_commands.specs.declared.answer.Answer.{Answer}
 use Rattle.classifier_commands.specs.declared.answer.Answer.TheVariants as answer
 use Rattle.classifier_commands.specs.declared.answer.CommandRefusal.{CommandRefusal}
@@ -27,28 +29,41 @@ word words i = (slice_index_or words i (record { ref_ptr = (0, 0); now = [] })).
 abbrev pub Names : Words → List ℕ → Type 0
 Names words name = (length words ≡ 2) × (word words 0 ≡ name)
 
+-- there are three words, and these are the first and the last
+abbrev pub NamesWith : Words → List ℕ → List ℕ → Type 0
+NamesWith words name last = (length words ≡ 3) × (word words 0 ≡ name) × (word words 2 ≡ last)
+
+-- the words are the name, a program and the number of this layout; without a number it is layout 1
+abbrev pub NamesFor : Words → List ℕ → Layout → Type 0
+NamesFor words name layout.One = Names words name ⊎ NamesWith words name (codes "1")
+NamesFor words name layout.Two = NamesWith words name (codes "2")
+
+-- the words are the name and a program, for one of the layouts
+abbrev pub NamesForAny : Words → List ℕ → Type 0
+NamesForAny words name = NamesFor words name layout.One ⊎ NamesFor words name layout.Two
+
 -- there is one word, the name
 abbrev pub NamesAlone : Words → List ℕ → Type 0
 NamesAlone words name = (length words ≡ 1) × (word words 0 ≡ name)
 
 abbrev pub NamesNone : Words → Type 0
-NamesNone words = (¬ (Names words (codes "judge"))) × (¬ (Names words (codes "verify"))) × (¬ (NamesAlone words (codes "asm"))) × (¬ (Names words (codes "dis")))
+NamesNone words = (¬ (NamesForAny words (codes "judge"))) × (¬ (NamesForAny words (codes "verify"))) × (¬ (NamesAlone words (codes "asm"))) × (¬ (Names words (codes "dis")))
 
 -- the words ask for this
 abbrev pub IsRequest : Words → Request → Type 0
-IsRequest words (request.Judge program) = Names words (codes "judge") × (program.now ≡ word words 1)
-IsRequest words (request.Verify program) = Names words (codes "verify") × (program.now ≡ word words 1)
+IsRequest words (request.Judge program layout) = NamesFor words (codes "judge") layout × (program.now ≡ word words 1)
+IsRequest words (request.Verify program layout) = NamesFor words (codes "verify") layout × (program.now ≡ word words 1)
 IsRequest words request.Assemble = NamesAlone words (codes "asm")
 IsRequest words (request.Disassemble program) = Names words (codes "dis") × (program.now ≡ word words 1)
 
--- input is asked for: by `judge` with a program that is accepted, and by `asm`
+-- input is asked for: by `judge` with a program that is accepted on records of its layout, and by `asm`
 abbrev pub AsksForInput : Words → Type 0
-AsksForInput words = (Names words (codes "judge") × IsAccepted (word words 1)) ⊎ NamesAlone words (codes "asm")
+AsksForInput words = ((layout : Layout) × NamesFor words (codes "judge") layout × IsAccepted layout (word words 1)) ⊎ NamesAlone words (codes "asm")
 
 -- the request asks for input
 abbrev pub WantsInput : Request → Type 0
-WantsInput (request.Judge program) = IsAccepted program.now
-WantsInput (request.Verify program) = ⊥
+WantsInput (request.Judge program layout) = IsAccepted layout program.now
+WantsInput (request.Verify program layout) = ⊥
 WantsInput request.Assemble = ⊤
 WantsInput (request.Disassemble program) = ⊥
 
@@ -85,11 +100,11 @@ IsSettled ended = (ended ≡ status.Done) ⊎ (ended ≡ status.Refused)
 abbrev pub IsPrinted : Answer → Status → Option (List ℕ) → Option (List ℕ) → Type 0
 IsPrinted answered ended before after = (ended ≡ status_of answered) × Appends before after (answer_text answered ++ 10 ∷ [])
 
-abbrev pub HasJudged : List ℕ → Option (List ℕ) → Status → Option (List ℕ) → Option (List ℕ) → Type 0
-HasJudged program known ended before after = (answered : Answer) × IsJudgeAnswer program known answered × IsPrinted answered ended before after
+abbrev pub HasJudged : Layout → List ℕ → Option (List ℕ) → Status → Option (List ℕ) → Option (List ℕ) → Type 0
+HasJudged layout program known ended before after = (answered : Answer) × IsJudgeAnswer layout program known answered × IsPrinted answered ended before after
 
-abbrev pub HasVerified : List ℕ → Status → Option (List ℕ) → Option (List ℕ) → Type 0
-HasVerified program ended before after = (answered : Answer) × IsVerifyAnswer program answered × IsPrinted answered ended before after
+abbrev pub HasVerified : Layout → List ℕ → Status → Option (List ℕ) → Option (List ℕ) → Type 0
+HasVerified layout program ended before after = (answered : Answer) × IsVerifyAnswer layout program answered × IsPrinted answered ended before after
 
 -- the hexadecimal of the program that the text stands for, as a line, or the text's refusal
 abbrev pub HasAssembled : Option (List ℕ) → Status → Option (List ℕ) → Option (List ℕ) → Type 0
@@ -106,15 +121,15 @@ HasDisassembled program ended before after =
 
 -- what was asked for was done, where the reader has these bytes
 abbrev pub IsDone : Request → Option (List ℕ) → Status → Option (List ℕ) → Option (List ℕ) → Type 0
-IsDone (request.Judge program) known ended before after = HasJudged program.now known ended before after
-IsDone (request.Verify program) known ended before after = HasVerified program.now ended before after
+IsDone (request.Judge program layout) known ended before after = HasJudged layout program.now known ended before after
+IsDone (request.Verify program layout) known ended before after = HasVerified layout program.now ended before after
 IsDone request.Assemble known ended before after = HasAssembled known ended before after
 IsDone (request.Disassemble program) known ended before after = HasDisassembled program.now ended before after
 
 -- what the words ask for was done, where the reader has these bytes
 abbrev pub HasAnswered : Words → Option (List ℕ) → Status → Option (List ℕ) → Option (List ℕ) → Type 0
 HasAnswered words known ended before after =
-    (Names words (codes "judge") × HasJudged (word words 1) known ended before after)
-    ⊎ (Names words (codes "verify") × HasVerified (word words 1) ended before after)
+    ((layout : Layout) × NamesFor words (codes "judge") layout × HasJudged layout (word words 1) known ended before after)
+    ⊎ ((layout : Layout) × NamesFor words (codes "verify") layout × HasVerified layout (word words 1) ended before after)
     ⊎ (NamesAlone words (codes "asm") × HasAssembled known ended before after)
     ⊎ (Names words (codes "dis") × HasDisassembled (word words 1) ended before after)

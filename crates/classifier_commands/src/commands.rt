@@ -13,6 +13,7 @@ use crate::error::CommandError;
 use crate::input::read_all;
 use crate::judging::{judge, verify};
 use crate::printing::{print, print_line, print_lines};
+use bpf_profile::Layout;
 use counted_io::Counted;
 use std::alloc::Global;
 use std::io::{Read, Write};
@@ -20,10 +21,10 @@ use std::io::{Read, Write};
 /// What the program is asked for.
 #[derive(Drop)]
 enum Request<'a> {
-    /// `judge PROGRAM`: an outcome's JSON is read.
-    Judge(&'a str),
-    /// `verify PROGRAM`: nothing is read.
-    Verify(&'a str),
+    /// `judge PROGRAM [LAYOUT]`: an outcome's JSON is read.
+    Judge { program: &'a str, layout: Layout },
+    /// `verify PROGRAM [LAYOUT]`: nothing is read.
+    Verify { program: &'a str, layout: Layout },
     /// `asm`: assembler text is read.
     Assemble,
     /// `dis PROGRAM`: nothing is read.
@@ -31,14 +32,28 @@ enum Request<'a> {
 }
 
 impl<'a> Request<'a> {
-    /// What the words ask for.
+    /// What the words ask for. A layout that is missing is layout 1.
     fn from_words(words: &[&'a str]) -> Option<Request<'a>>
         ensures some { IfSome result (λ request. IsRequest words.now request) }
         ensures none { IsNone result → NamesNone words.now }
     {
         match *words {
-            ["judge", program] => Some(Request::Judge(program)),
-            ["verify", program] => Some(Request::Verify(program)),
+            ["judge", program] | ["judge", program, "1"] => Some(Request::Judge {
+                program,
+                layout: Layout::One,
+            }),
+            ["judge", program, "2"] => Some(Request::Judge {
+                program,
+                layout: Layout::Two,
+            }),
+            ["verify", program] | ["verify", program, "1"] => Some(Request::Verify {
+                program,
+                layout: Layout::One,
+            }),
+            ["verify", program, "2"] => Some(Request::Verify {
+                program,
+                layout: Layout::Two,
+            }),
             ["asm"] => Some(Request::Assemble),
             ["dis", program] => Some(Request::Disassemble(program)),
             _ => None,
@@ -60,8 +75,12 @@ impl<'a> Request<'a> {
         ensures ends { AtMostOneMore reader.old.ends reader.new.ends }
     {
         match self {
-            Request::Judge(program) => judge_outcome(alloc, program, reader, out),
-            Request::Verify(program) => print(alloc, verify(alloc, program), out),
+            Request::Judge { program, layout } => {
+                judge_outcome(alloc, program, *layout, reader, out)
+            }
+            Request::Verify { program, layout } => {
+                print(alloc, verify(alloc, program, *layout), out)
+            }
             Request::Assemble => assemble_text(alloc, reader, out),
             Request::Disassemble(program) => disassemble_program(alloc, program, out),
         }
@@ -133,21 +152,22 @@ impl From<Answer> for Status {
     }
 }
 
-/// Judges the outcome that is read.
+/// Judges the outcome that is read, by a program for records of a layout.
 fn judge_outcome<R: Read, O: Write>(
     alloc: Global,
     program: &str,
+    layout: Layout,
     reader: &mut Counted<R>,
     out: &mut Counted<O>,
 ) -> Result<Status, CommandError>
-    ensures judged { IfOk result (λ status. HasJudged program.now (R.remaining reader.old.inner) status (O.contents out.old.inner) (O.contents out.new.inner)) }
+    ensures judged { IfOk result (λ status. HasJudged layout program.now (R.remaining reader.old.inner) status (O.contents out.old.inner) (O.contents out.new.inner)) }
     ensures settled { IfOk result IsSettled }
-    ensures part { IfErr result (λ error. IsCut error out.old out.new (IsInPart (HasJudged program.now (R.remaining reader.old.inner)) (O.contents out.old.inner) (O.contents out.new.inner))) }
-    ensures unread { (IsAccepted program.now → ⊥) → reader.new ≡ reader.old }
+    ensures part { IfErr result (λ error. IsCut error out.old out.new (IsInPart (HasJudged layout program.now (R.remaining reader.old.inner)) (O.contents out.old.inner) (O.contents out.new.inner))) }
+    ensures unread { (IsAccepted layout program.now → ⊥) → reader.new ≡ reader.old }
     ensures cause { IsCommandCause result reader.old.failures reader.new.failures out.old.failures out.new.failures }
     ensures ends { AtMostOneMore reader.old.ends reader.new.ends }
 {
-    let answer = judge(alloc, program, reader)?;
+    let answer = judge(alloc, program, layout, reader)?;
     print(alloc, answer, out)
 }
 
@@ -202,7 +222,8 @@ fn show_usage<E: Write>(err: &mut Counted<E>) -> Status
 /// An answer, also a refusal, is one line on `out`; for wrong words there is a line on `err` and
 /// nothing on `out`. Where the reader or the writer fails, or memory runs out with no answer that
 /// says so, nothing more is written. One failed read or write ends the command, also one that was
-/// interrupted. Input is read byte by byte: give it a reader that is buffered.
+/// interrupted. Input is read byte by byte: give it a reader that is buffered. Behind the program of `judge` and of
+/// `verify` may stand the number of the layout of records that it is for, `1` or `2`; without it, it is for layout 1.
 pub fn command<R: Read, O: Write, E: Write>(
     alloc: Global,
     words: &[&str],
@@ -221,7 +242,7 @@ pub fn command<R: Read, O: Write, E: Write>(
     // to the words.
     ensures unanswered { IsUnanswered result → out.new ≡ out.old }
     ensures part { result ≡ Status.WriteFailed → IsAnsweredInPart words.now (R.remaining reader.old.inner) (O.contents out.old.inner) (O.contents out.new.inner) }
-    // No input is taken but by `asm`, and by `judge` with a program that is accepted.
+    // No input is taken but by `asm`, and by `judge` with a program that is accepted on records of its layout.
     ensures unread { (AsksForInput words.now → ⊥) → reader.new ≡ reader.old }
     // Words that name no command print nothing on `out`, and the usage on `err`, or a beginning of it where a write failed.
     ensures silent { NamesNone words.now → out.new ≡ out.old }

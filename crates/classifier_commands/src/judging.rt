@@ -10,6 +10,7 @@ use crate::answer::{Answer, CommandRefusal};
 use crate::error::CommandError;
 use crate::hexadecimal::hex_bytes;
 use crate::input::read_all;
+use bpf_profile::Layout;
 use bpf_run::run;
 use counted_io::Counted;
 use helpers::Record;
@@ -20,20 +21,20 @@ use std::io::Read;
 use texts::json;
 use verifier::Verified;
 
-/// The verified program of hexadecimal text.
-fn admitted(alloc: Global, text: &str) -> Result<Verified, CommandRefusal>
-    ensures ok { IfOk result (λ program. IsAdmitted text.now program.slots program.budget) }
-    ensures err { IfErr result (λ fault. IsTextRefused text.now fault) }
+/// The program of hexadecimal text, verified on records of a layout.
+fn admitted(alloc: Global, text: &str, layout: Layout) -> Result<Verified, CommandRefusal>
+    ensures ok { IfOk result (λ program. IsAdmitted layout text.now program) }
+    ensures err { IfErr result (λ fault. IsTextRefused layout text.now fault) }
 {
     let bytes = hex_bytes(alloc, text)?;
-    Ok(verifier::verify(alloc, &bytes)?)
+    Ok(verifier::verify(alloc, &bytes, layout)?)
 }
 
-/// The budget and the number of slots of a program in hexadecimal, or why it is refused.
-pub(crate) fn verify(alloc: Global, text: &str) -> Answer
-    ensures { IsVerifyAnswer text.now result }
+/// The budget and the number of slots of a program in hexadecimal for records of a layout, or why it is refused.
+pub(crate) fn verify(alloc: Global, text: &str, layout: Layout) -> Answer
+    ensures { IsVerifyAnswer layout text.now result }
 {
-    match admitted(alloc, text) {
+    match admitted(alloc, text, layout) {
         Ok(program) => Answer::Accepted {
             budget: program.budget(),
             slots: program.program().len(),
@@ -96,20 +97,21 @@ fn judge_read<R: Read>(
     Ok(judge_outcome(alloc, program, &text)?)
 }
 
-/// The verdict of a program in hexadecimal on the outcome whose JSON is read, or why one of them is
-/// refused. The program comes first: nothing is read where it is refused. An error comes where
+/// The verdict of a program in hexadecimal, which is for records of a layout, on the outcome whose JSON is read, or why
+/// one of them is refused. The program comes first: nothing is read where it is refused. An error comes where
 /// reading fails, or memory runs out behind the program.
 pub(crate) fn judge<R: Read>(
     alloc: Global,
     text: &str,
+    layout: Layout,
     reader: &mut Counted<R>,
 ) -> Result<Answer, CommandError>
-    ensures judged { IfOk result (λ answer. IsJudgeAnswer text.now (R.remaining reader.old.inner) answer) }
-    ensures unread { (IsAccepted text.now → ⊥) → reader.new ≡ reader.old }
+    ensures judged { IfOk result (λ answer. IsJudgeAnswer layout text.now (R.remaining reader.old.inner) answer) }
+    ensures unread { (IsAccepted layout text.now → ⊥) → reader.new ≡ reader.old }
     ensures cause { IsReadCause result reader.old.failures reader.new.failures }
     ensures ends { AtMostOneMore reader.old.ends reader.new.ends }
 {
-    match admitted(alloc, text) {
+    match admitted(alloc, text, layout) {
         Ok(program) => judge_read(alloc, &program, reader),
         Err(fault) => Ok(Answer::Refused(fault)),
     }

@@ -1,8 +1,9 @@
 //! Mistakes of the services in a file.
 use crate::configurations::mistake_in;
 use crate::values::{Place, missing, unknown, wrong};
+use bpf_profile::Layout;
 use refusals::RefusalNumber;
-use requests::{program, text_at};
+use requests::{layout, program, text_at};
 use serde_json::{Map, Value};
 use std::alloc::{AllocError, Global};
 use verifier::verify;
@@ -26,8 +27,12 @@ fn unknown_key(
 ) -> Result<Option<String>, AllocError> {
     for key in members.keys() {
         let key = key.as_str();
-        if !matches!(key, "name" | "config" | "program") {
-            return unknown(alloc, Place { path, key }, "name, config and program");
+        if !matches!(key, "name" | "config" | "program" | "layout") {
+            return unknown(
+                alloc,
+                Place { path, key },
+                "name, config, program and layout",
+            );
         }
     }
     Ok(None)
@@ -63,22 +68,32 @@ fn name_mistake(
     }
 }
 
-/// Returns why the verifier refuses a program, or nothing where it is accepted.
-fn refusal(alloc: Global, path: &str, bytes: &[u8]) -> Result<Option<String>, AllocError> {
-    match verify(alloc, bytes) {
+/// Returns why the verifier refuses a program on records of a layout, or nothing where it is accepted.
+fn refusal(
+    alloc: Global,
+    path: &str,
+    bytes: &[u8],
+    layout: Layout,
+) -> Result<Option<String>, AllocError> {
+    match verify(alloc, bytes, layout) {
         Ok(_) => Ok(None),
         Err(refusal) if refusal.number == RefusalNumber::ProgramOutOfMemory => Err(AllocError),
         Err(refusal) => Ok(Some(format!(in alloc; "{path}program: {refusal}")?)),
     }
 }
 
-/// Returns what is wrong with a service's program.
-fn program_mistake(alloc: Global, path: &str, value: &Value) -> Result<Option<String>, AllocError> {
+/// Returns what is wrong with a service's program, which is for records of a layout.
+fn program_mistake(
+    alloc: Global,
+    path: &str,
+    value: &Value,
+    layout: Layout,
+) -> Result<Option<String>, AllocError> {
     let Some(found) = value.get("program") else {
         return Ok(None);
     };
     match program(alloc, value)? {
-        Some(bytes) => refusal(alloc, path, &bytes),
+        Some(bytes) => refusal(alloc, path, &bytes, layout),
         None => wrong(
             alloc,
             Place {
@@ -88,6 +103,26 @@ fn program_mistake(alloc: Global, path: &str, value: &Value) -> Result<Option<St
             found,
             "a program's bytes as text in hexadecimal",
         ),
+    }
+}
+
+/// Returns what is wrong with a service's layout, or with its program, which is for records of that layout.
+fn classifier_mistake(
+    alloc: Global,
+    path: &str,
+    value: &Value,
+) -> Result<Option<String>, AllocError> {
+    if let Some(layout) = layout(value) {
+        return program_mistake(alloc, path, value, layout);
+    }
+    let place = Place {
+        path,
+        key: "layout",
+    };
+    match value.get("layout") {
+        Some(found) => wrong(alloc, place, found, "the whole number 1 or 2"),
+        // One that is missing is layout 1.
+        None => Ok(None),
     }
 }
 
@@ -133,7 +168,7 @@ fn service_mistake(
     if let Some(mistake) = configuration_mistake(alloc, &path, value)? {
         return Ok(Some(mistake));
     }
-    program_mistake(alloc, &path, value)
+    classifier_mistake(alloc, &path, value)
 }
 
 /// Returns what is wrong with a file's services.

@@ -16,7 +16,8 @@ use Rattle.service_profile.specs.Limits.{greatest_number}
 use Rattle.service_profile.specs.Machine.{is_entered, current_version}
 use Rattle.book.proofs.Deciding.{decision_near}
 use Rattle.service_profile.specs.Openings.{first_opening}
-use Rattle.desk.specs.Kept.{IsGood, IsOpeningAfter, IsOfOne, AreOfSome, most_cuts}
+use Rattle.book.specs.Good.{IsGood}
+use Rattle.desk.specs.Kept.{IsOpeningAfter, IsOfOne, AreOfSome, most_cuts}
 use Rattle.service_profile.specs.declared.configuration.Config.{Config}
 use Rattle.verifier.specs.declared.verified.Verified.{Verified}
 use Rattle.desk.specs.Services.{ServiceData, service_of}

@@ -10,7 +10,8 @@ use Rattle.service.specs.Asking as asking
 use Rattle.service.specs.declared.request.Report.{Report}
 use Rattle.desk.specs.AfterSome.{IsReplied, IsFound, IsFinished, IsReported}
 use Rattle.desk.specs.Calls.{IsCalledAt}
-use Rattle.desk.specs.Seats.{SeatData, after_call, entries_made, IsCounted}
+use Rattle.book.specs.Counts.{entries_made, IsCounted}
+use Rattle.desk.specs.Seats.{SeatData, after_call}
 use Rattle.desk.specs.Services.{ServiceData}
 
 module _ (services : List ServiceData) where
@@ -32,22 +33,3 @@ module _ (services : List ServiceData) where
   reported seat moment report r after room (found, between, call, ended) =
       let look = looked seat report.ticket found between call in
       (found, look.0, ends seat moment report r after room found (subst (λ s. asking.IsFinishServed (IsCalledAt services) s moment report found r after) look.1 ended))
-
--- what a reply counts
-counted_by : (count : ℕ) (r : Reply) (after : ℕ) → after ≡ count + entries_made r → IsCounted count r after
-counted_by count (reply.Refused number) after is = (omega (arith, is), omega (arith, is))
-counted_by count (reply.Permitted ticket version state) after is = omega (arith, is)
-counted_by count (reply.Finished fate verdict steps version state) after is = omega (arith, is)
-counted_by count (reply.Released state) after is = omega (arith, is)
-counted_by count (reply.Installed version budget) after is = omega (arith, is)
-counted_by count (reply.Moved state period) after is = omega (arith, is)
-
-refused_counts : (count : ℕ) (number : RefusalNumber) → IsCounted count (reply.Refused number) count
-refused_counts count number = (omega arith, omega arith)
-
-counts_by : (services : List ServiceData) (seat : SeatData) (moment ticket : ℕ) (report : Report) (r : Reply) (after : SeatData) (found : Result VerifiedProgram RefusalNumber) → IsFinished services seat moment report.ticket report.outcome found r after → IsCounted seat.count r after.count
-counts_by services seat moment ticket report r after (Err number) ended = rw (ended.0, ended.1) (refused_counts seat.count number)
-counts_by services seat moment ticket report r after (Ok program) ended = counted_by seat.count r after.count (ap (λ (s : SeatData). s.count) ended.5)
-
-pub counts : (services : List ServiceData) (seat : SeatData) (moment : ℕ) (report : Report) (r : Reply) (after : SeatData) → IsReported services seat moment report.ticket report.outcome r after → IsCounted seat.count r after.count
-counts services seat moment report r after said = counts_by services seat moment report.ticket report r after said.0 said.2

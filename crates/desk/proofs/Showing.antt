@@ -9,7 +9,7 @@ use Rattle.desk.specs.contracts.desks.LockedService as service
 use Rattle.desk.specs.contracts.kept.Kept as kept
 use Rattle.desk.specs.contracts.seats.Seat as seat
 use Rattle.desk.specs.contracts.tokens.Tokens as tokens
-use Rattle.desk.proofs.Sending.{book_field_send}
+use Rattle.book.proofs.Sending.{book_field_send}
 use Rattle.std.specs.Sync.Ledger.{chain, row, Rule, share_owns, book_owns}
 use Rattle.std.specs.declared.sync.ledger.Ledger.{Ghosts}
 use Rattle.desk.specs.declared.offered.Offered as offered

@@ -12,7 +12,8 @@ use Rattle.service_profile.specs.Events.{EventData, finishes, EntryData, History
 use Rattle.service_profile.specs.Histories.{past_of}
 use Rattle.desk.specs.Seats.{SeatData, after_call}
 use Rattle.desk.specs.Services.{ServiceData}
-use Rattle.desk.specs.Kept.{IsGood, IsOfOne}
+use Rattle.book.specs.Good.{IsGood}
+use Rattle.desk.specs.Kept.{IsOfOne}
 
 -- a legal history of one of these services before one hold of the lock, and a legal history after it, are related so
 pub record AfterSome (services : List ServiceData) (Holds : History → History → Type 0) : Type 0 where

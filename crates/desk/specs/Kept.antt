@@ -2,15 +2,10 @@
 use Rattle.std.specs.Prelude.{◌≡◌, ℕ, zero, suc, ◌+◌, ◌-◌, ◌^◌, List, [], ◌∷◌, Contains, Ok, ⊤}
 use Rattle.service_profile.specs.Answers.{cut}
 use Rattle.service_profile.specs.Events.{Opening, History}
-use Rattle.service_profile.specs.Histories.{past_of, next_line, IsLegal}
+use Rattle.service_profile.specs.Histories.{past_of, next_line}
 use Rattle.service_profile.specs.Openings.{first_opening}
 use Rattle.desk.specs.Services.{ServiceData}
-use Rattle.book.specs.Sound.{IsSound}
-
--- a legal history, of which all holds that legal histories keep
-pub record IsGood (history : History) : Type 0 where
-  pub legal : IsLegal history
-  pub sound : IsSound (past_of history)
+use Rattle.book.specs.Good.{IsGood}
 
 -- the number of the last entry, 0 before the first
 abbrev pub last_number : History → ℕ

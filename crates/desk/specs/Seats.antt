@@ -1,8 +1,7 @@
 -- A seat, and what calls do to its counts.
-use Rattle.std.specs.Prelude.{ℕ, suc, ◌+◌, ◌≤◌, ◌≡◌, if◌then◌else◌, Result, Ok, Err}
+use Rattle.std.specs.Prelude.{ℕ, ◌+◌, Result, Ok, Err}
 use Rattle.service_profile.specs.declared.replies.Reply.{Reply}
-use Rattle.service_profile.specs.declared.replies.Reply.TheVariants as reply
-use Rattle.service_profile.specs.Machine.{is_entered}
+use Rattle.book.specs.Counts.{entries_made}
 
 -- its number, how many entries its calls have made, and how many cuts
 pub record SeatData : Type 0 where
@@ -12,10 +11,6 @@ pub record SeatData : Type 0 where
 
 abbrev pub seat_of : ℕ → ℕ → ℕ → SeatData
 seat_of number count cuts = record { number = number; count = count; cuts = cuts }
-
--- how many entries a reply makes: one, where it stands in the journal
-abbrev pub entries_made : Reply → ℕ
-entries_made r = if is_entered r then 1 else 0
 
 -- the seat after a call with this reply
 abbrev pub after_call : SeatData → Reply → SeatData
@@ -28,8 +23,3 @@ cuts_made (Err number) = 0
 
 abbrev pub after_cut : {A E : Type 0} → SeatData → Result A E → SeatData
 after_cut seat found = record { number = seat.number; count = seat.count; cuts = seat.cuts + cuts_made found }
-
--- the count before and after a report: a success counts once, an entered refusal at most once, and another refusal not at all
-abbrev pub IsCounted : ℕ → Reply → ℕ → Type 0
-IsCounted before (reply.Refused number) after = (before ≤ after) × (after ≤ before + entries_made (reply.Refused number))
-IsCounted before success after = after ≡ suc before

@@ -1,7 +1,8 @@
 //! The end of a desk.
 ghost use Rattle.std.specs.Prelude.{◌≡◌, ◌≢◌, ◌⊎◌, ◌+◌, ◌*◌, ◌≤◌, ℕ, List, [], length, map, sum, vec_len, vec_capacity, IfOk, IfErr};
 ghost use Rattle.std.specs.List.{AllByRecursion};
-ghost use Rattle.desk.specs.Kept.{IsGood, AreOfSome, last_number, most_numbers, most_cuts};
+ghost use Rattle.desk.specs.Kept.{AreOfSome, last_number, most_numbers, most_cuts};
+ghost use Rattle.book.specs.Good.{IsGood};
 ghost use Rattle.desk.specs.Closing.{IsUnclosed};
 
 use crate::desks::{Desk, LockedService};

@@ -4,7 +4,8 @@ ghost use Rattle.std.specs.Arc.{arc_value};
 ghost use Rattle.book.specs.Seen.{seen};
 ghost use Rattle.service_profile.specs.Answers.{IsApplied, map_ok};
 ghost use Rattle.service_profile.specs.Histories.{past_of, next_line};
-ghost use Rattle.desk.specs.Kept.{IsGood, IsOfOne, IsKept, most_numbers, most_cuts};
+ghost use Rattle.desk.specs.Kept.{IsOfOne, IsKept, most_numbers, most_cuts};
+ghost use Rattle.book.specs.Good.{IsGood};
 ghost use Rattle.desk.specs.Seats.{after_call, after_cut};
 ghost use Rattle.desk.specs.AfterSome.{IsReplied, IsFound, IsShown, IsPageFrom, IsCutOff, IsRolledOff};
 

@@ -1,7 +1,7 @@
 //! Reports: a look at the ticket, the run of its classifier, and the finish.
 ghost use Rattle.std.specs.Prelude.{◌≡◌, ◌<◌, ◌-◌, ◌^◌};
 ghost use Rattle.desk.specs.Desks.{IsServiceOf};
-ghost use Rattle.desk.specs.Seats.{IsCounted};
+ghost use Rattle.book.specs.Counts.{IsCounted};
 ghost use Rattle.desk.specs.AfterSome.{IsReported};
 
 use crate::desks::{Desk, ServiceId};

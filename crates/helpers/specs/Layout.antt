@@ -26,7 +26,7 @@ method_number method.Options = 7
 method_number method.Trace = 8
 method_number method.Patch = 9
 
--- the 128 bytes, each number with its lowest byte first: 64 of numbers, and 64 of the body
+-- the 192 bytes, each number with its lowest byte first: 64 of numbers, and 128 of the body
 unfoldable pub context_of : Fields → List ℕ
 context_of f =
     little_bytes 4 (kind_number f.kind)

@@ -4,7 +4,7 @@ ghost use Rattle.helpers.specs.Layout.{kind_number, method_number, context_of};
 ghost use Rattle.helpers.specs.Names.{kind_named, method_named};
 
 use crate::writer::Writer;
-use bpf_profile::{CONTEXT_SIZE, FRONT_SIZE};
+use bpf_profile::{FRONT_SIZE, RECORD_SIZE};
 
 /// How a call ended.
 #[derive(Clone, Copy)]
@@ -118,7 +118,7 @@ pub struct Fields {
 impl Fields {
     /// The context with these fields.
     #[tactic(auto, unfolding(crate::specs::Layout::context_of))]
-    pub fn context(&self) -> [u8; CONTEXT_SIZE]
+    pub fn context(&self) -> [u8; RECORD_SIZE]
         ensures { result ≡ context_of self.now }
     {
         let mut context = Writer::new();

@@ -158,7 +158,7 @@ impl Record {
     /// Each key may be missing, and other keys are ignored: `kind` (`response`, which is meant where
     /// it is missing, `timeout`, `refused`, `reset` or `error`), `status` and `attempt` (below
     /// 2^32), `duration_ms`, `request_bytes`, `response_bytes`, `flags` and `body_length` (below
-    /// 2^64), `method` (any text), `body_front` (hexadecimal, at most 64 bytes), `facts` (at most
+    /// 2^64), `method` (any text), `body_front` (hexadecimal, at most 128 bytes), `facts` (at most
     /// sixteen numbers below 2^64) and `tag` (hexadecimal, at most 32 bytes). A missing number is 0,
     /// and a missing text or array has nothing.
     ///

@@ -2,22 +2,26 @@
 ghost use Rattle.std.specs.Prelude.{◌≡◌, ◌≤◌, ◌<◌, ◌+◌, ◌%◌, length, drop, IsNone, IfSome, ◌↔◌, nat_eq, slice_index};
 ghost use Rattle.std.specs.List.{starts_with};
 ghost use Rattle.byteorder.specs.Endian.{little_number};
-ghost use Rattle.bpf_profile.specs.Limits.{context_size, front_offset, front_size, fact_count, most_tag_bytes};
+ghost use Rattle.bpf_profile.specs.Limits.{record_size, front_offset, front_size, fact_count, most_tag_bytes};
 ghost use Rattle.bpf_profile.specs.Helpers.{tag_front};
 ghost use Rattle.bpf_profile.specs.Outcomes.{IsOutcome, duration_of};
 ghost use Rattle.bpf_profile.specs.Words.{bytes_in};
+ghost use Rattle.helpers.specs.Padded.{padded};
 
 use crate::bytes::{show_bytes, show_words, write_padded};
 use crate::tag::Tag;
-use bpf_profile::{CONTEXT_SIZE, FACT_COUNT, FRONT_OFFSET, Size};
+use bpf_profile::{FACT_COUNT, FRONT_OFFSET, RECORD_SIZE, Size};
 use byteorder::{ByteOrder, LittleEndian};
 use std::marker::Model;
+
+/// The size of the context that programs of layout 1 see, in bytes.
+const SHORT_CONTEXT: usize = 128;
 
 /// Where the duration stands in the context.
 const DURATION: usize = 8;
 
-/// The record of an outcome of a guarded call, as a program sees it: 128 bytes of context, sixteen
-/// facts, and a tag of at most 32 bytes. It takes no memory.
+/// The record of an outcome of a guarded call, as programs see it: 192 bytes of context, of which
+/// programs of layout 1 see the first 128, sixteen facts, and a tag of at most 32 bytes. It takes no memory.
 ///
 /// Numbers in the context have their lowest byte first. At offset 0 stands the kind in 32 bits
 /// (response 0, timeout 1, refused 2, reset 3, error 4), at 4 the status in 32 bits, and then, in
@@ -25,10 +29,10 @@ const DURATION: usize = 8;
 /// the response. At 32 stands the number of the attempt and at 36 the method (GET 1, HEAD 2, POST 3,
 /// PUT 4, DELETE 5, CONNECT 6, OPTIONS 7, TRACE 8, PATCH 9, another 0), both in 32 bits, at 40 the
 /// flags, at 48 the length of the body and at 56 zero, in 64 bits each, and from 64 on the
-/// body's first 64 bytes, filled up with zeros.
+/// body's first 128 bytes, filled up with zeros.
 #[derive(Clone, Copy, Debug, PartialEq)]
 pub struct Record {
-    context: [u8; CONTEXT_SIZE],
+    context: [u8; RECORD_SIZE],
     facts: [u64; FACT_COUNT],
     tag: Tag,
 }
@@ -38,19 +42,19 @@ impl Model for Record {
 
     ghost Value = { Outcome };
 
-    ghost use Rattle.bpf_profile.specs.Limits.{context_size};
+    ghost use Rattle.bpf_profile.specs.Limits.{record_size};
     ghost use Rattle.helpers.specs.RecordFields.{outcome_in};
 
     ghost view = { outcome_in };
 
-    ghost invariant = { λ inside. IsOutcome context_size (outcome_in inside) };
+    ghost invariant = { λ inside. IsOutcome record_size (outcome_in inside) };
 
     ghost inverse = { λ o. record { context = o.context; facts = o.facts; tag = o.tag } };
 }
 
 impl Record {
     /// The record of these parts.
-    pub(crate) fn new(context: [u8; CONTEXT_SIZE], facts: [u64; FACT_COUNT], tag: Tag) -> Record
+    pub(crate) fn new(context: [u8; RECORD_SIZE], facts: [u64; FACT_COUNT], tag: Tag) -> Record
         ensures { result ≡ record { context = context; facts = facts; tag = tag } }
     {
         show_bytes(&context);
@@ -65,7 +69,7 @@ impl Record {
 
     /// The record of these parts; None exactly where the tag has over 32 bytes.
     pub fn from_parts(
-        context: [u8; CONTEXT_SIZE],
+        context: [u8; RECORD_SIZE],
         facts: [u64; FACT_COUNT],
         tag: &[u8],
     ) -> Option<Record>
@@ -76,10 +80,25 @@ impl Record {
         Some(Record::new(context, facts, tag))
     }
 
+    /// The record with the 128 bytes that programs of layout 1 see, and zeros behind them; None exactly where the tag has
+    /// over 32 bytes.
+    pub fn from_layout1(
+        context: [u8; SHORT_CONTEXT],
+        facts: [u64; FACT_COUNT],
+        tag: &[u8],
+    ) -> Option<Record>
+        ensures none { IsNone result ↔ (most_tag_bytes < length tag.now) }
+        ensures some { IfSome result (λ outcome. outcome ≡ record { context = padded record_size context; facts = facts; tag = tag.now }) }
+    {
+        let mut whole = [0; RECORD_SIZE];
+        whole[..SHORT_CONTEXT].copy_from_slice(&context);
+        Record::from_parts(whole, facts, tag)
+    }
+
     /// The context's bytes.
-    pub fn context(&self) -> &[u8; CONTEXT_SIZE]
+    pub fn context(&self) -> &[u8; RECORD_SIZE]
         ensures bytes { result.now ≡ self.now.context }
-        ensures fits { IsOutcome context_size self.now }
+        ensures fits { IsOutcome record_size self.now }
     {
         &self.context
     }
@@ -87,7 +106,7 @@ impl Record {
     /// The facts, in their order.
     pub fn facts(&self) -> &[u64; FACT_COUNT]
         ensures words { result.now ≡ self.now.facts }
-        ensures fits { IsOutcome context_size self.now }
+        ensures fits { IsOutcome record_size self.now }
     {
         &self.facts
     }
@@ -95,7 +114,7 @@ impl Record {
     /// The tag's bytes, at most 32.
     pub fn tag(&self) -> &[u8]
         ensures bytes { result.now ≡ self.now.tag }
-        ensures fits { IsOutcome context_size self.now }
+        ensures fits { IsOutcome record_size self.now }
     {
         self.tag.as_bytes()
     }
@@ -103,7 +122,7 @@ impl Record {
     /// The number of this size at an offset of the context, its lowest byte first.
     pub fn word_at(&self, offset: usize, size: Size) -> u64
         requires aligned { offset % bytes_in size ≡ 0 }
-        requires inside { offset + bytes_in size ≤ context_size }
+        requires inside { offset + bytes_in size ≤ record_size }
         ensures { result ≡ little_number (bytes_in size) (drop offset self.now.context) }
     {
         let bytes = &self.context[offset..];
@@ -130,7 +149,7 @@ impl Record {
         self.facts[i]
     }
 
-    /// Helper 2: a byte of the body's front, by its place from 0 to 63.
+    /// Helper 2: a byte of the body's front, by its place from 0 to 127. Programs of layout 1 ask for the first 64.
     pub fn front_byte(&self, i: usize) -> u8
         requires { i < front_size }
         ensures { result ≡ slice_index self.now.context (front_offset + i) }

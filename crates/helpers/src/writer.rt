@@ -1,15 +1,15 @@
 //! A context that is written from its start to its end.
 ghost use Rattle.std.specs.Prelude.{◌≡◌, ◌≤◌, ◌+◌, ◌++◌, [], length};
 ghost use Rattle.byteorder.specs.Endian.{little_bytes};
-ghost use Rattle.bpf_profile.specs.Limits.{context_size};
+ghost use Rattle.bpf_profile.specs.Limits.{record_size};
 
-use bpf_profile::CONTEXT_SIZE;
+use bpf_profile::RECORD_SIZE;
 use std::marker::Model;
 
 /// The bytes that have been written.
 #[derive(Drop)]
 pub struct Writer {
-    room: [u8; CONTEXT_SIZE],
+    room: [u8; RECORD_SIZE],
     count: usize,
 }
 
@@ -18,11 +18,11 @@ impl Model for Writer {
 
     ghost Value = { List ℕ };
 
-    ghost use Rattle.bpf_profile.specs.Limits.{context_size};
+    ghost use Rattle.bpf_profile.specs.Limits.{record_size};
 
     ghost view = { λ writer. take writer.count writer.room };
 
-    ghost invariant = { λ writer. writer.count ≤ context_size };
+    ghost invariant = { λ writer. writer.count ≤ record_size };
 }
 
 impl Writer {
@@ -30,14 +30,14 @@ impl Writer {
         ensures { result ≡ [] }
     {
         Writer {
-            room: [0; CONTEXT_SIZE],
+            room: [0; RECORD_SIZE],
             count: 0,
         }
     }
 
     /// Appends bytes.
     pub fn push(&mut self, bytes: &[u8])
-        requires { length self.old + length bytes.now ≤ context_size }
+        requires { length self.old + length bytes.now ≤ record_size }
         ensures { self.new ≡ self.old ++ bytes.now }
     {
         let end = self.count + bytes.len();
@@ -47,7 +47,7 @@ impl Writer {
 
     /// Writes a number, its lowest byte first.
     pub fn push_u32(&mut self, number: u32)
-        requires { length self.old + 4 ≤ context_size }
+        requires { length self.old + 4 ≤ record_size }
         ensures { self.new ≡ self.old ++ little_bytes 4 number }
     {
         self.push(&number.to_le_bytes());
@@ -55,15 +55,15 @@ impl Writer {
 
     /// Writes a number, its lowest byte first.
     pub fn push_u64(&mut self, number: u64)
-        requires { length self.old + 8 ≤ context_size }
+        requires { length self.old + 8 ≤ record_size }
         ensures { self.new ≡ self.old ++ little_bytes 8 number }
     {
         self.push(&number.to_le_bytes());
     }
 
     /// The bytes of a whole context.
-    pub fn bytes(self) -> [u8; CONTEXT_SIZE]
-        requires { length self ≡ context_size }
+    pub fn bytes(self) -> [u8; RECORD_SIZE]
+        requires { length self ≡ record_size }
         ensures { result ≡ self }
     {
         self.room

@@ -4,6 +4,7 @@ use Rattle.refusals.specs.declared.RefusalNumber.{RefusalNumber}
 use Rattle.refusals.specs.declared.RefusalNumber.TheVariants as refusal
 use Rattle.http_routes.specs.declared.table.Route.{Route}
 use Rattle.http_routes.specs.Finding.{Asked, finds}
+use Rattle.http_routes.specs.Paths.{query_of}
 use Rattle.http_routes.specs.Table.{method_of}
 use Rattle.http_front.specs.Bodies.{body_asks}
 use Rattle.http_serving.specs.Requests.{HttpRequestData}
@@ -18,19 +19,19 @@ abbrev pub asks_of : ℕ → Result RequestData RefusalNumber → Asking
 asks_of place (Ok wanted) = asks place wanted
 asks_of place (Err number) = refuses number None
 
--- a body is looked at only where the service is there
-abbrev pub asked_of_service : Option ℕ → Asked → List ℕ → Asking
-asked_of_service None found body = refuses refusal.NoService None
-asked_of_service (Some place) found body = asks_of place (body_asks found.route found.number body)
+-- a query and a body are looked at only where the service is there
+abbrev pub asked_of_service : Option ℕ → Asked → HttpRequestData → Asking
+asked_of_service None found request = refuses refusal.NoService None
+asked_of_service (Some place) found request = asks_of place (body_asks found.route found.number (query_of request.target) request.body)
 
 -- a service is looked for only where the route has the method
-abbrev pub asked_by_method : (List ℕ → Option ℕ) → Bool → Asked → List ℕ → Asking
-asked_by_method place_of false found body = refuses refusal.WrongMethod (Some found.route)
-asked_by_method place_of true found body = asked_of_service (place_of found.service) found body
+abbrev pub asked_by_method : (List ℕ → Option ℕ) → Bool → Asked → HttpRequestData → Asking
+asked_by_method place_of false found request = refuses refusal.WrongMethod (Some found.route)
+asked_by_method place_of true found request = asked_of_service (place_of found.service) found request
 
 abbrev pub asked_at : (List ℕ → Option ℕ) → HttpRequestData → Option Asked → Asking
 asked_at place_of request None = refuses refusal.NoRoute None
-asked_at place_of request (Some found) = asked_by_method place_of (bytes_eq request.method (method_of found.route)) found request.body
+asked_at place_of request (Some found) = asked_by_method place_of (bytes_eq request.method (method_of found.route)) found request
 
 -- what a request asks for, where services stand at these places
 abbrev pub asked : (List ℕ → Option ℕ) → HttpRequestData → Asking

@@ -1,4 +1,4 @@
--- What a request asks for, by its route, the number in its path and its body.
+-- What a request asks for, by its route, the number in its path, its query and its body.
 use Rattle.std.specs.Prelude.{ℕ, List, Option, Some, None, option_map, Result, Ok, Err, codes}
 use Rattle.std.specs.Option.{ok_or}
 use Rattle.serde_json.specs.Data.{Data}
@@ -10,6 +10,7 @@ use Rattle.requests.specs.Transitions.{state_of}
 use Rattle.requests.specs.Values.{number_at}
 use Rattle.service_profile.specs.Answers.{map_ok}
 use Rattle.service.specs.Asked.{RequestData, acquire, report, release, install, move, reset, read, page, cut, roll}
+use Rattle.http_front.specs.Layouts.{layout_in}
 use Rattle.http_routes.specs.EntryNumbers.{entry_number}
 use Rattle.http_routes.specs.declared.table.Route.{Route}
 use Rattle.http_routes.specs.declared.table.Route.TheVariants as route
@@ -27,20 +28,24 @@ abbrev pub json_asks : Route → Option Data → Result RequestData RefusalNumbe
 json_asks route None = Err refusal.BadJson
 json_asks route (Some d) = ok_or (value_asks route d) refusal.BadValue
 
+-- an install of the program that the body is, for the layout that the query names
+abbrev pub program_asks : List ℕ → List ℕ → Result RequestData RefusalNumber
+program_asks query body = map_ok (install body) (layout_in query)
+
 -- a page of the journal, from the number in the path on
 abbrev pub page_asks : Option (List ℕ) → Result RequestData RefusalNumber
 page_asks None = Err refusal.BadValue
 page_asks (Some number) = map_ok page (entry_number number)
 
--- what is asked for, or why nothing is: a report, a release, a transition and a roll have a body of JSON, a program is its body, and the other routes ignore theirs
-abbrev pub body_asks : Route → Option (List ℕ) → List ℕ → Result RequestData RefusalNumber
-body_asks route.Acquire number body = Ok acquire
-body_asks route.Report number body = json_asks route.Report (json_of body)
-body_asks route.Release number body = json_asks route.Release (json_of body)
-body_asks route.Transition number body = json_asks route.Transition (json_of body)
-body_asks route.Reset number body = Ok reset
-body_asks route.Cut number body = Ok cut
-body_asks route.Roll number body = json_asks route.Roll (json_of body)
-body_asks route.Program number body = Ok (install body)
-body_asks route.State number body = Ok read
-body_asks route.Journal number body = page_asks number
+-- what is asked for, or why nothing is: a report, a release, a transition and a roll have a body of JSON, a program is its body, and the other routes ignore theirs; an install alone looks at the query
+abbrev pub body_asks : Route → Option (List ℕ) → List ℕ → List ℕ → Result RequestData RefusalNumber
+body_asks route.Acquire number query body = Ok acquire
+body_asks route.Report number query body = json_asks route.Report (json_of body)
+body_asks route.Release number query body = json_asks route.Release (json_of body)
+body_asks route.Transition number query body = json_asks route.Transition (json_of body)
+body_asks route.Reset number query body = Ok reset
+body_asks route.Cut number query body = Ok cut
+body_asks route.Roll number query body = json_asks route.Roll (json_of body)
+body_asks route.Program number query body = program_asks query body
+body_asks route.State number query body = Ok read
+body_asks route.Journal number query body = page_asks number

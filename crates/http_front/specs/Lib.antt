@@ -1,5 +1,6 @@
 pub mod Messages
 pub mod AnswerTexts
+pub mod Layouts
 pub mod Bodies
 pub mod Asked
 pub mod Wanted

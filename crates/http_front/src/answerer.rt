@@ -3,6 +3,7 @@ ghost use Rattle.std.specs.Prelude.{◌≡◌, ℕ, List, Option, IfSome};
 ghost use Rattle.service.specs.Asked.{RequestData, request_data, acquire, report, release, install, move, reset, read, page, cut, roll, ResponseData, response_data};
 
 use book::State;
+use bpf_profile::Layout;
 use service::{Report, Request, Response};
 
 /// Answers what services are asked for. A service is found once by its name, and then asked at its place, at a moment
@@ -52,12 +53,12 @@ pub trait Answerer {
         self.ask(place, moment, Request::Release(ticket))
     }
 
-    /// Verifies the program of this bytecode, and makes it the current version.
-    fn install(&mut self, place: usize, moment: u64, program: Vec<u8>) -> Response
+    /// Verifies the program of this bytecode on records of a layout, and makes it the current version.
+    fn install(&mut self, place: usize, moment: u64, program: Vec<u8>, layout: Layout) -> Response
         requires held { has self.old place }
-        ensures { answers self.old place moment (install program.items) (response_data result) self.new }
+        ensures { answers self.old place moment (install program.items layout) (response_data result) self.new }
     {
-        self.ask(place, moment, Request::Install(program))
+        self.ask(place, moment, Request::Install { program, layout })
     }
 
     /// Moves the breaker to a state.

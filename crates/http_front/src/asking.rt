@@ -6,7 +6,7 @@ ghost use Rattle.http_front.specs.Wanted.{asking, IsHeld};
 
 use crate::answerer::Answerer;
 use crate::bodies::body_asks;
-use http_routes::{Route, Routes};
+use http_routes::{Route, Routes, query_of};
 use http_serving::HttpRequest;
 use refusals::RefusalNumber;
 use service::Request;
@@ -40,7 +40,8 @@ pub(crate) fn asked<A: Answerer>(
     let Some(place) = answerer.find(found.service) else {
         return Ok(Asking::Refuses(RefusalNumber::NoService, None));
     };
-    match body_asks(alloc, found.route, found.number, request.body)? {
+    let query = query_of(request.target);
+    match body_asks(alloc, found.route, found.number, query, request.body)? {
         Ok(wanted) => Ok(Asking::Asks(place, wanted)),
         Err(number) => Ok(Asking::Refuses(number, None)),
     }

@@ -1,11 +1,12 @@
-//! What the body of a request asks for.
+//! What a request asks for of a service, by its route, its query and its body.
 ghost use Rattle.std.specs.Prelude.{◌≡◌, IfOk, option_map};
 ghost use Rattle.serde_json.specs.View.{view};
 ghost use Rattle.service_profile.specs.Answers.{map_ok};
 ghost use Rattle.service.specs.Asked.{request_data};
 ghost use Rattle.texts.specs.JsonText.{json_of};
-ghost use Rattle.http_front.specs.Bodies.{value_asks, json_asks, page_asks, body_asks};
+ghost use Rattle.http_front.specs.Bodies.{value_asks, json_asks, program_asks, page_asks, body_asks};
 
+use crate::layouts::layout_in;
 use http_routes::{Route, entry_number};
 use refusals::RefusalNumber;
 use requests::{number_at, report, state};
@@ -44,6 +45,23 @@ fn json_asks(
     }
 }
 
+/// The install that a query and a body ask for. The outer error is want of memory.
+fn program_asks(
+    alloc: Global,
+    query: &[u8],
+    body: &[u8],
+) -> Result<Result<Request, RefusalNumber>, AllocError>
+    ensures { IfOk result (λ asked. map_ok request_data asked ≡ program_asks query.now body.now) }
+{
+    match layout_in(query) {
+        Ok(layout) => {
+            let program = Vec::from_slice(alloc, body)?;
+            Ok(Ok(Request::Install { program, layout }))
+        }
+        Err(number) => Ok(Err(number)),
+    }
+}
+
 /// The page that a number in a path asks for.
 fn page_asks(number: Option<&str>) -> Result<Request, RefusalNumber>
     ensures { map_ok request_data result ≡ page_asks (option_map (λ text. text.now) number.entry) }
@@ -54,19 +72,22 @@ fn page_asks(number: Option<&str>) -> Result<Request, RefusalNumber>
     }
 }
 
-/// What a request asks for, by its route, the number in its path, and its body. A report is an object with
+/// What a request asks for, by its route, the number in its path, its query, and its body. A report is an object with
 /// `ticket` and `outcome`, a release one with `ticket`, a transition one with `state`, a roll one with `to`;
-/// their other keys are ignored. A program is bytecode as it is. The other routes ignore the body. The refusals are `BadJson`,
-/// where the body is to be JSON and is none, and then `BadValue`, where a value or the number of an entry
-/// is missing, of the wrong kind or out of range. The outer error is want of memory.
+/// their other keys are ignored. A program is bytecode as it is, and the query names the layout of its records:
+/// `layout=1` or `layout=2`, the first where it names none. The other routes ignore the query, and those whose body is
+/// neither JSON nor a program ignore the body. The refusals are `BadJson`, where the body is to be JSON and is none, and
+/// then `BadValue`, where a value or the number of an entry is missing, of the wrong kind or out of range, or where the
+/// query names another layout or two that differ. The outer error is want of memory.
 pub fn body_asks(
     alloc: Global,
     route: Route,
     number: Option<&str>,
+    query: &[u8],
     body: &[u8],
 ) -> Result<Result<Request, RefusalNumber>, AllocError>
     ensures { IfOk result (λ asked. map_ok request_data asked
-        ≡ body_asks route (option_map (λ text. text.now) number.entry) body.now) }
+        ≡ body_asks route (option_map (λ text. text.now) number.entry) query.now body.now) }
 {
     match route {
         Route::Acquire => Ok(Ok(Request::Acquire)),
@@ -75,7 +96,7 @@ pub fn body_asks(
         }
         Route::Reset => Ok(Ok(Request::Reset)),
         Route::Cut => Ok(Ok(Request::Cut)),
-        Route::Program => Ok(Ok(Request::Install(Vec::from_slice(alloc, body)?))),
+        Route::Program => program_asks(alloc, query, body),
         Route::State => Ok(Ok(Request::Read)),
         Route::Journal => Ok(page_asks(number)),
     }

@@ -6,6 +6,7 @@ mod answering;
 mod asking;
 mod bodies;
 mod books;
+mod layouts;
 mod message;
 mod phrase;
 mod responder;

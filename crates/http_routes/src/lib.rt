@@ -10,4 +10,5 @@ mod table;
 
 pub use matching::{Destination, Routes};
 pub use numbers::entry_number;
+pub use paths::query_of;
 pub use table::Route;

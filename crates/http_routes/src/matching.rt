@@ -69,8 +69,8 @@ impl Routes {
         }
     }
 
-    /// What a request's target asks for (RFC 9112, section 3.2.1), by its path; the query behind a `?` is
-    /// ignored. None where the path fits no route: the refusal `NoRoute`.
+    /// What a request's target asks for (RFC 9112, section 3.2.1), by its path alone; what the query behind a
+    /// `?` means is for the caller to say (`query_of`). None where the path fits no route: the refusal `NoRoute`.
     pub fn find<'a>(&self, target: &'a [u8]) -> Option<Destination<'a>>
         // What the router's search finds, with the segments of the path.
         ensures found { option_map asked_by result ≡ finds target.now }

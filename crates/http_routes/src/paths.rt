@@ -1,6 +1,6 @@
 //! Paths and their segments.
 ghost use Rattle.std.specs.Prelude.{◌≡◌, option_map, slice_get};
-ghost use Rattle.http_routes.specs.Paths.{path_of, segments};
+ghost use Rattle.http_routes.specs.Paths.{path_of, query_of, segments};
 
 /// The path of a request's target: what stands before the query (RFC 3986, section 3.3).
 pub(crate) fn path_of(target: &[u8]) -> &[u8]
@@ -9,6 +9,17 @@ pub(crate) fn path_of(target: &[u8]) -> &[u8]
     match target.iter().position(|byte| *byte == b'?') {
         Some(end) => &target[..end],
         None => target,
+    }
+}
+
+/// The query of a request's target: what stands behind the first question mark (RFC 3986, section 3.4);
+/// nothing where there is none.
+pub fn query_of(target: &[u8]) -> &[u8]
+    ensures { result.now ≡ query_of target.now }
+{
+    match target.iter().position(|byte| *byte == b'?') {
+        Some(mark) => &target[mark + 1..],
+        None => &[],
     }
 }
 

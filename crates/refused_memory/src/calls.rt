@@ -2,6 +2,7 @@
 //! nothing, and the same call given again must answer as though it had never been refused.
 use crate::counting::{Refusals, TRIES, wrong};
 use book::{Book, Config, ConfigParts, Entry, Event, Reply, State};
+use bpf_profile::Layout;
 use bpf_run::judge;
 use helpers::Record;
 use refusals::RefusalNumber;
@@ -57,7 +58,7 @@ fn looked(
 }
 
 fn ignoring(alloc: Global) -> Result<Arc<Verified>, AllocError> {
-    match verify(alloc, &IGNORING) {
+    match verify(alloc, &IGNORING, Layout::One) {
         Ok(program) => Ok(Arc::new(alloc, program)?),
         Err(_) => Err(AllocError),
     }
@@ -85,7 +86,7 @@ fn event(
         Call::Acquire => Ok(Event::Acquire),
         Call::Finish(ticket) => match looked(refusals, book, ticket)? {
             Ok(program) => {
-                let Some(outcome) = Record::from_parts([0; 128], [0; 16], &[]) else {
+                let Some(outcome) = Record::from_parts([0; 192], [0; 16], &[]) else {
                     return Err(wrong());
                 };
                 Ok(Event::Finish(judge(program, outcome), ticket))

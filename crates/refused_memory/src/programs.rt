@@ -3,6 +3,7 @@
 use crate::counting::{Refusals, TRIES, wrong};
 use bpf_asm::{AsmError, assemble, disassemble};
 use bpf_decode::Program;
+use bpf_profile::Layout;
 use refusals::RefusalNumber;
 use std::alloc::Global;
 use std::io;
@@ -82,7 +83,7 @@ fn wanted(refusals: &mut Refusals, refusal: Refusal) -> io::Result<()> {
 /// The verified program of the bytes; where memory was wanting it is verified again.
 fn verified(refusals: &mut Refusals, alloc: Global, bytes: &[u8]) -> io::Result<Verified> {
     for _ in 0..TRIES {
-        match verify(alloc, bytes) {
+        match verify(alloc, bytes, Layout::One) {
             Ok(program) => return Ok(program),
             Err(refusal) => wanted(refusals, refusal)?,
         }
@@ -93,7 +94,7 @@ fn verified(refusals: &mut Refusals, alloc: Global, bytes: &[u8]) -> io::Result<
 /// The verified program and its width; where memory was wanting it is verified again.
 fn counted(refusals: &mut Refusals, alloc: Global, bytes: &[u8]) -> io::Result<(Verified, u32)> {
     for _ in 0..TRIES {
-        match verify_counted(alloc, bytes) {
+        match verify_counted(alloc, bytes, Layout::One) {
             Ok(counted) => return Ok(counted),
             Err(refusal) => wanted(refusals, refusal)?,
         }

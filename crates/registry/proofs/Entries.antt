@@ -19,7 +19,7 @@ use Rattle.service_profile.specs.Machine.{open_ticket, is_open}
 use Rattle.service_profile.specs.declared.tickets.OpenTicket.{OpenTicket}
 use Rattle.registry.specs.Registries.{Ascend}
 use Rattle.registry.specs.Terms.{least_of, ticket_of, tickets_of}
-use Rattle.registry.specs.declared.tickets.Terms.{Terms}
+use Rattle.registry.specs.declared.ticket_map.Terms.{Terms}
 
 -- ---- numbers
 
@@ -33,7 +33,7 @@ key_of n = record { 0 = n }
 is_at_number : (n : ℕ) (k : Reverse ℕ) → is_at (falling (key_of n)) k ≡ (k.0 == n)
 is_at_number n k = let m = k.0 in grind (arith, nat_tests)
 
-same_number : (n k : ℕ) → (k == n) ≡ true → k ≡ n
+pub same_number : (n k : ℕ) → (k == n) ≡ true → k ≡ n
 same_number n k e = grind (arith, nat_tests)
 
 below_differs : (n k : ℕ) → nat_cmp k n ≡ Less → (k == n) ≡ false
@@ -41,7 +41,7 @@ below_differs n k e = grind (arith, nat_tests)
 
 -- ---- the last of a list
 
-abbrev or_last : Option OpenTicket → Bool → OpenTicket → Option OpenTicket
+abbrev pub or_last : Option OpenTicket → Bool → OpenTicket → Option OpenTicket
 or_last None b t = cond b (Some t) None
 or_last (Some found) b t = Some found
 
@@ -49,7 +49,7 @@ first_or_last : (b : Bool) (x t : OpenTicket) (o : Option OpenTicket) (c : Bool)
 first_or_last true x t o c = refl
 first_or_last false x t o c = refl
 
-open_last : (n : ℕ) (ts : List OpenTicket) (t : OpenTicket) → open_ticket (ts ++ t ∷ []) n ≡ or_last (open_ticket ts n) (t.number == n) t
+pub open_last : (n : ℕ) (ts : List OpenTicket) (t : OpenTicket) → open_ticket (ts ++ t ∷ []) n ≡ or_last (open_ticket ts n) (t.number == n) t
 open_last n [] t = refl
 open_last n (x ∷ ts) t =
     ap (λ (o : Option OpenTicket). cond (x.number == n) (Some x) o) (open_last n ts t)
@@ -59,7 +59,7 @@ or_assoc : (a b c : Bool) → (a || (b || c)) ≡ ((a || b) || c)
 or_assoc true b c = refl
 or_assoc false b c = refl
 
-is_open_last : (n : ℕ) (ts : List OpenTicket) (t : OpenTicket) → is_open (ts ++ t ∷ []) n ≡ (is_open ts n || ((t.number == n) || false))
+pub is_open_last : (n : ℕ) (ts : List OpenTicket) (t : OpenTicket) → is_open (ts ++ t ∷ []) n ≡ (is_open ts n || ((t.number == n) || false))
 is_open_last n [] t = refl
 is_open_last n (x ∷ ts) t = ap (λ (b : Bool). (x.number == n) || b) (is_open_last n ts t) ∙ or_assoc (x.number == n) (is_open ts n) ((t.number == n) || false)
 
@@ -84,7 +84,7 @@ none_found n (e ∷ es) a =
     open_last n (tickets_of es) (ticket_of e.0.0 e.1)
     ∙ none_among n (e.0.0 == n) (open_ticket (tickets_of es) n) (ticket_of e.0.0 e.1) (below_differs n e.0.0 a.0) (none_found n es a.1)
 
-or_none : (o : Option OpenTicket) (t : OpenTicket) → or_last o false t ≡ o
+pub or_none : (o : Option OpenTicket) (t : OpenTicket) → or_last o false t ≡ o
 or_none None t = refl
 or_none (Some found) t = refl
 
@@ -162,15 +162,15 @@ removed n (e ∷ es) sorted =
 
 -- ---- numbers in order
 
-abbrev numbers_of : List OpenTicket → List ℕ
+abbrev pub numbers_of : List OpenTicket → List ℕ
 numbers_of ts = map (λ ticket. ticket.number) ts
 
-numbers_last : (ts : List OpenTicket) (t : OpenTicket) → numbers_of (ts ++ t ∷ []) ≡ numbers_of ts ++ t.number ∷ []
+pub numbers_last : (ts : List OpenTicket) (t : OpenTicket) → numbers_of (ts ++ t ∷ []) ≡ numbers_of ts ++ t.number ∷ []
 numbers_last [] t = refl
 numbers_last (x ∷ ts) t = ap (λ (ns : List ℕ). x.number ∷ ns) (numbers_last ts t)
 
 -- a number above all others of a list in order may stand behind them
-sorted_last : (ns : List ℕ) (n : ℕ) → IsStrictlySortedBy nat_cmp ns → AllByRecursion (λ m. nat_cmp m n ≡ Less) ns → IsStrictlySortedBy nat_cmp (ns ++ n ∷ [])
+pub sorted_last : (ns : List ℕ) (n : ℕ) → IsStrictlySortedBy nat_cmp ns → AllByRecursion (λ m. nat_cmp m n ≡ Less) ns → IsStrictlySortedBy nat_cmp (ns ++ n ∷ [])
 unfolding IsStrictlySortedBy
 sorted_last [] n sorted below = (tt, tt)
 sorted_last (m ∷ ns) n sorted below = (with_last (λ k. nat_cmp m k ≡ Less) ns n sorted.0 below.0, sorted_last ns n sorted.1 below.1)

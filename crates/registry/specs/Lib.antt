@@ -1,2 +1,3 @@
 pub mod Registries
 pub mod Terms
+pub mod Newest

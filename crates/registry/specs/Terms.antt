@@ -3,7 +3,7 @@ use Rattle.std.specs.Prelude.{ℕ, min, List, [], ◌∷◌, ◌++◌}
 use Rattle.std.specs.List.{fold}
 use Rattle.std.specs.declared.cmp.Reverse.{Reverse}
 use Rattle.service_profile.specs.declared.tickets.OpenTicket.{OpenTicket}
-use Rattle.registry.specs.declared.tickets.Terms.{Terms}
+use Rattle.registry.specs.declared.ticket_map.Terms.{Terms}
 
 -- the ticket of a number and its terms
 abbrev pub ticket_of : ℕ → Terms → OpenTicket

@@ -55,8 +55,8 @@ impl Registry {
         }
     }
 
-    /// The ticket of a number, or why it is not open.
-    fn ticket(&self, number: u64) -> Result<OpenTicket, RefusalNumber>
+    /// The open ticket of a number. The refusal is `NoTicket` where it was never issued, `TicketSpent` where it has ended.
+    pub fn ticket(&self, number: u64) -> Result<OpenTicket, RefusalNumber>
         ensures ticket { result ≡ ticket_in self.now number }
         ensures open { IsTrue (is_open self.now.open_tickets number) → IsOk result }
         ensures held { IfOk result (IsTicketOf self.now.first_version (length self.now.programs) self.now.next_ticket) }

@@ -6,6 +6,7 @@ mod holdings;
 mod installing;
 mod issuing;
 mod programs;
+mod ticket_map;
 mod tickets;
 
 pub use holdings::Registry;

@@ -1,72 +1,46 @@
-//! Open tickets, by their numbers.
+//! Open tickets.
 ghost use Rattle.std.specs.Prelude.{◌≡◌, ◌==◌, ◌<◌, not, length, [], ◌∷◌, ◌++◌, OnOk, OnErr};
-ghost use Rattle.std.specs.BTreeMap.{values};
 ghost use Rattle.std.specs.List.{AllByRecursion, filter};
-ghost use Rattle.std.specs.Option.{option_map};
 ghost use Rattle.service_profile.specs.Answers.{least_version};
 ghost use Rattle.service_profile.specs.Machine.{open_ticket, is_open};
 ghost use Rattle.registry.specs.Registries.{Ascend};
-ghost use Rattle.registry.specs.Terms.{least_of, ticket_of};
+ghost use Rattle.registry.specs.Newest.{has_number};
 
+use crate::ticket_map::TicketMap;
 use service_profile::OpenTicket;
 use std::alloc::{AllocError, Global};
-use std::cmp::Reverse;
-use std::collections::BTreeMap;
 use std::marker::Model;
 
-/// What a ticket was issued with.
-#[derive(Clone, Copy)]
-pub(crate) struct Terms {
-    pub version: u64,
-    pub period: u64,
-}
-
-/// The tickets that are open. Contracts see their list, in the order of their numbers. Each call takes time
-/// that grows with the logarithm of their number. The map has the greatest number first, since the newest
-/// tickets are asked for most, and a search in a node of the map begins at its first key.
+/// The tickets that are open. Contracts see their list, in the order of their numbers. The one that was issued last lies
+/// beside the others, so that a call which ends before the next one begins asks no map. Each call takes time that grows with
+/// the logarithm of their number.
 #[derive(Drop)]
 pub(crate) struct OpenTickets {
-    terms: BTreeMap<Reverse<u64>, Terms>,
+    older: TicketMap,
+    /// The ticket that was issued last, while it is open; its number is above all others.
+    newest: Option<OpenTicket>,
 }
 
 impl Model for OpenTickets {
     ghost use Rattle.std.specs.Prelude.{List};
     ghost use Rattle.service_profile.specs.declared.tickets.OpenTicket.{OpenTicket};
+    ghost use Rattle.registry.specs.Newest.{with_newest, IsNewest};
 
     ghost Value = { List OpenTicket };
 
-    ghost use Rattle.std.specs.BTreeMap.{IsOrdered};
-    ghost use Rattle.std.specs.Ordering.{nat_cmp};
-    ghost use Rattle.registry.specs.Terms.{tickets_of};
+    ghost view = { λ t. with_newest t.older t.newest };
 
-    ghost view = { λ t. tickets_of t.terms.entries };
-
-    ghost invariant = { λ t. IsOrdered (λ x y. nat_cmp y.0 x.0) t.terms };
+    ghost invariant = { λ t. IsNewest t.older t.newest };
 }
 
-/// The ticket of a number, where there are terms for it.
-fn ticket_of(number: u64, terms: Option<Terms>) -> Option<OpenTicket>
-    ensures { result ≡ option_map (ticket_of number) terms }
+/// Whether the newest ticket has a number.
+fn has_number(newest: Option<OpenTicket>, number: u64) -> bool
+    ensures { result ≡ has_number newest number }
 {
-    match terms {
-        Some(terms) => Some(OpenTicket {
-            number,
-            version: terms.version,
-            period: terms.period,
-        }),
-        None => None,
+    match newest {
+        Some(ticket) => ticket.number == number,
+        None => false,
     }
-}
-
-/// The least version of some terms, or else this one.
-fn least_of(terms: &BTreeMap<Reverse<u64>, Terms>, current: u64) -> u64
-    ensures { result ≡ least_of current (values terms.now) }
-{
-    let mut least = current;
-    for one in terms.values() {
-        least = least.min(one.version);
-    }
-    least
 }
 
 impl OpenTickets {
@@ -75,7 +49,8 @@ impl OpenTickets {
         ensures { result ≡ [] }
     {
         OpenTickets {
-            terms: BTreeMap::new(alloc),
+            older: TicketMap::new(alloc),
+            newest: None,
         }
     }
 
@@ -84,28 +59,39 @@ impl OpenTickets {
         ensures len { result ≡ length self.now }
         ensures ascending { Ascend self.now }
     {
-        self.terms.len()
+        let older = self.older.len();
+        match self.newest {
+            Some(_) => older + 1,
+            None => older,
+        }
     }
 
     /// The open ticket of a number.
     pub(crate) fn get(&self, number: u64) -> Option<OpenTicket>
         ensures { result ≡ open_ticket self.now number }
     {
-        ticket_of(number, self.terms.get(&Reverse(number)).copied())
+        if has_number(self.newest, number) {
+            return self.newest;
+        }
+        self.older.get(number)
     }
 
     /// Whether the ticket of a number is open.
     pub(crate) fn contains(&self, number: u64) -> bool
         ensures { result ≡ is_open self.now number }
     {
-        self.terms.contains_key(&Reverse(number))
+        has_number(self.newest, number) || self.older.contains(number)
     }
 
     /// The least version of an open ticket, or else this one, that of new tickets. It goes over all tickets.
     pub(crate) fn least_version(&self, current: u64) -> u64
         ensures { result ≡ least_version current self.now }
     {
-        least_of(&self.terms, current)
+        let least = self.older.least_version(current);
+        match self.newest {
+            Some(ticket) => least.min(ticket.version),
+            None => least,
+        }
     }
 
     /// Opens a ticket with a number above all others. Without memory nothing changes.
@@ -114,11 +100,10 @@ impl OpenTickets {
         ensures ok { OnOk result (self.new ≡ self.old ++ ticket ∷ []) }
         ensures err { OnErr result (self.new ≡ self.old) }
     {
-        let terms = Terms {
-            version: ticket.version,
-            period: ticket.period,
-        };
-        self.terms.insert(Reverse(ticket.number), terms)?;
+        if let Some(previous) = self.newest {
+            self.older.insert(previous)?;
+        }
+        self.newest = Some(ticket);
         Ok(())
     }
 
@@ -127,6 +112,11 @@ impl OpenTickets {
         ensures ticket { result ≡ open_ticket self.old number }
         ensures others { self.new ≡ filter (λ ticket. not (ticket.number == number)) self.old }
     {
-        ticket_of(number, self.terms.remove(&Reverse(number)))
+        if has_number(self.newest, number) {
+            let ended = self.newest;
+            self.newest = None;
+            return ended;
+        }
+        self.older.remove(number)
     }
 }

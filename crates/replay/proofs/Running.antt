@@ -1,5 +1,5 @@
 -- Replays, line after line.
-use Rattle.std.proofs.Common.{◌≡◌, ℕ, true, false, List, [], ◌∷◌, ◌++◌, Option, Some, None, refl, ap, sym, subst, ◌∙◌}
+use Rattle.std.proofs.Common.{◌≡◌, ℕ, true, false, List, [], ◌∷◌, ◌++◌, Option, Some, None, refl, rules}
 use Rattle.counted_io.proofs.Pieces.{appends_none, appends_more}
 use Rattle.service_profile.specs.declared.configuration.ConfigParts.{ConfigParts}
 use Rattle.service_profile.specs.Events.{History}
@@ -7,20 +7,15 @@ use Rattle.requests.specs.Configurations.{config_in}
 use Rattle.replay.specs.declared.replaying.ReplayEnded.TheVariants as ended
 use Rattle.replay.specs.Answering.{AreAnswered, answer_line}
 use Rattle.replay.specs.Lines.{told, AreTold, TakesTold}
-use Rattle.replay.specs.Replaying.{IsOpened, IsReplayOf, IsReplay, IsReplayed, Begins, IsBegun, IsLineAnswered, AreEventsAnswered}
+use Rattle.replay.specs.Replaying.{IsOpened, IsReplay, IsReplayed, Begins, IsBegun, IsLineAnswered, AreEventsAnswered}
 
 -- ---- lines
 
 pub told_after : (input left : Option (List ℕ)) (line : List ℕ) (events : List (List ℕ)) → TakesTold input left true line → AreTold left events → AreTold input (line ∷ events)
-told_after None left line events takes rest = tt
-told_after (Some text) None line events (after, is, split) rest = absurd (let e : None ≡ Some after = is in cc)
-told_after (Some text) (Some left) line events (after, is, split) rest =
-    let same : left ≡ after = (let e : Some left ≡ Some after = is in cc) in
-    ap (λ (ls : List (List ℕ)). line ∷ ls) (rest ∙ ap told same) ∙ sym split
+told_after input left line events takes rest = search rules
 
 told_all : (input left : Option (List ℕ)) (line : List ℕ) → TakesTold input left false line → AreTold input []
-told_all None left line takes = tt
-told_all (Some text) left line (after, is, split) = sym split
+told_all input left line takes = search rules
 
 pub some_told : (input : Option (List ℕ)) → (events : List (List ℕ)) × AreTold input events
 some_told None = ([], tt)
@@ -49,8 +44,7 @@ begun_none input left line takes = λ events rest. ([], told_all input left line
 -- ---- the whole
 
 bad_config : (lines events : List (List ℕ)) → Begins lines None events → IsReplay lines ended.BadConfig []
-bad_config [] events begins = (refl, refl)
-bad_config (first ∷ later) events begins = subst (λ (c : Option ConfigParts). IsReplayOf c later ended.BadConfig []) begins.0 (refl, refl)
+bad_config lines events begins = search rules
 
 pub replayed_bad : (input left written : Option (List ℕ)) → IsBegun input left None → IsReplayed input ended.BadConfig written written
 replayed_bad input left written begun =
@@ -60,13 +54,8 @@ replayed_bad input left written begun =
 
 good_config : (lines events : List (List ℕ)) (parts : ConfigParts) (opened after : History) (text : List ℕ)
     → Begins lines (Some parts) events → IsOpened parts opened → AreAnswered opened events text after → IsReplay lines ended.Done text
-good_config [] events parts opened after text begins is run = absurd (let e : Some parts ≡ None = begins in cc)
-good_config (first ∷ later) events parts opened after text begins is run =
-    subst (λ (c : Option ConfigParts). IsReplayOf c later ended.Done text) begins.0
-    (refl, opened, after, is, subst (λ (ls : List (List ℕ)). AreAnswered opened ls text after) (sym begins.1) run)
+good_config lines events parts opened after text begins is run = search rules
 
 pub replayed_done : (input left before after : Option (List ℕ)) (parts : ConfigParts) (opened last : History)
     → IsBegun input left (Some parts) → IsOpened parts opened → AreEventsAnswered left opened last before after → IsReplayed input ended.Done before after
-replayed_done input left before after parts opened last begun is (events, text, rest, run, sent) =
-    let all = begun events rest in
-    (all.0, text, all.1, good_config all.0 events parts opened last text all.2 is run, sent)
+replayed_done input left before after parts opened last begun is a = search rules

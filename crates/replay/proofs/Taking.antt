@@ -1,8 +1,8 @@
 -- Lines that are taken off a text.
-use Rattle.std.proofs.Common.{◌≡◌, ℕ, ◌+◌, ◌-◌, ◌^◌, ◌≤◌, ◌==◌, nat_lt, not, true, false, List, [], ◌∷◌, ◌++◌, length, filter, Option, Some, None, refl, ap, sym, subst, ◌∙◌, append_assoc, arith}
+use Rattle.std.proofs.Common.{◌≡◌, ℕ, ◌+◌, ◌==◌, nat_lt, true, false, List, [], ◌∷◌, ◌++◌, length, Option, Some, None, refl, ap, sym, subst, ◌∙◌, append_assoc, arith, rules}
 use Rattle.std.proofs.lemmas.Grind.{common_steps}
 use Rattle.counted_io.specs.Counting.{TakesByte}
-use Rattle.replay.specs.Lines.{in_first, lines, is_blank, told, first_if, TakesLine, TakesTold, SaysTheSame, HasManyLines, LosesLines}
+use Rattle.replay.specs.Lines.{in_first, lines, first_if, TakesLine, HasManyLines, LosesLines}
 
 -- ---- a line, byte by byte
 
@@ -46,8 +46,7 @@ HasBegun (Some text) left line = (rest : List ℕ) × (left ≡ Some rest) × (t
 
 pub begun_none : (text : Option (List ℕ)) (line : List ℕ) → line ≡ [] → HasBegun text text line
 unfolding joined
-begun_none None line none = tt
-begun_none (Some text) line none = subst (λ (l : List ℕ). HasBegun (Some text) (Some text) l) (sym none) (text, refl, refl, λ rest. refl)
+begun_none text line none = search rules
 
 open_more : (line : List ℕ) (byte : ℕ) → IsOpen line → (byte == 10) ≡ false → IsOpen (line ++ byte ∷ [])
 open_more line byte begun other rest =
@@ -89,74 +88,14 @@ text_ends (Some text) (Some []) after line count (rest, there, split, all) taken
 
 -- ---- lines of blanks are passed over
 
-pub says_itself : (text : Option (List ℕ)) → SaysTheSame text text
-says_itself None = tt
-says_itself (Some text) = (text, refl, refl)
-
-keep_blank : (line : List ℕ) (later : List (List ℕ)) → is_blank line ≡ true → filter (λ l. not (is_blank l)) (line ∷ later) ≡ filter (λ l. not (is_blank l)) later
-keep_blank line later blank = rw blank refl
-
-keep_told : (line : List ℕ) (later : List (List ℕ)) → is_blank line ≡ false → filter (λ l. not (is_blank l)) (line ∷ later) ≡ line ∷ filter (λ l. not (is_blank l)) later
-keep_told line later blank = rw blank refl
-
 same_some : {X : Type 0} (x y : X) → Some x ≡ Some y → x ≡ y
 same_some x y e = cc
 
-pub says_on : (text left later : Option (List ℕ)) (line : List ℕ) → SaysTheSame text left → TakesLine left later true line → is_blank line ≡ true → SaysTheSame text later
-says_on None left later line same takes blank = tt
-says_on (Some text) None later line (rest, is, says) takes blank = absurd (let e : None ≡ Some rest = is in cc)
-says_on (Some text) (Some left) later line (rest, is, says) (after, now, split) blank =
-    (after, now, says ∙ ap told (sym (same_some left rest is)) ∙ ap (filter (λ l. not (is_blank l))) split ∙ keep_blank line (lines after) blank)
-
-pub told_next : (text left later : Option (List ℕ)) (line : List ℕ) → SaysTheSame text left → TakesLine left later true line → is_blank line ≡ false → TakesTold text later true line
-told_next None left later line same takes blank = tt
-told_next (Some text) None later line (rest, is, says) takes blank = absurd (let e : None ≡ Some rest = is in cc)
-told_next (Some text) (Some left) later line (rest, is, says) (after, now, split) blank =
-    (after, now, says ∙ ap told (sym (same_some left rest is)) ∙ ap (filter (λ l. not (is_blank l))) split ∙ keep_told line (lines after) blank)
-
-pub told_none : (text left later : Option (List ℕ)) (line : List ℕ) → SaysTheSame text left → TakesLine left later false line → TakesTold text later false line
-told_none None left later line same takes = tt
-told_none (Some text) None later line (rest, is, says) takes = absurd (let e : None ≡ Some rest = is in cc)
-told_none (Some text) (Some left) later line (rest, is, says) (after, now, split) =
-    (after, now, says ∙ ap told (sym (same_some left rest is)) ∙ ap (filter (λ l. not (is_blank l))) split)
-
 -- ---- how many lines are left
-
-pub loses_none : (text : Option (List ℕ)) → LosesLines 0 text text
-loses_none None = tt
-loses_none (Some text) = (text, refl, omega arith)
-
--- one more line was taken off
-pub loses_one : (text left after : Option (List ℕ)) (line : List ℕ) (count : ℕ) → LosesLines count text left → TakesLine left after true line → LosesLines (count + 1) text after
-loses_one None left after line count lost taken = tt
-loses_one (Some text) None after line count (rest, there, fewer) taken = absurd (let e : None ≡ Some rest = there in cc)
-loses_one (Some text) (Some left) after line count (rest, there, fewer) (later, now, split) =
-    let same : left ≡ rest = same_some left rest there in
-    (later, now, omega (arith, ap length split, ap (λ (t : List ℕ). length (lines t)) same, fewer))
 
 -- lines were taken off what was left
 pub loses_more : (text left after : Option (List ℕ)) (count more : ℕ) → LosesLines count text left → LosesLines more left after → LosesLines (count + more) text after
-loses_more None left after count more lost then_lost = tt
-loses_more (Some text) None after count more (rest, there, fewer) then_lost = absurd (let e : None ≡ Some rest = there in cc)
-loses_more (Some text) (Some left) after count more (rest, there, fewer) (later, now, less) =
-    let same : left ≡ rest = same_some left rest there in
-    (later, now, omega (arith, less, ap (λ (t : List ℕ). length (lines t)) same, fewer))
-
-pub loses_fewer : (text left : Option (List ℕ)) (count less : ℕ) → LosesLines count text left → less ≤ count → LosesLines less text left
-loses_fewer None left count less lost fits = tt
-loses_fewer (Some text) left count less (rest, there, fewer) fits = (rest, there, omega (arith, fewer))
-
--- where very many lines were taken off, or are left, there are very many
-pub many_lost : (text left : Option (List ℕ)) (count : ℕ) → LosesLines count text left → 2 ^ 64 - 1 ≤ count → HasManyLines text
-many_lost None left count lost many = tt
-many_lost (Some text) left count (rest, there, fewer) many = omega (arith, fewer)
+loses_more text left after count more lost then_lost = search rules
 
 pub many_left : (text left : Option (List ℕ)) (count : ℕ) → LosesLines count text left → HasManyLines left → HasManyLines text
-many_left None left count lost many = tt
-many_left (Some text) None count (rest, there, fewer) many = absurd (let e : None ≡ Some rest = there in cc)
-many_left (Some text) (Some left) count (rest, there, fewer) many =
-    let same : left ≡ rest = same_some left rest there in
-    omega (arith, fewer, ap (λ (t : List ℕ). length (lines t)) same)
-
-pub loses_line : (text left after : Option (List ℕ)) (line : List ℕ) (count : ℕ) → LosesLines count text left → TakesLine left after true line → LosesLines 1 text after
-loses_line text left after line count lost taken = loses_fewer text after (count + 1) 1 (loses_one text left after line count lost taken) (omega arith)
+many_left text left count lost many = search rules

@@ -6,6 +6,7 @@ use Rattle.serde_json.specs.Data.{Data}
 use Rattle.refusals.specs.declared.RefusalNumber.{RefusalNumber}
 use Rattle.refusals.specs.declared.RefusalNumber.TheVariants as refusal
 use Rattle.helpers.specs.Json.{◌>>=◌}
+use Rattle.requests.specs.Layouts.{layout_of}
 use Rattle.requests.specs.Programs.{program_of}
 use Rattle.requests.specs.Reports.{report_of}
 use Rattle.texts.specs.JsonText.{json_of}
@@ -38,9 +39,16 @@ plain_named name d =
     else (if bytes_eq name (codes "roll") then option_map roll (number_at (codes "to") d)
     else None)))))))
 
--- what is asked under a name; an install names a program
+-- the install of a program for records of a layout; None where one of them can't be used
+unfoldable pub install_of : Data → Option RequestData
+install_of d = do
+  program ← program_of d
+  layout ← layout_of d
+  Some (install program layout)
+
+-- what is asked under a name; an install names a program and a layout
 unfoldable pub want_named : List ℕ → Data → Option RequestData
-want_named name d = if bytes_eq name (codes "install") then option_map install (program_of d) else plain_named name d
+want_named name d = if bytes_eq name (codes "install") then install_of d else plain_named name d
 
 -- what a JSON value asks for; None where it is no object, or a value is missing, of the wrong kind or out of range
 unfoldable pub asked_in : Data → Option Wish

@@ -1,7 +1,8 @@
 -- What is written for the input of a replay.
 use Rattle.std.specs.Prelude.{◌≡◌, ℕ, Bool, true, false, List, [], ◌∷◌, Option, Some, None, Result, Ok, Err, ⊤}
 use Rattle.std.specs.Io.KnownBytes.{Appends}
-use Rattle.bpf_profile.specs.Limits.{context_size}
+use Rattle.bpf_profile.specs.declared.layout.Layout.TheVariants as layout
+use Rattle.bpf_profile.specs.Layouts.{context_size}
 use Rattle.bpf_profile.specs.Safety.{IsSafe}
 use Rattle.verifier.specs.DefaultClassifier.{default_classifier_bytes}
 use Rattle.bpf_profile.specs.Programs.{VerifiedProgram}
@@ -19,10 +20,10 @@ use Rattle.replay.specs.Answering.{AreAnswered, IsAnswered, answer_line}
 use Rattle.replay.specs.Asking.{asked}
 use Rattle.replay.specs.Lines.{AreTold, IsFirstTold}
 
--- a service that opens with a configuration and the default classifier
+-- a service that opens with a configuration and the default classifier, which sees records of layout 1
 abbrev pub IsOpened : ConfigParts → History → Type 0
 IsOpened parts history =
-    (program : VerifiedProgram) × IsVerification default_classifier_bytes program × IsSafe context_size program.slots program.budget
+    (program : VerifiedProgram) × IsVerification default_classifier_bytes program × (program.layout ≡ layout.One) × IsSafe (context_size layout.One) program.slots program.budget
     × (history ≡ history_of (first_opening parts program) [])
 
 -- the lines after a configuration

@@ -2,12 +2,11 @@
 ghost use Rattle.std.specs.Prelude.{◌≡◌, IfOk, option_map};
 ghost use Rattle.serde_json.specs.View.{view};
 ghost use Rattle.service_profile.specs.Answers.{map_ok};
-ghost use Rattle.requests.specs.Programs.{program_of};
-ghost use Rattle.service.specs.Asked.{install, request_data};
-ghost use Rattle.replay.specs.Asking.{wished, plain_named, want_named, asked_in, asked};
+ghost use Rattle.service.specs.Asked.{request_data};
+ghost use Rattle.replay.specs.Asking.{wished, install_of, plain_named, want_named, asked_in, asked};
 
 use refusals::RefusalNumber;
-use requests::{number_at, program, report, state, text_at};
+use requests::{layout, number_at, program, report, state, text_at};
 use serde_json::Value;
 use service::Request;
 use std::alloc::{AllocError, Global};
@@ -20,14 +19,18 @@ pub(crate) struct Asked {
     pub request: Request,
 }
 
-/// The install that a value describes. The error is want of memory.
+/// The install that a value describes: a program, and the layout that it is written for. The error is want of memory.
+#[tactic(auto, unfolding(crate::specs::Asking::install_of))]
 fn install_of(alloc: Global, value: &Value) -> Result<Option<Request>, AllocError>
-    ensures { IfOk result (λ call. option_map request_data call ≡ option_map install (program_of (view value.now))) }
+    ensures { IfOk result (λ call. option_map request_data call ≡ install_of (view value.now)) }
 {
-    match program(alloc, value)? {
-        Some(bytes) => Ok(Some(Request::Install(bytes))),
-        None => Ok(None),
-    }
+    let Some(program) = program(alloc, value)? else {
+        return Ok(None);
+    };
+    let Some(layout) = layout(value) else {
+        return Ok(None);
+    };
+    Ok(Some(Request::Install { program, layout }))
 }
 
 /// What is asked under a name beside an install.

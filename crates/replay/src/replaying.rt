@@ -122,8 +122,8 @@ fn answer_all<R: Read, W: Write>(
 /// line has the configuration, as `requests::config` reads it, and each further line is an event, a JSON
 /// object: `at` is its moment in milliseconds, below 2^64, and `do` is `acquire`, `report` (with
 /// `ticket` and `outcome`), `release` (with `ticket`), `transition` (with `state`), `reset`, `install`
-/// (with `program`, as `requests::program` reads it), `read`, `cut` or `roll` (with `to`). Lines of blanks
-/// are passed over. Each event is answered with a line as HTTP answers it: the status, a blank and the
+/// (with `program`, as `requests::program` reads it, and `layout`, as `requests::layout` does), `read`, `cut`
+/// or `roll` (with `to`). Lines of blanks are passed over. Each event is answered with a line as HTTP answers it: the status, a blank and the
 /// body. A line that is no JSON is answered with `BadJson`, one whose values are missing, of the wrong kind
 /// or out of range with `BadValue`, and a program that is not accepted with its refusal and slot.
 ///

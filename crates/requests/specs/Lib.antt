@@ -2,4 +2,5 @@ pub mod Values
 pub mod Configurations
 pub mod Reports
 pub mod Programs
+pub mod Layouts
 pub mod Transitions

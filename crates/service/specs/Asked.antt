@@ -1,5 +1,6 @@
 -- What a service is asked for, and what it answers, as data.
 use Rattle.std.specs.Prelude.{ℕ, List, Result, Ok, Err}
+use Rattle.bpf_profile.specs.declared.layout.Layout.{Layout}
 use Rattle.refusals.specs.declared.RefusalNumber.{RefusalNumber}
 use Rattle.verifier.specs.declared.refusal.Refusal.{Refusal}
 use Rattle.service_profile.specs.declared.readings.Reading.{Reading}
@@ -18,7 +19,7 @@ pub data RequestData : Type 0 where
   acquire : RequestData
   report : Report → RequestData
   release : ℕ → RequestData
-  install : List ℕ → RequestData
+  install : List ℕ → Layout → RequestData
   move : State → RequestData
   reset : RequestData
   read : RequestData
@@ -30,7 +31,7 @@ abbrev pub request_data : Request → RequestData
 request_data request.Acquire = acquire
 request_data (request.Report reported) = report reported
 request_data (request.Release ticket) = release ticket
-request_data (request.Install program) = install program.items
+request_data (request.Install program layout) = install program.items layout
 request_data (request.Move state) = move state
 request_data request.Reset = reset
 request_data request.Read = read

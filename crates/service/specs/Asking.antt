@@ -1,6 +1,7 @@
 -- What a service answers that is asked: which calls of its book a request stands for, and what becomes of their answers.
 use Rattle.std.specs.Prelude.{◌≡◌, ◌⊎◌, ℕ, List, Result, Ok, Err}
-use Rattle.bpf_profile.specs.Limits.{context_size}
+use Rattle.bpf_profile.specs.declared.layout.Layout.{Layout}
+use Rattle.bpf_profile.specs.Layouts.{context_size}
 use Rattle.bpf_profile.specs.Safety.{IsSafe}
 use Rattle.bpf_profile.specs.JudgedWork.{JudgedData, IsTied}
 use Rattle.bpf_profile.specs.Programs.{VerifiedProgram}
@@ -35,20 +36,20 @@ module _ {S : Type 0} (calls : S → CallData → CallAnswer → S → Type 0) w
       (found : Result VerifiedProgram RefusalNumber) × (between : S)
       × calls caller (looks reported.ticket) (finds found) between × IsFinishServed between moment reported found r after
 
-  -- an install: memory ran out for verifying the bytes or owning their program, or their first fault is answered, and the book isn't called; or the bytes spell a program, which flow and analysis accept, and which is safe, and the book is called to install it
-  abbrev pub IsInstalled : S → ℕ → List ℕ → ResponseData → S → Type 0
-  IsInstalled caller moment bytes (refuses_program refused) after = ((refused ≡ out_of_memory) ⊎ IsRefused bytes (fault_of refused)) × (after ≡ caller)
-  IsInstalled caller moment bytes (replies r) after =
-      (program : VerifiedProgram) × IsVerification bytes program × IsSafe context_size program.slots program.budget
+  -- an install: memory ran out for verifying the bytes or owning their program, or their first fault is answered, and the book isn't called; or the bytes spell a program, which flow and the analysis on records of the layout accept, and which is safe, and the book is called to install it
+  abbrev pub IsInstalled : S → ℕ → List ℕ → Layout → ResponseData → S → Type 0
+  IsInstalled caller moment bytes layout (refuses_program refused) after = ((refused ≡ out_of_memory) ⊎ IsRefused layout bytes (fault_of refused)) × (after ≡ caller)
+  IsInstalled caller moment bytes layout (replies r) after =
+      (program : VerifiedProgram) × IsVerification bytes program × (program.layout ≡ layout) × IsSafe (context_size layout) program.slots program.budget
       × IsEventServed caller moment (installs program) r after
-  IsInstalled caller moment bytes other after = ⊥
+  IsInstalled caller moment bytes layout other after = ⊥
 
   -- what is answered to a request at a moment
   abbrev pub IsServedBy : S → ℕ → RequestData → ResponseData → S → Type 0
   IsServedBy caller moment acquire (replies r) after = IsEventServed caller moment acquires r after
   IsServedBy caller moment (report reported) (replies r) after = IsReportServed caller moment reported r after
   IsServedBy caller moment (release ticket) (replies r) after = IsEventServed caller moment (releases ticket) r after
-  IsServedBy caller moment (install bytes) given after = IsInstalled caller moment bytes given after
+  IsServedBy caller moment (install bytes layout) given after = IsInstalled caller moment bytes layout given after
   IsServedBy caller moment (move state) (replies r) after = IsEventServed caller moment (moves state) r after
   IsServedBy caller moment reset (replies r) after = IsEventServed caller moment resets r after
   IsServedBy caller moment read (shows shown) after = calls caller (reads moment) (call.shows shown) after

@@ -9,6 +9,7 @@ use crate::gate::Gate;
 use crate::request::{Report, Request};
 use crate::response::Response;
 use book::{Entry, Event, Reply};
+use bpf_profile::Layout;
 use bpf_run::judge;
 use refusals::RefusalNumber;
 use std::alloc::{AllocError, Global};
@@ -38,7 +39,7 @@ pub fn report<P, B: BookCalls<P>, G: Gate>(
     }
 }
 
-/// Verifies a program, and installs it. Memory is taken before the book is called: where there is none, the
+/// Verifies a program on records of a layout, and installs it. Memory is taken before the book is called: where there is none, the
 /// program is refused with `ProgramOutOfMemory`.
 fn install<P, B: BookCalls<P>>(
     alloc: Global,
@@ -46,10 +47,11 @@ fn install<P, B: BookCalls<P>>(
     place: &P,
     moment: u64,
     bytes: &[u8],
+    layout: Layout,
 ) -> Response
-    ensures { IsInstalled (B.calls place.now) book.old moment bytes.now (response_data result) book.new }
+    ensures { IsInstalled (B.calls place.now) book.old moment bytes.now layout (response_data result) book.new }
 {
-    let program = match verify(alloc, bytes) {
+    let program = match verify(alloc, bytes, layout) {
         Ok(program) => program,
         Err(refusal) => return Response::ProgramRefused(refusal),
     };
@@ -102,7 +104,9 @@ pub fn ask<P, B: BookCalls<P>, G: Gate>(
             moment,
             Event::Release(ticket),
         )),
-        Request::Install(bytes) => install(alloc, book, place, moment, bytes.as_slice()),
+        Request::Install { program, layout } => {
+            install(alloc, book, place, moment, program.as_slice(), layout)
+        }
         Request::Move(state) => Response::Reply(book.apply(place, moment, Event::Move(state))),
         Request::Reset => Response::Reply(book.apply(place, moment, Event::Reset)),
         Request::Read => Response::Reading(book.read(place, moment)),

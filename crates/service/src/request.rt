@@ -1,5 +1,6 @@
 //! What a service is asked for.
 use book::State;
+use bpf_profile::Layout;
 use helpers::Record;
 
 /// What is reported of a call.
@@ -20,8 +21,8 @@ pub enum Request {
     Report(Report),
     /// To end a ticket without an outcome.
     Release(u64),
-    /// To verify the program of this bytecode, and to make it the current version.
-    Install(Vec<u8>),
+    /// To verify the program of this bytecode on records of a layout, and to make it the current version.
+    Install { program: Vec<u8>, layout: Layout },
     /// To move the breaker to a state.
     Move(State),
     /// To move the breaker to CLOSED.

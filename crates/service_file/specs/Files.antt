@@ -4,19 +4,22 @@ use Rattle.std.specs.List.{list_all, list_any}
 use Rattle.std.specs.Str.{bytes_eq}
 use Rattle.serde_json.specs.Data.{Data, Items, no_items, item, Members, no_members, member}
 use Rattle.serde_json.specs.Find.{get, as_array, as_object}
+use Rattle.bpf_profile.specs.declared.layout.Layout.{Layout}
 use Rattle.helpers.specs.Json.{◌>>=◌, if_there}
 use Rattle.service_profile.specs.declared.configuration.ConfigParts.{ConfigParts}
 use Rattle.service_profile.specs.Configuration.{default_parts}
 use Rattle.requests.specs.Configurations.{config_of}
+use Rattle.requests.specs.Layouts.{layout_of}
 use Rattle.requests.specs.Programs.{program_of}
 use Rattle.texts.specs.JsonText.{json_of}
 use Rattle.requests.specs.Values.{number_at, text_at}
 
--- a service: its name, its configuration, and its program's bytes, where the file has a program
+-- a service: its name, its configuration, its program's bytes, where the file has a program, and the layout that the program is for
 pub record ServiceData : Type 0 where
   pub name : List ℕ
   pub config : ConfigParts
   pub program : Option (List ℕ)
+  pub layout : Layout
 
 -- the whole file: the text of the address, how many workers, after how many connections serving ends, and the services
 pub record FileData : Type 0 where
@@ -45,7 +48,7 @@ is_file_key key =
     bytes_eq key (codes "listen") || (bytes_eq key (codes "workers") || (bytes_eq key (codes "connections") || bytes_eq key (codes "services")))
 
 unfoldable pub is_service_key : List ℕ → Bool
-is_service_key key = bytes_eq key (codes "name") || (bytes_eq key (codes "config") || bytes_eq key (codes "program"))
+is_service_key key = bytes_eq key (codes "name") || (bytes_eq key (codes "config") || (bytes_eq key (codes "program") || bytes_eq key (codes "layout")))
 
 -- ---- names
 
@@ -85,7 +88,8 @@ service_of d =
       name ← name_at d
       config ← config_at d
       program ← program_at d
-      Some (record { name = name; config = config; program = program }))
+      layout ← layout_of d
+      Some (record { name = name; config = config; program = program; layout = layout }))
     else None
 
 -- ---- services

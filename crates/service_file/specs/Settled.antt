@@ -14,11 +14,12 @@ abbrev pub bytes_of : Option (List ℕ) → List ℕ
 bytes_of None = default_classifier_bytes
 bytes_of (Some bytes) = bytes
 
--- the service has the name and the configuration that the file gives, and its program is accepted
+-- the service has the name and the configuration that the file gives, and its program is accepted on records of the layout that the file gives
 pub record IsService (service : ServiceSettings) (given : ServiceData) : Type 0 where
   pub named : string_bytes service.name ≡ given.name
   pub configured : service.config ≡ given.config
   pub verified : IsVerification (bytes_of given.program) service.program
+  pub seen : service.program.layout ≡ given.layout
 
 -- service by service
 abbrev pub AreServices : List ServiceSettings → List ServiceData → Type 0
@@ -26,10 +27,10 @@ AreServices [] [] = ⊤
 AreServices (service ∷ services) (given ∷ later) = IsService service given × AreServices services later
 AreServices services other = ⊥
 
--- some program is refused
+-- some program is refused on records of its layout
 abbrev pub HasRefusal : List ServiceData → Type 0
 HasRefusal [] = ⊥
-HasRefusal (given ∷ later) = ((fault : Fault) × IsRefused (bytes_of given.program) fault) ⊎ HasRefusal later
+HasRefusal (given ∷ later) = ((fault : Fault) × IsRefused given.layout (bytes_of given.program) fault) ⊎ HasRefusal later
 
 -- the settings are those of the file
 pub record AreSettings (settings : Settings) (file : FileData) : Type 0 where

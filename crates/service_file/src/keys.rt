@@ -18,7 +18,7 @@ fn is_file_key(key: &str) -> bool
 fn is_service_key(key: &str) -> bool
     ensures { result ≡ is_service_key key.now }
 {
-    matches!(key, "name" | "config" | "program")
+    matches!(key, "name" | "config" | "program" | "layout")
 }
 
 fn are_file_keys(members: &Map<String, Value>) -> bool

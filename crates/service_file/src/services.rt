@@ -11,7 +11,8 @@ ghost use Rattle.service_file.specs.Parts.{service_data};
 use crate::keys::has_service_keys;
 use crate::names::{is_count, is_name};
 use book::{Config, ConfigParts};
-use requests::{config, program, text_at};
+use bpf_profile::Layout;
+use requests::{config, layout, program, text_at};
 use serde_json::Value;
 use std::alloc::{AllocError, Global};
 
@@ -22,6 +23,8 @@ pub(crate) struct ServicePart {
     pub config: Config,
     /// The bytes of the program, where the file has one.
     pub program: Option<Vec<u8>>,
+    /// The layout that the program is for.
+    pub layout: Layout,
 }
 
 /// The name, where a service may have it.
@@ -82,11 +85,15 @@ fn service(alloc: Global, value: &Value) -> Result<Option<ServicePart>, AllocErr
     let Some(program) = program_at(alloc, value)? else {
         return Ok(None);
     };
+    let Some(layout) = layout(value) else {
+        return Ok(None);
+    };
     let name = String::from_str(alloc, name)?;
     Ok(Some(ServicePart {
         name,
         config,
         program,
+        layout,
     }))
 }
 

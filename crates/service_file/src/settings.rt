@@ -1,6 +1,7 @@
 //! The settings that the file gives: the address, and services whose programs are verified.
 ghost use Rattle.std.specs.Prelude.{◌≡◌, map, ◌∷◌, [], None, option_map, ◌⊎◌, IfOk, IfErr, IfSome};
 ghost use Rattle.bpf_profile.specs.Spelling.{Fault};
+ghost use Rattle.verifier.specs.DefaultClassifier.{default_classifier_bytes};
 ghost use Rattle.verifier.specs.Verifying.{IsVerification, IsRefused, fault_of, out_of_memory};
 ghost use Rattle.service_file.specs.Parts.{service_data, file_data};
 ghost use Rattle.service_file.specs.Settled.{bytes_of, IsService, AreServices, HasRefusal, AreSettings, CannotSettle, IsRead, HasCounts};
@@ -8,6 +9,7 @@ ghost use Rattle.service_file.specs.Settled.{bytes_of, IsService, AreServices, H
 use crate::file::{FilePart, file_in};
 use crate::services::ServicePart;
 use book::Config;
+use bpf_profile::Layout;
 use refusals::RefusalNumber;
 use std::alloc::{AllocError, Global};
 use std::net::SocketAddr;
@@ -19,7 +21,7 @@ pub struct ServiceSettings {
     /// 1 to 64 small letters, digits, hyphens and underscores.
     pub name: String,
     pub config: Config,
-    /// Its first program.
+    /// Its first program, verified on records of the layout that it is for.
     pub program: Verified,
 }
 
@@ -36,23 +38,42 @@ pub struct Settings {
     pub services: Vec<ServiceSettings>,
 }
 
-/// The program of these bytes, or the default classifier.
-fn verified(alloc: Global, bytes: &Option<Vec<u8>>) -> Result<Verified, Refusal>
+/// The default classifier, verified on records of this layout.
+fn default_program(alloc: Global, layout: Layout) -> Result<Verified, Refusal>
+    ensures verified { IfOk result (IsVerification default_classifier_bytes) }
+    ensures layout { IfOk result (λ program. program.layout ≡ layout) }
+    ensures refused { IfErr result (λ e. (e ≡ out_of_memory) ⊎ IsRefused layout default_classifier_bytes (fault_of e)) }
+{
+    let program = default_classifier(alloc)?;
+    match layout {
+        Layout::One => Ok(program),
+        Layout::Two => verify(alloc, program.bytes(), Layout::Two),
+    }
+}
+
+/// The program of these bytes, or the default classifier, verified on records of this layout.
+fn verified(alloc: Global, bytes: &Option<Vec<u8>>, layout: Layout) -> Result<Verified, Refusal>
     ensures verified { IfOk result (IsVerification (bytes_of (option_map (λ b. b.items) bytes.now))) }
-    ensures refused { IfErr result (λ e. (e ≡ out_of_memory) ⊎ IsRefused (bytes_of (option_map (λ b. b.items) bytes.now)) (fault_of e)) }
+    ensures layout { IfOk result (λ program. program.layout ≡ layout) }
+    ensures refused { IfErr result (λ e. (e ≡ out_of_memory) ⊎ IsRefused layout (bytes_of (option_map (λ b. b.items) bytes.now)) (fault_of e)) }
 {
     match bytes {
-        Some(bytes) => verify(alloc, bytes),
-        None => default_classifier(alloc),
+        Some(bytes) => verify(alloc, bytes, layout),
+        None => default_program(alloc, layout),
     }
 }
 
 /// The same; None where the bytes are refused, and the error is want of memory.
-fn program(alloc: Global, bytes: &Option<Vec<u8>>) -> Result<Option<Verified>, AllocError>
+fn program(
+    alloc: Global,
+    bytes: &Option<Vec<u8>>,
+    layout: Layout,
+) -> Result<Option<Verified>, AllocError>
     ensures verified { IfOk result (λ found. IfSome found (IsVerification (bytes_of (option_map (λ b. b.items) bytes.now)))) }
-    ensures refused { IfOk result (λ found. found ≡ None → (fault : Fault) × IsRefused (bytes_of (option_map (λ b. b.items) bytes.now)) fault) }
+    ensures layout { IfOk result (λ found. IfSome found (λ program. program.layout ≡ layout)) }
+    ensures refused { IfOk result (λ found. found ≡ None → (fault : Fault) × IsRefused layout (bytes_of (option_map (λ b. b.items) bytes.now)) fault) }
 {
-    match verified(alloc, bytes) {
+    match verified(alloc, bytes, layout) {
         Ok(program) => Ok(Some(program)),
         Err(refusal) => match refusal.number {
             RefusalNumber::ProgramOutOfMemory => Err(AllocError),
@@ -66,7 +87,7 @@ fn service(alloc: Global, part: ServicePart) -> Result<Option<ServiceSettings>, 
     ensures settled { IfOk result (λ found. IfSome found (λ service. IsService service (service_data part))) }
     ensures refused { IfOk result (λ found. found ≡ None → HasRefusal (service_data part ∷ [])) }
 {
-    let Some(program) = program(alloc, &part.program)? else {
+    let Some(program) = program(alloc, &part.program, part.layout)? else {
         return Ok(None);
     };
     Ok(Some(ServiceSettings {
@@ -118,8 +139,9 @@ fn settled(alloc: Global, part: FilePart) -> Result<Option<Settings>, AllocError
 /// The text is a JSON object: `listen` is an IP address with its port, as text; `workers`, 1 to 64;
 /// `connections`, below 2^64, after how many connections serving ends, or 0 for never; and `services`, an
 /// array of 1 to 64 objects with `name` (1 to 64 small letters, digits, hyphens and underscores, each name
-/// once), `config` (as `requests::config` reads it; the defaults where it is missing) and `program`
-/// (hexadecimal, in which blanks don't count; the default classifier where it is missing). None where
+/// once), `config` (as `requests::config` reads it; the defaults where it is missing), `program`
+/// (hexadecimal, in which blanks don't count; the default classifier where it is missing) and `layout` (the
+/// layout of records that the program is verified for, 1 or 2; layout 1 where it is missing). None where
 /// the text is no such object, has another key, or has a program that is refused: the refusal
 /// `BadConfig`. The error is want of memory.
 pub fn read_settings(alloc: Global, text: &[u8]) -> Result<Option<Settings>, AllocError>

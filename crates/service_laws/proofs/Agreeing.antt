@@ -1,12 +1,11 @@
 -- Programs that were installed after a ticket change no verdict under it.
-use Rattle.std.proofs.Common.{◌≡◌, ℕ, zero, suc, ◌≤◌, ◌<◌, ◌==◌, ◌⊎◌, inl, inr, Bool, true, false, List, [], ◌∷◌, take, drop, slice_get, Some, option_to_list, arith, refl, ap, sym, ◌∙◌, subst}
+use Rattle.std.proofs.Common.{◌≡◌, ℕ, zero, suc, ◌≤◌, ◌<◌, ◌==◌, ◌⊎◌, inl, inr, Bool, true, false, List, [], ◌∷◌, take, drop, slice_get, Some, option_to_list, arith, ap, sym, ◌∙◌, subst, rules}
 use Rattle.std.specs.List.{fold}
 use Rattle.std.proofs.lemmas.Bool.{cases_lt, cases_order, or_left, or_right}
-use Rattle.std.proofs.lemmas.Bool.Decides.{Decides-eqb}
 use Rattle.std.proofs.lemmas.List.{take-take}
 use Rattle.std.proofs.lemmas.List.Folds.{list_any-append}
 use Rattle.bpf_profile.specs.declared.machine.Verdict.{Verdict}
-use Rattle.bpf_profile.specs.Limits.{context_size}
+use Rattle.bpf_profile.specs.Layouts.{context_size}
 use Rattle.bpf_profile.specs.Meaning.{Judges, answer_of}
 use Rattle.bpf_profile.specs.Outcomes.{Outcome}
 use Rattle.bpf_profile.specs.Programs.{VerifiedProgram}
@@ -56,13 +55,7 @@ new_there history place line ticket version reached legal e r =
 -- and it is given behind that line
 given_there : (past : Past) (line : EntryData) (ticket version : ℕ) (reached : State) → line.reply ≡ reply.Permitted ticket version reached → is_listed (numbers_issued (passed past line).stages) ticket ≡ true
 unfolding stage_of number_option
-given_there past line ticket version reached r =
-    let more : List ℕ = option_to_list (number_option (issue_at (stage_of past line))) in
-    let one : more ≡ ticket ∷ [] = ap (λ (x : Reply). option_to_list (number_option (issue_by x (machine past line.moment line.event).next.period))) r in
-    let here : is_listed more ticket ≡ true = ap (λ (ns : List ℕ). is_listed ns ticket) one ∙ or_left (ticket == ticket) false ((Decides-eqb ticket ticket).1 refl) in
-    ap (λ (ns : List ℕ). is_listed ns ticket) (numbers_step past.stages (stage_of past line))
-    ∙ list_any-append (λ (other : ℕ). ticket == other) (numbers_issued past.stages) more
-    ∙ or_right (is_listed (numbers_issued past.stages) ticket) (is_listed more ticket) here
+given_there past line ticket version reached r = search (rules, number_option, stage_of, or_left, numbers_step, list_any-append, or_right)
 
 next_place : (past : Past) (lines : List EntryData) (place : ℕ) (l : EntryData) → slice_get lines place ≡ Some l → fold passed past (take (suc place) lines) ≡ passed (fold passed past (take place lines)) l
 next_place past [] place l e = no_line l e
@@ -133,9 +126,10 @@ agreed one other common place elsewhere ticket outcome v w steps count version l
     let lines : a.line ≡ b.line = same_line a.line b.line (sym (subst (λ (n : ℕ). slice_get one.lines n ≡ Some a.line) places a.there) ∙ b_here) in
     let versions : version ≡ label = same_versions b.line.reply ticket version label a.reached b.reached (subst (λ (l : EntryData). l.reply ≡ reply.Permitted ticket version a.reached) lines a.permits) b.permits in
     let programs : newest_before a.issuing one ≡ newest_before b.issuing other = ap (λ (n : ℕ). newest_before n one) places ∙ newest_shared one other common b.issuing same (omega (arith, b_first)) in
-    let judged : Judges context_size (newest_before b.issuing other).slots outcome v steps = subst (λ (p : VerifiedProgram). Judges context_size p.slots outcome v steps) programs a.judged in
+    let size : ℕ = context_size (newest_before b.issuing other).layout in
+    let judged : Judges size (newest_before b.issuing other).slots outcome v steps = subst (λ (p : VerifiedProgram). Judges (context_size p.layout) p.slots outcome v steps) programs a.judged in
     let slots : List _ = (newest_before b.issuing other).slots in
-    (verdicts_agree context_size slots outcome v w steps count judged b.judged, (ends_agree context_size slots outcome (answer_of v) (answer_of w) steps count judged b.judged).1, versions)
+    (verdicts_agree size slots outcome v w steps count judged b.judged, (ends_agree size slots outcome (answer_of v) (answer_of w) steps count judged b.judged).1, versions)
 
 pub later_ignored : Safely → (one other : History) (common place elsewhere ticket : ℕ) (outcome : Outcome) (v w : Verdict) (steps count version label : ℕ) → IsService one → IsService other → first_lines common one ≡ first_lines common other
     → is_listed (numbers_issued (past_of (first_lines common one)).stages) ticket ≡ true

@@ -1,21 +1,17 @@
 -- Each ticket is issued under a number of its own, and ends at most once.
-use Rattle.std.proofs.Common.{◌≡◌, ℕ, ◌+◌, ◌<◌, ◌==◌, nat_le, Bool, true, false, if◌then◌else◌, List, [], ◌∷◌, ◌++◌, map, length, Option, Some, None, option_to_list, arith, refl, ap, sym, ◌∙◌, subst, length-append, append-nil}
+use Rattle.std.proofs.Common.{◌≡◌, ℕ, ◌+◌, ◌<◌, ◌==◌, Bool, true, false, if◌then◌else◌, List, [], ◌∷◌, ◌++◌, map, length, Option, Some, None, option_to_list, arith, refl, ap, sym, ◌∙◌, subst, length-append, append-nil, rules}
 use Rattle.std.specs.List.{fold, AllByRecursion}
 use Rattle.std.proofs.lemmas.Bool.{or_parts, or_from}
-use Rattle.std.proofs.lemmas.Bool.Decides.{Decides-eqb}
 use Rattle.std.proofs.lemmas.List.{map-append}
 use Rattle.std.proofs.lemmas.List.Folds.{list_any-append}
-use Rattle.refusals.specs.declared.RefusalNumber.TheVariants as refusal
 use Rattle.service_profile.specs.declared.decisions.Decision.{Decision}
-use Rattle.service_profile.specs.declared.decisions.Permission.{Permission}
 use Rattle.service_profile.specs.declared.replies.Reply.{Reply}
-use Rattle.service_profile.specs.declared.replies.Reply.TheVariants as reply
 use Rattle.service_profile.specs.declared.standings.Standing.{Standing}
 use Rattle.service_profile.specs.declared.states.State.TheVariants as state
 use Rattle.service_profile.specs.declared.tickets.OpenTicket.{OpenTicket}
-use Rattle.service_profile.specs.Events.{EventData, finishes, releases, EntryData, History}
+use Rattle.service_profile.specs.Events.{EventData, EntryData, History}
 use Rattle.service_profile.specs.Histories.{Stage, Past, end_by, end_at, issue_by, issue_at, ended, issued, is_listed, open_of, opened, passed, past_of, situation_of, machine, Follows, AreLegal, IsLegal}
-use Rattle.service_profile.specs.Machine.{Situation, in_state, overstays, at_moment, is_open, is_entered, refused, placed, admitted, current_version}
+use Rattle.service_profile.specs.Machine.{Situation, in_state, overstays, at_moment, is_open, is_entered, current_version}
 use Rattle.service_laws.specs.Promises.{NoneTwice, numbers_issued}
 use Rattle.book.specs.Sound.{next_ticket}
 use Rattle.book.proofs.Deciding.{found_open}
@@ -23,16 +19,12 @@ use Rattle.book.proofs.Keeping.{end_refused}
 use Rattle.book.proofs.Lawful.{spent_not_open}
 use Rattle.book.proofs.Lists.{map_with, all_append, all_weaken}
 use Rattle.book.proofs.Passing.{unlisted}
-use Rattle.service_laws.proofs.Ways.{Way, asks, turns_away, concludes, gives_back, adds, leads, starts_anew, way}
+use Rattle.service_laws.proofs.Ways.{Way, way}
 
 -- ---- one number more in a list that has none twice
 
 unequal : (a b : ℕ) → (a == b) ≡ false → (b == a) ≡ false
-unequal a b other = by_test (b == a) refl
-  where
-    by_test : (t : Bool) → (b == a) ≡ t → t ≡ false
-    by_test true e = let same : a ≡ b = sym ((Decides-eqb b a).0 e) in let bad : ◌≡◌ {A = Bool} false true = sym other ∙ (Decides-eqb a b).1 same in cc
-    by_test false e = refl
+unequal a b other = search rules
 
 with_one : (numbers : List ℕ) (n : ℕ) → NoneTwice numbers → is_listed numbers n ≡ false → NoneTwice (numbers ++ n ∷ [])
 with_one [] n once new = (refl, tt)
@@ -43,14 +35,12 @@ with_one (m ∷ numbers) n once new =
     (all ∙ or_from (is_listed numbers m) (is_listed (n ∷ []) m) once.0 last, with_one numbers n once.1 parts.1)
 
 with_option : (numbers : List ℕ) (o : Option ℕ) → NoneTwice numbers → ((n : ℕ) → o ≡ Some n → is_listed numbers n ≡ false) → NoneTwice (numbers ++ option_to_list o)
-with_option numbers None once new = subst NoneTwice (sym (append-nil numbers)) once
-with_option numbers (Some n) once new = with_one numbers n once (new n refl)
+with_option numbers o once new = search (rules, append-nil, with_one)
 
 -- ---- a ticket that ends is open before
 
 same_tickets : (test : Bool) (moment : ℕ) (s : Situation) → (if test then in_state state.Open moment s else s).open_tickets ≡ s.open_tickets
-same_tickets true moment s = refl
-same_tickets false moment s = refl
+same_tickets test moment s = search rules
 
 same_number : (a b : ℕ) → ◌≡◌ {A = Option ℕ} (Some a) (Some b) → a ≡ b
 same_number a b e = cc
@@ -59,28 +49,14 @@ not_none : {A : Type 0} (n : ℕ) → ◌≡◌ {A = Option ℕ} None (Some n) �
 not_none n e = cc
 
 ends_open : (s : Situation) (moment : ℕ) (event : EventData) (d : Decision) (n : ℕ) → Way s moment event d → end_by event d.reply ≡ Some n → is_open s.open_tickets n ≡ true
-ends_open s moment event d n (asks e is) ends = not_none n (sym (ap (λ (x : EventData). end_by x d.reply) e) ∙ ends)
-ends_open s moment event d n (turns_away number is) ends = not_none n (sym (ap (λ (x : Decision). end_by event x.reply) is ∙ end_refused event number) ∙ ends)
-ends_open s moment event d n (concludes work ticket t j e found is) ends =
-    let number : ◌≡◌ {A = Option ℕ} (Some ticket) (Some n) = sym (ap (λ (x : EventData). end_by x d.reply) e ∙ ap (λ (x : Decision). end_by (finishes work ticket) x.reply) is) ∙ ends in
-    subst (λ (k : ℕ). is_open s.open_tickets k ≡ true) (same_number ticket n number) (found_open s.open_tickets ticket t found)
-ends_open s moment event d n (gives_back ticket t e found is) ends =
-    let number : ◌≡◌ {A = Option ℕ} (Some ticket) (Some n) = sym (ap (λ (x : EventData). end_by x d.reply) e ∙ ap (λ (x : Decision). end_by (releases ticket) x.reply) is) ∙ ends in
-    subst (λ (k : ℕ). is_open s.open_tickets k ≡ true) (same_number ticket n number) (found_open s.open_tickets ticket t found)
-ends_open s moment event d n (adds program version e is) ends = not_none n (sym (ap (λ (x : EventData). end_by x d.reply) e) ∙ ends)
-ends_open s moment event d n (leads to e is) ends = not_none n (sym (ap (λ (x : EventData). end_by x d.reply) e) ∙ ends)
-ends_open s moment event d n (starts_anew e is) ends = not_none n (sym (ap (λ (x : EventData). end_by x d.reply) e) ∙ ends)
+ends_open s moment event d n a ends = search (rules, not_none, end_refused, same_number, found_open)
 
 -- the way of a line that the machine writes
 pub way_there : (past : Past) (line : EntryData) → Follows past line → Way (at_moment (situation_of past) line.moment) line.moment line.event (machine past line.moment line.event)
 way_there past line follows = way (situation_of past) line.moment line.event (subst (λ (r : Reply). is_entered r ≡ true) follows.replied follows.entered)
 
 open_unlisted : (stages : List Stage) (n : ℕ) → is_open (open_of stages) n ≡ true → is_listed (ended stages) n ≡ false
-open_unlisted stages n there = by_test (is_listed (ended stages) n) refl
-  where
-    by_test : (t : Bool) → is_listed (ended stages) n ≡ t → t ≡ false
-    by_test true e = let bad : ◌≡◌ {A = Bool} true false = sym there ∙ spent_not_open stages n e in cc
-    by_test false e = refl
+open_unlisted stages n there = search (rules, spent_not_open)
 
 -- a line ends an open ticket alone
 pub ends_of_open : (past : Past) (line : EntryData) (n : ℕ) → Follows past line → end_by line.event line.reply ≡ Some n → is_open (open_of past.stages) n ≡ true
@@ -107,53 +83,17 @@ end_once history legal = end_once_from (opened history.rolled history.opening) h
 -- ---- a ticket that is issued has the next number
 
 same_next : (test : Bool) (moment : ℕ) (s : Situation) → (if test then in_state state.Open moment s else s).next_ticket ≡ s.next_ticket
-same_next true moment s = refl
-same_next false moment s = refl
+same_next test moment s = search rules
 
 same_version : (test : Bool) (moment : ℕ) (s : Situation) → current_version (if test then in_state state.Open moment s else s) ≡ current_version s
-same_version true moment s = refl
-same_version false moment s = refl
+same_version test moment s = search rules
 
 pub record IsNext (next current : ℕ) (o : Option OpenTicket) : Type 0 where
   pub number : (t : OpenTicket) → o ≡ Some t → t.number ≡ next
   pub version : (t : OpenTicket) → o ≡ Some t → t.version ≡ current
 
-not_issued : {A : Type 0} (t : OpenTicket) → ◌≡◌ {A = Option OpenTicket} None (Some t) → A
-not_issued t e = cc
-
-no_next : (next current : ℕ) → IsNext next current None
-no_next next current = record { number = λ t e. not_issued t e; version = λ t e. not_issued t e }
-
-same_ticket : (a b : OpenTicket) → ◌≡◌ {A = Option OpenTicket} (Some a) (Some b) → a ≡ b
-same_ticket a b e = cc
-
-one_next : (next current period : ℕ) → IsNext next current (Some (record { number = next; version = current; period = period }))
-one_next next current period =
-    let issued_so : OpenTicket = record { number = next; version = current; period = period } in
-    record {
-      number = λ t e. sym (ap (λ (u : OpenTicket). u.number) (same_ticket issued_so t e));
-      version = λ t e. sym (ap (λ (u : OpenTicket). u.version) (same_ticket issued_so t e));
-    }
-
-placed_next : (test : Bool) (next current period : ℕ) (standing : Standing) → IsNext next current (issue_by (if test then refused standing refusal.BulkheadFull else record { reply = reply.Permitted next current standing.state; next = standing }).reply period)
-placed_next true next current period standing = no_next next current
-placed_next false next current period standing = one_next next current period
-
-admitted_next : (given : Bool) (s : Situation) (standing : Standing) (period : ℕ) → IsNext s.next_ticket (current_version s) (issue_by (if given then placed s standing else refused standing refusal.CallNotPermitted).reply period)
-admitted_next true s standing period = placed_next (nat_le s.config.max_concurrent_calls (length s.open_tickets)) s.next_ticket (current_version s) period standing
-admitted_next false s standing period = no_next s.next_ticket (current_version s)
-
-acquired_next : (s : Situation) (permission : Permission) (period : ℕ) → IsNext s.next_ticket (current_version s) (issue_by (admitted s permission).reply period)
-acquired_next s permission period = admitted_next permission.given s permission.standing period
-
 issues_next : (s : Situation) (moment : ℕ) (event : EventData) (d : Decision) (period : ℕ) → Way s moment event d → IsNext s.next_ticket (current_version s) (issue_by d.reply period)
-issues_next s moment event d period (asks e is) = rw is (acquired_next s _ period)
-issues_next s moment event d period (turns_away number is) = rw is (no_next s.next_ticket (current_version s))
-issues_next s moment event d period (concludes work ticket t j e found is) = rw is (no_next s.next_ticket (current_version s))
-issues_next s moment event d period (gives_back ticket t e found is) = rw is (no_next s.next_ticket (current_version s))
-issues_next s moment event d period (adds program version e is) = rw is (no_next s.next_ticket (current_version s))
-issues_next s moment event d period (leads to e is) = rw is (no_next s.next_ticket (current_version s))
-issues_next s moment event d period (starts_anew e is) = rw is (no_next s.next_ticket (current_version s))
+issues_next s moment event d period a = search rules
 
 pub issued_next : (past : Past) (line : EntryData) (period : ℕ) → Follows past line → IsNext (next_ticket past) (current_version (situation_of past)) (issue_by line.reply period)
 issued_next past line period follows =
@@ -170,19 +110,14 @@ number_option (Some t) = Some t.number
 
 numbers_of_option : (o : Option OpenTicket) → map (λ (t : OpenTicket). t.number) (option_to_list o) ≡ option_to_list (number_option o)
 unfolding number_option
-numbers_of_option None = refl
-numbers_of_option (Some t) = refl
+numbers_of_option o = search rules
 
 numbered_next : (next current : ℕ) (o : Option OpenTicket) (n : ℕ) → IsNext next current o → number_option o ≡ Some n → n ≡ next
 unfolding number_option
-numbered_next next current None n is e = not_none n e
-numbered_next next current (Some t) n is e = sym (same_number t.number n e) ∙ is.number t refl
+numbered_next next current o n is e = search rules
 
 pub numbers_step : (stages : List Stage) (stage : Stage) → numbers_issued (stages ++ stage ∷ []) ≡ numbers_issued stages ++ option_to_list (number_option (issue_at stage))
-numbers_step stages stage =
-    ap (map (λ (t : OpenTicket). t.number)) (map_with issue_at stages stage)
-    ∙ map-append (λ (t : OpenTicket). t.number) (issued stages) (option_to_list (issue_at stage))
-    ∙ ap (λ (ns : List ℕ). numbers_issued stages ++ ns) (numbers_of_option (issue_at stage))
+numbers_step stages stage = search (rules, map_with, map-append, numbers_of_option)
 
 -- all numbers of tickets are below the next one, and none stands twice
 pub record AreGiven (past : Past) : Type 0 where
@@ -191,8 +126,7 @@ pub record AreGiven (past : Past) : Type 0 where
 
 below_later : (next current later : ℕ) (o : Option OpenTicket) → IsNext next current o → next + length (option_to_list o) ≡ later → AllByRecursion (λ number. number < later) (option_to_list (number_option o))
 unfolding number_option
-below_later next current later None is e = tt
-below_later next current later (Some t) is e = (omega (arith, is.number t refl, e), tt)
+below_later next current later o is e = search rules
 
 given_step : (past : Past) (line : EntryData) → Follows past line → AreGiven past → AreGiven (passed past line)
 given_step past line follows given =

@@ -1,14 +1,12 @@
 -- A verdict is that of the program which was the newest when its ticket was issued.
-use Rattle.std.proofs.Common.{◌≡◌, ℕ, zero, suc, ◌-◌, ◌≤◌, ◌<◌, ◌⊎◌, inl, inr, nat_le, List, [], ◌∷◌, ◌++◌, length, take, drop, slice_get, Option, Some, None, option_to_list, arith, refl, ap, sym, ◌∙◌, subst}
-use Rattle.std.specs.Prelude.{Contains, slice_index_or}
+use Rattle.std.proofs.Common.{◌≡◌, ℕ, zero, suc, ◌-◌, ◌≤◌, ◌<◌, ◌⊎◌, inl, inr, nat_le, List, [], ◌∷◌, ◌++◌, take, drop, slice_get, Option, Some, None, option_to_list, arith, refl, ap, sym, ◌∙◌, subst, rules}
+use Rattle.std.specs.Prelude.{Contains}
 use Rattle.std.specs.List.{fold, filter_map, AllByRecursion}
 use Rattle.std.proofs.lemmas.List.{take-take, take-append-drop}
 use Rattle.std.proofs.lemmas.List.Elements.{Contains-append_cases}
 use Rattle.std.proofs.lemmas.List.Sums.{fold-append}
 use Rattle.bpf_profile.specs.declared.machine.Verdict.{Verdict}
 use Rattle.bpf_profile.specs.JudgedWork.{JudgedData}
-use Rattle.bpf_profile.specs.Limits.{context_size}
-use Rattle.bpf_profile.specs.Meaning.{Judges}
 use Rattle.bpf_profile.specs.Outcomes.{Outcome}
 use Rattle.bpf_profile.specs.Programs.{VerifiedProgram}
 use Rattle.service_profile.specs.declared.replies.Fate.{Fate}
@@ -49,12 +47,7 @@ unfolding IsLegal
 legal_there history count legal = legal_first (opened history.rolled history.opening) history.lines count legal
 
 service_first : (history : History) (count : ℕ) → IsService history → IsService (first_lines count history)
-service_first history count service = record {
-  opening = service.opening;
-  program = service.program;
-  legal = legal_there history count service.legal;
-  lines = good_first history.lines count service.lines;
-}
+service_first history count service = search (rules, legal_there, good_first)
 
 pub no_line : {A : Type 0} (l : EntryData) → ◌≡◌ {A = Option EntryData} None (Some l) → A
 no_line l e = cc
@@ -114,16 +107,11 @@ permitted (reply.Permitted number version reached) period t e =
 permitted (reply.Refused number) period t e = no_ticket t e
 permitted (reply.Finished f v steps version reached) period t e = no_ticket t e
 permitted (reply.Released reached) period t e = no_ticket t e
-permitted (reply.Installed version budget) period t e = no_ticket t e
+permitted (reply.Installed version budget layout) period t e = no_ticket t e
 permitted (reply.Moved reached p) period t e = no_ticket t e
 
 only_one : (o : Option OpenTicket) (t : OpenTicket) → Contains (option_to_list o) t → o ≡ Some t
-only_one None t h = absurd (omega (arith, h.1))
-only_one (Some u) t h = at_first h.0 h.1 h.2
-  where
-    at_first : (k : ℕ) → k < length (u ∷ []) → slice_index_or (u ∷ []) k t ≡ t → ◌≡◌ {A = Option OpenTicket} (Some u) (Some t)
-    at_first zero less e = ap (λ (v : OpenTicket). Some v) e
-    at_first (suc k) less e = absurd (omega (arith, less))
+only_one o t h = search rules
 
 issued_here : (past : Past) (l : EntryData) (lines : List EntryData) (period : ℕ) (t : OpenTicket) → Follows past l → issue_by l.reply period ≡ Some t → IsIssuedIn past (l ∷ lines) t
 issued_here past l lines period t follows e =
@@ -163,11 +151,7 @@ issued_in past (l ∷ lines) t legal listed = by_rest (issued_in (passed past l)
 
 issued_of : (history : History) (t : OpenTicket) → IsLegal history → Contains (issued (past_of history).stages) t → IsIssuedIn (opened history.rolled history.opening) history.lines t
 unfolding IsLegal
-issued_of history t legal listed = by_either (issued_in (opened history.rolled history.opening) history.lines t legal listed)
-  where
-    by_either : Contains {X = OpenTicket} [] t ⊎ IsIssuedIn (opened history.rolled history.opening) history.lines t → IsIssuedIn (opened history.rolled history.opening) history.lines t
-    by_either (inl none) = absurd (omega (arith, none.1))
-    by_either (inr is) = is
+issued_of history t legal listed = search (rules, issued_in)
 
 -- ---- the verdict
 
@@ -200,25 +184,7 @@ still_named history place issuing version le named =
 by_ticket : (history : History) (place : ℕ) (work : JudgedData) (ticket : ℕ) (v : Verdict) (steps version : ℕ)
     → (is_meant : IsMeant history.opening.version (programs_of (past_of (first_lines place history))) (issued (past_of (first_lines place history)).stages) work ticket v steps version)
     → IsIssuedIn (opened history.rolled history.opening) (take place history.lines) is_meant.issued → AreOfTheTicket history place ticket work.outcome v steps version
-by_ticket history place work ticket v steps version is_meant is =
-    let start : Past = opened history.rolled history.opening in
-    let here = got_first history.lines place is.place is.line is.there in
-    let same : take is.place (take place history.lines) ≡ take is.place history.lines = take-take is.place place history.lines (omega (arith, here.0)) in
-    let then_named : program_from history.opening.version (programs_of (past_of (first_lines is.place history))) is_meant.issued.version ≡ Some (newest_before is.place history) =
-    subst (λ (xs : List EntryData). program_from history.opening.version (programs_of (fold passed start xs)) is_meant.issued.version ≡ Some (current_program (fold passed start xs))) same is.named in
-    let named : program_from history.opening.version (programs_of (past_of (first_lines is.place history))) version ≡ Some (newest_before is.place history) =
-    subst (λ (n : ℕ). program_from history.opening.version (programs_of (past_of (first_lines is.place history))) n ≡ Some (newest_before is.place history)) is_meant.of_version then_named in
-    let program : is_meant.program ≡ newest_before is.place history = same_program is_meant.program (newest_before is.place history) _ is_meant.held (still_named history place is.place version (omega (arith, here.0)) named) in
-    record {
-      issuing = is.place;
-      earlier = here.0;
-      line = is.line;
-      there = here.1;
-      reached = is.reached;
-      permits = is.permits ∙ ap (λ (n : ℕ). reply.Permitted n is_meant.issued.version is.reached) is_meant.number ∙ ap (λ (n : ℕ). reply.Permitted ticket n is.reached) is_meant.of_version;
-      named = named;
-      judged = subst (λ (p : VerifiedProgram). Judges context_size p.slots work.outcome v steps) program is_meant.meant;
-    }
+by_ticket history place work ticket v steps version is_meant is = search (rules, got_first, take-take, same_program, still_named)
 
 finished_so : Safely → (history : History) (place : ℕ) (line : EntryData) (work : JudgedData) (ticket : ℕ) (f : Fate) (v : Verdict) (steps version : ℕ) (reached : State) → IsService history → slice_get history.lines place ≡ Some line
     → line.event ≡ finishes work ticket → line.reply ≡ reply.Finished f v steps version reached → AreOfTheTicket history place ticket work.outcome v steps version

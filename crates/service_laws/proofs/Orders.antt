@@ -1,10 +1,10 @@
 -- The order of moments, and of numbers over all openings.
-use Rattle.std.proofs.Common.{◌≡◌, ℕ, zero, suc, ◌+◌, ◌≤◌, ◌⊎◌, inl, inr, Bool, true, false, if◌then◌else◌, List, [], ◌∷◌, ◌++◌, length, slice_get, Option, Some, None, Result, Ok, Err, arith, ap}
+use Rattle.std.proofs.Common.{◌≡◌, ℕ, zero, suc, ◌+◌, ◌≤◌, ◌⊎◌, inl, inr, Bool, if◌then◌else◌, List, [], ◌∷◌, ◌++◌, length, slice_get, Option, Some, None, Result, Ok, Err, arith, ap, rules}
 use Rattle.refusals.specs.declared.RefusalNumber.{RefusalNumber}
 use Rattle.refusals.specs.declared.RefusalNumber.TheVariants as refusal
-use Rattle.service_profile.specs.Answers.{cut, reopened, is_worn_out, is_some_open}
+use Rattle.service_profile.specs.Answers.{cut}
 use Rattle.service_profile.specs.Events.{EntryData, Opening, History}
-use Rattle.service_profile.specs.Histories.{Past, opened, passed, past_of, situation_of, machine, greatest, AreLegal, IsLegal}
+use Rattle.service_profile.specs.Histories.{Past, opened, passed, past_of, machine, greatest, AreLegal, IsLegal}
 use Rattle.service_laws.specs.Promises.{AreCutInTurn, lines_of_all}
 use Rattle.book.proofs.Applying.{same_opening, stage_count}
 use Rattle.book.proofs.Lawful.{numbers_kept}
@@ -55,23 +55,17 @@ either_part (x ∷ xs) ys (suc place) l e = one_more (either_part xs ys place l 
     one_more (inr there) = inr (there.0, omega (arith, there.1), there.2)
 
 pub reopened_is : (worn held : Bool) (o next : Opening) → ◌≡◌ {A = Result Opening RefusalNumber} (if worn then Err refusal.JournalFull else (if held then Err refusal.TicketsOpen else Ok o)) (Ok next) → o ≡ next
-reopened_is true held o next e = cc
-reopened_is false true o next e = cc
-reopened_is false false o next e = cc
+reopened_is worn held o next e = search rules
 
 -- the line number of the next opening
 next_number : (before next : History) → cut (past_of before) ≡ Ok next.opening → next.opening.line ≡ before.opening.line + length before.lines
-next_number before next e =
-    let past : Past = past_of before in
-    let is = reopened_is (is_worn_out past) (is_some_open (situation_of past).open_tickets) (reopened past) next.opening e in
-    omega (arith, ap (λ (o : Opening). o.line) is, ap (λ (o : Opening). o.line) (same_opening before.opening before.lines before.rolled), stage_count before.opening before.lines before.rolled)
+next_number before next e = search (rules, reopened_is, same_opening, stage_count)
 
 -- a line is one of this history, or one of the lines behind them
 numbered_by : (history : History) (behind : List EntryData) (place : ℕ) (l : EntryData) → IsLegal history
     → ((later : ℕ) → slice_get behind later ≡ Some l → l.number ≡ history.opening.line + length history.lines + later)
     → (slice_get history.lines place ≡ Some l) ⊎ ((later : ℕ) × (place ≡ length history.lines + later) × (slice_get behind later ≡ Some l)) → l.number ≡ history.opening.line + place
-numbered_by history behind place l legal on (inl here) = numbers_kept history place l legal here
-numbered_by history behind place l legal on (inr there) = omega (arith, there.1, on there.0 there.2)
+numbered_by history behind place l legal on a = search (rules, numbers_kept)
 
 numbered_after : (history : History) (further : List History) (place : ℕ) (l : EntryData) → IsLegal history → AreCutInTurn history further → slice_get (lines_of_all (history ∷ further)) place ≡ Some l → l.number ≡ history.opening.line + place
 numbered_after history [] place l legal cuts e = numbered_by history [] place l legal (λ later none. no_line l none) (either_part history.lines [] place l e)

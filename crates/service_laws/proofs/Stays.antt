@@ -1,16 +1,14 @@
 -- A longest stay in HALF_OPEN ends with the first line that comes when it is over; with none nothing is different.
-use Rattle.std.proofs.Common.{◌≡◌, ℕ, ◌-◌, ◌≤◌, ◌<◌, ◌==◌, inl, inr, nat_lt, nat_le, ◌&&◌, Bool, true, false, if◌then◌else◌, arith, refl, ap, ◌∙◌, subst}
+use Rattle.std.proofs.Common.{◌≡◌, ℕ, ◌-◌, ◌≤◌, ◌<◌, ◌==◌, nat_lt, nat_le, ◌&&◌, Bool, true, false, if◌then◌else◌, arith, refl, ap, subst, rules}
 use Rattle.std.proofs.lemmas.Bool.{le-leb, lt-leb, lt-ltb}
-use Rattle.std.proofs.lemmas.Bool.Decides.{Decides-eqb}
 use Rattle.refusals.specs.declared.RefusalNumber.TheVariants as refusal
 use Rattle.service_profile.specs.declared.decisions.Decision.{Decision}
-use Rattle.service_profile.specs.declared.replies.Reply.{Reply}
 use Rattle.service_profile.specs.declared.replies.Reply.TheVariants as reply
 use Rattle.service_profile.specs.declared.standings.Standing.{Standing}
 use Rattle.service_profile.specs.declared.states.State.TheVariants as state
 use Rattle.service_profile.specs.Events.{EventData, EntryData, History, acquires}
 use Rattle.service_profile.specs.Histories.{Past, past_of, passed, situation_of, machine, Follows}
-use Rattle.service_profile.specs.Machine.{Situation, at_moment, overstays, in_state, acquired, decision, decision_by, decided, meant, is_full, is_entered, refused}
+use Rattle.service_profile.specs.Machine.{Situation, overstays, in_state, acquired, decision, decision_by}
 use Rattle.service_profile.specs.Standings.{moved, is_half_open}
 use Rattle.service_laws.specs.Promises.{StayIsOver, decision_without_stays}
 use Rattle.book.proofs.Deciding.{decision_near}
@@ -21,16 +19,9 @@ use Rattle.service_laws.proofs.Ways.{taken}
 
 -- ---- with no longest stay
 
-zero_stay : (stay : ℕ) (rest : Bool) → stay ≡ 0 → (nat_lt 0 stay && rest) ≡ false
-zero_stay stay rest e = rw e refl
-
-no_stay : (s : Situation) (moment : ℕ) → s.config.max_wait_duration_in_half_open_state ≡ 0 → at_moment s moment ≡ s
-no_stay s moment e = ap (λ (b : Bool). if b then in_state state.Open moment s else s) (zero_stay s.config.max_wait_duration_in_half_open_state _ e)
-
 pub nothing_different : (s : Situation) (moment : ℕ) (event : EventData) → s.config.max_wait_duration_in_half_open_state ≡ 0 → decision s moment event ≡ decision_without_stays s moment event
 unfolding decision_by
-nothing_different s moment event e =
-    ap (λ (t : Situation). if is_full s event then refused s.standing refusal.JournalFull else decided meant t moment event) (no_stay s moment e)
+nothing_different s moment event e = search rules
 
 -- ---- with one that is over
 
@@ -43,9 +34,7 @@ is_over past moment over = over_by past.opening.config.max_wait_duration_in_half
 -- a stay that has lasted for more than a moment can't have begun just now
 later_period : (before after : Standing) (moment : ℕ) (test : Bool) → (after.period == before.period) ≡ test → before.since < moment → (after.period ≡ before.period → after ≡ before) → (test ≡ false → before.period < after.period)
     → Stays (moved state.Open moment before) moment after → before.period < after.period
-later_period before after moment false e less same later stays = later refl
-later_period before after moment true e less same later (inl is) = absurd (omega (arith, (Decides-eqb after.period before.period).0 e, ap (λ (x : Standing). x.period) is))
-later_period before after moment true e less same later (inr since) = absurd (omega (arith, since, less, ap (λ (x : Standing). x.since) (same ((Decides-eqb after.period before.period).0 e))))
+later_period before after moment test e less same later stays = search rules
 
 pub stay_ends : (history : History) (line : EntryData) → Follows (past_of history) line → StayIsOver (past_of history) line.moment → (past_of history).standing.period < (passed (past_of history) line).standing.period
 stay_ends history line follows over =
@@ -61,12 +50,4 @@ refused_in_open s moment none = rw none refl
 
 pub call_refused : (history : History) (line : EntryData) → Follows (past_of history) line → StayIsOver (past_of history) line.moment → 0 < (past_of history).opening.config.wait_duration_in_open_state → line.event ≡ acquires
     → line.reply ≡ reply.Refused refusal.CallNotPermitted
-call_refused history line follows over some asks =
-    let past : Past = past_of history in
-    let s : Situation = situation_of past in
-    let there = taken s line.moment line.event (subst (λ (r : Reply). is_entered r ≡ true) follows.replied follows.entered) in
-    follows.replied
-    ∙ ap (λ (d : Decision). d.reply) there
-    ∙ ap (λ (e : EventData). (decided meant (at_moment s line.moment) line.moment e).reply) asks
-    ∙ ap (λ (b : Bool). (decided meant (if b then in_state state.Open line.moment s else s) line.moment acquires).reply) (is_over past line.moment over)
-    ∙ refused_in_open s line.moment (lt-leb s.config.wait_duration_in_open_state (line.moment - line.moment) (omega (arith, some)))
+call_refused history line follows over some asks = search (rules, taken, is_over, refused_in_open, lt-leb)

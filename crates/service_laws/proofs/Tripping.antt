@@ -1,6 +1,5 @@
 -- When a breaker comes from CLOSED to OPEN.
-use Rattle.std.proofs.Common.{◌≡◌, ℕ, ◌*◌, ◌≤◌, ◌⊎◌, inl, inr, nat_le, ◌&&◌, Bool, true, false, if◌then◌else◌, List, [], ◌∷◌, ◌++◌, length, Option, Some, None, refl, ap, sym, ◌∙◌, subst}
-use Rattle.std.proofs.lemmas.Bool.{leb-true, le-leb, and_parts, and_from, or_cases, or_left, or_right}
+use Rattle.std.proofs.Common.{◌≡◌, ℕ, nat_le, ◌&&◌, Bool, if◌then◌else◌, List, [], ◌∷◌, ◌++◌, length, Some, None, refl, ap, rules}
 use Rattle.bpf_profile.specs.declared.machine.Verdict.{Verdict}
 use Rattle.bpf_profile.specs.JudgedWork.{JudgedData}
 use Rattle.refusals.specs.declared.RefusalNumber.TheVariants as refusal
@@ -9,18 +8,17 @@ use Rattle.service_profile.specs.declared.decisions.Decision.{Decision}
 use Rattle.service_profile.specs.declared.notes.Note.{Note}
 use Rattle.service_profile.specs.declared.replies.Fate.{Fate}
 use Rattle.service_profile.specs.declared.replies.Fate.TheVariants as fate
-use Rattle.service_profile.specs.declared.replies.Reply.{Reply}
 use Rattle.service_profile.specs.declared.replies.Reply.TheVariants as reply
 use Rattle.service_profile.specs.declared.standings.Standing.{Standing}
 use Rattle.service_profile.specs.declared.states.State.{State}
 use Rattle.service_profile.specs.declared.states.State.TheVariants as state
 use Rattle.service_profile.specs.Events.{EventData, acquires, finishes, moves, resets, EntryData, History}
 use Rattle.service_profile.specs.Histories.{Past, past_of, passed, situation_of, machine, note_by, notes_of, Follows}
-use Rattle.service_profile.specs.Machine.{Situation, next_by, note_of, fate_of, current_version, permissions_held, permission_in, refused, placed, admitted, acquired, meant, decided}
-use Rattle.service_profile.specs.Rates.{minimum_in_window, either_reaches, reaches, after_totals, after_notes}
+use Rattle.service_profile.specs.Machine.{Situation, next_by, note_of, fate_of, current_version, permissions_held, permission_in, refused, placed, admitted, acquired}
+use Rattle.service_profile.specs.Rates.{minimum_in_window, either_reaches, after_totals, after_notes}
 use Rattle.service_profile.specs.Standings.{moved, is_half_open}
 use Rattle.service_profile.specs.Windows.{in_window, windowed, totals_of}
-use Rattle.service_laws.specs.Promises.{failures, slow_calls, ReachAThreshold, Trips, IsReasonToOpen}
+use Rattle.service_laws.specs.Promises.{Trips, IsReasonToOpen}
 use Rattle.book.proofs.Permissions.{note_refused}
 use Rattle.service_laws.proofs.Ways.{Way, asks, turns_away, concludes, gives_back, adds, leads, starts_anew, line_way, line_taken}
 
@@ -29,39 +27,11 @@ use Rattle.service_laws.proofs.Ways.{Way, asks, turns_away, concludes, gives_bac
 abbrev is_enough : ConfigParts → List Note → Bool
 is_enough config notes = nat_le (minimum_in_window config) (length notes) && either_reaches config (totals_of notes)
 
-either_there : (config : ConfigParts) (notes : List Note)
-    → (reaches config.failure_rate_threshold (length notes) (failures notes) ≡ true) ⊎ (reaches config.slow_call_rate_threshold (length notes) (slow_calls notes) ≡ true)
-    → (config.failure_rate_threshold * length notes ≤ 100 * failures notes) ⊎ (config.slow_call_rate_threshold * length notes ≤ 100 * slow_calls notes)
-either_there config notes (inl h) = inl (leb-true (config.failure_rate_threshold * length notes) (100 * failures notes) h)
-either_there config notes (inr h) = inr (leb-true (config.slow_call_rate_threshold * length notes) (100 * slow_calls notes) h)
-
-threshold_there : (config : ConfigParts) (notes : List Note) → is_enough config notes ≡ true → ReachAThreshold config notes
-threshold_there config notes h =
-    let both = and_parts (nat_le (minimum_in_window config) (length notes)) (either_reaches config (totals_of notes)) h in
-    record {
-      enough = leb-true (minimum_in_window config) (length notes) both.0;
-      either = either_there config notes (or_cases (reaches config.failure_rate_threshold (length notes) (failures notes)) (reaches config.slow_call_rate_threshold (length notes) (slow_calls notes)) both.1);
-    }
-
-either_tested : (config : ConfigParts) (notes : List Note)
-    → (config.failure_rate_threshold * length notes ≤ 100 * failures notes) ⊎ (config.slow_call_rate_threshold * length notes ≤ 100 * slow_calls notes)
-    → either_reaches config (totals_of notes) ≡ true
-either_tested config notes (inl h) = or_left (reaches config.failure_rate_threshold (length notes) (failures notes)) (reaches config.slow_call_rate_threshold (length notes) (slow_calls notes)) (le-leb (config.failure_rate_threshold * length notes) (100 * failures notes) h)
-either_tested config notes (inr h) = or_right (reaches config.failure_rate_threshold (length notes) (failures notes)) (reaches config.slow_call_rate_threshold (length notes) (slow_calls notes)) (le-leb (config.slow_call_rate_threshold * length notes) (100 * slow_calls notes) h)
-
-threshold_tested : (config : ConfigParts) (notes : List Note) → ReachAThreshold config notes → is_enough config notes ≡ true
-threshold_tested config notes reach =
-    and_from (nat_le (minimum_in_window config) (length notes)) (either_reaches config (totals_of notes)) (le-leb (minimum_in_window config) (length notes) reach.enough) (either_tested config notes reach.either)
-
 -- ---- where a note leads in CLOSED
 
 closed_after : (config : ConfigParts) (moment : ℕ) (standing : Standing) (notes : List Note) → standing.state ≡ state.Closed
     → after_notes config moment standing notes ≡ (if is_enough config (in_window config moment notes) then moved state.Open moment standing else standing)
 closed_after config moment standing notes stands = ap (λ (s : State). after_totals config moment standing s (totals_of (windowed config s moment notes))) stands
-
-opened_by : (test : Bool) (moment : ℕ) (standing : Standing) → standing.state ≡ state.Closed → (if test then moved state.Open moment standing else standing).state ≡ state.Open → test ≡ true
-opened_by true moment standing stands opens = refl
-opened_by false moment standing stands opens = let bad : ◌≡◌ {A = State} state.Closed state.Open = sym stands ∙ opens in cc
 
 -- what a note that a verdict makes leads to
 pub record IsNoted (config : ConfigParts) (moment : ℕ) (standing : Standing) (notes : List Note) (event : EventData) (d : Decision) (note : Note) : Type 0 where
@@ -88,8 +58,7 @@ concluded_closed fate.Stale config moment standing notes work ticket v steps ver
 
 placed_closed : (test : Bool) (config : ConfigParts) (moment : ℕ) (standing : Standing) (notes : List Note) (ticket version : ℕ) (st : State)
     → FromClosed config moment standing notes acquires (if test then refused standing refusal.BulkheadFull else record { reply = reply.Permitted ticket version st; next = standing })
-placed_closed true config moment standing notes ticket version st = stays refl refl
-placed_closed false config moment standing notes ticket version st = stays refl refl
+placed_closed test config moment standing notes ticket version st = search rules
 
 from_closed : (s : Situation) (moment : ℕ) (event : EventData) (d : Decision) → s.standing.state ≡ state.Closed → Way s moment event d → FromClosed s.config moment s.standing s.notes event d
 from_closed s moment event d stands (asks e is) =
@@ -108,42 +77,19 @@ from_closed s moment event d stands (starts_anew e is) = rw (e, is) (is_reset re
 closed_line : (past : Past) (line : EntryData) → Follows past line → past.standing.state ≡ state.Closed → FromClosed past.opening.config line.moment past.standing (notes_of past) line.event (machine past line.moment line.event)
 closed_line past line follows stands = from_closed (situation_of past) line.moment line.event (machine past line.moment line.event) stands (line_way past line follows (ap is_half_open stands))
 
-noted_so : (past : Past) (line : EntryData) (o : Option Note) → Follows past line → note_by past.opening.config line.moment line.event (machine past line.moment line.event).reply ≡ o → note_by past.opening.config line.moment line.event line.reply ≡ o
-noted_so past line o follows e = ap (λ (r : Reply). note_by past.opening.config line.moment line.event r) follows.replied ∙ e
-
 why : (past : Past) (line : EntryData) → Follows past line → past.standing.state ≡ state.Closed
     → FromClosed past.opening.config line.moment past.standing (notes_of past) line.event (machine past line.moment line.event) → (machine past line.moment line.event).next.state ≡ state.Open → IsReasonToOpen past line
-why past line follows stands (notes_it note is) opens =
-    let test = opened_by (is_enough past.opening.config (in_window past.opening.config line.moment (notes_of past ++ note ∷ []))) line.moment past.standing stands (sym (ap (λ (x : Standing). x.state) is.next) ∙ opens) in
-    inl (record { note = note; noted = noted_so past line (Some note) follows is.noted; reached = threshold_there past.opening.config (in_window past.opening.config line.moment (notes_of past ++ note ∷ [])) test })
-why past line follows stands (stays unnoted next) opens = let bad : ◌≡◌ {A = State} state.Closed state.Open = sym stands ∙ sym (ap (λ (x : Standing). x.state) next) ∙ opens in cc
-why past line follows stands (is_led to unnoted e next) opens = let same : to ≡ state.Open = sym (ap (λ (x : Standing). x.state) next) ∙ opens in inr (e ∙ ap moves same)
-why past line follows stands (is_reset unnoted e next) opens = let bad : ◌≡◌ {A = State} state.Closed state.Open = sym (ap (λ (x : Standing). x.state) next) ∙ opens in cc
+why past line follows stands a opens = search rules
 
 pub opened_why : (history : History) (line : EntryData) → Follows (past_of history) line → (past_of history).standing.state ≡ state.Closed → (passed (past_of history) line).standing.state ≡ state.Open → IsReasonToOpen (past_of history) line
 opened_why history line follows stands opens = why (past_of history) line follows stands (closed_line (past_of history) line follows stands) opens
 
-other_note : (a b : Note) (o : Option Note) → o ≡ Some a → o ≡ Some b → a ≡ b
-other_note a b o p q = let same : ◌≡◌ {A = Option Note} (Some a) (Some b) = sym p ∙ q in cc
-
-no_note : {A : Type 0} (a : Note) (o : Option Note) → o ≡ None → o ≡ Some a → A
-no_note a o p q = let bad : ◌≡◌ {A = Option Note} None (Some a) = sym p ∙ q in cc
-
 by_trip : (past : Past) (line : EntryData) → Follows past line → Trips past line
     → FromClosed past.opening.config line.moment past.standing (notes_of past) line.event (machine past line.moment line.event) → (machine past line.moment line.event).next ≡ moved state.Open line.moment past.standing
-by_trip past line follows trips (notes_it note is) =
-    let same = other_note trips.note note (note_by past.opening.config line.moment line.event line.reply) trips.noted (noted_so past line (Some note) follows is.noted) in
-    let reached = subst (λ (n : Note). ReachAThreshold past.opening.config (in_window past.opening.config line.moment (notes_of past ++ n ∷ []))) same trips.reached in
-    is.next ∙ ap (λ (b : Bool). if b then moved state.Open line.moment past.standing else past.standing) (threshold_tested past.opening.config (in_window past.opening.config line.moment (notes_of past ++ note ∷ [])) reached)
-by_trip past line follows trips (stays unnoted next) = no_note trips.note _ (noted_so past line None follows unnoted) trips.noted
-by_trip past line follows trips (is_led to unnoted e next) = no_note trips.note _ (noted_so past line None follows unnoted) trips.noted
-by_trip past line follows trips (is_reset unnoted e next) = no_note trips.note _ (noted_so past line None follows unnoted) trips.noted
+by_trip past line follows trips a = search rules
 
 by_reason : (past : Past) (line : EntryData) → Follows past line → past.standing.state ≡ state.Closed → IsReasonToOpen past line → (machine past line.moment line.event).next ≡ moved state.Open line.moment past.standing
-by_reason past line follows stands (inl trips) = by_trip past line follows trips (closed_line past line follows stands)
-by_reason past line follows stands (inr e) =
-    ap (λ (d : Decision). d.next)
-    (line_taken past line follows (ap is_half_open stands) ∙ ap (λ (event : EventData). decided meant (situation_of past) line.moment event) e)
+by_reason past line follows stands a = search (rules, by_trip, closed_line, line_taken)
 
 pub opened_then : (history : History) (line : EntryData) → Follows (past_of history) line → (past_of history).standing.state ≡ state.Closed → IsReasonToOpen (past_of history) line → (passed (past_of history) line).standing ≡ moved state.Open line.moment (past_of history).standing
 opened_then history line follows stands reason = by_reason (past_of history) line follows stands reason

@@ -1,21 +1,19 @@
 -- Over all openings no number is given to two tickets, and no ticket ends twice.
-use Rattle.std.proofs.Common.{◌≡◌, ℕ, ◌+◌, ◌≤◌, ◌<◌, ◌==◌, ◌||◌, not, Bool, true, false, if◌then◌else◌, List, [], ◌∷◌, ◌++◌, map, length, Option, Some, None, Ok, option_to_list, arith, refl, ap, sym, ◌∙◌, subst, length-append}
+use Rattle.std.proofs.Common.{◌≡◌, ℕ, ◌+◌, ◌≤◌, ◌<◌, ◌==◌, not, Bool, true, false, if◌then◌else◌, List, [], ◌∷◌, ◌++◌, map, length, Option, Some, Ok, option_to_list, arith, refl, ap, sym, ◌∙◌, subst, length-append, rules}
 use Rattle.std.specs.List.{fold, filter, flat_map, AllByRecursion}
 use Rattle.std.proofs.lemmas.Bool.{or_from, ne_eqb}
-use Rattle.std.proofs.lemmas.Bool.Decides.{Decides-eqb}
 use Rattle.std.proofs.lemmas.List.Folds.{list_any-append}
 use Rattle.service_profile.specs.declared.standings.Standing.{Standing}
 use Rattle.service_profile.specs.declared.tickets.OpenTicket.{OpenTicket}
-use Rattle.service_profile.specs.Answers.{is_worn_out, is_some_open, reopened, cut}
+use Rattle.service_profile.specs.Answers.{cut}
 use Rattle.service_profile.specs.Events.{EntryData, Opening, History}
-use Rattle.service_profile.specs.Histories.{Stage, Past, end_by, end_at, issue_at, issued, ended, is_listed, opened, passed, past_of, situation_of, machine, Follows, AreLegal, IsLegal}
+use Rattle.service_profile.specs.Histories.{Stage, Past, end_by, end_at, issue_at, issued, ended, is_listed, opened, passed, past_of, machine, Follows, AreLegal, IsLegal}
 use Rattle.service_profile.specs.Machine.{is_open}
 use Rattle.book.specs.Sound.{next_ticket}
 use Rattle.book.proofs.Applying.{same_opening}
 use Rattle.book.proofs.Lists.{map_with, all_append, all_weaken}
 use Rattle.service_laws.specs.Promises.{NoneTwice, numbers_issued, AreCutInTurn}
 use Rattle.service_laws.proofs.Endings.{IsNext, issued_next, number_option, numbers_step, ends_of_open, end_once, given_once}
-use Rattle.service_laws.proofs.Orders.{reopened_is}
 
 -- ---- the tickets of an opening have the numbers from its first one to the next one
 
@@ -26,13 +24,8 @@ record AreWithin (past : Past) : Type 0 where
   pub issued : AllByRecursion (IsWithin past) (numbers_issued past.stages)
   pub ended : AllByRecursion (IsWithin past) (ended past.stages)
 
-same_case : (P : ℕ → Type 0) (same : Bool) (t : OpenTicket) (rest : List OpenTicket) (n : ℕ) → (t.number == n) ≡ same → P t.number → (is_open rest n ≡ true → P n) → (same || is_open rest n) ≡ true → P n
-same_case P true t rest n is here on e = subst P ((Decides-eqb t.number n).0 is) here
-same_case P false t rest n is here on e = on e
-
 kept_case : (P : ℕ → Type 0) (keeps : Bool) (t : OpenTicket) (rest : List OpenTicket) (n : ℕ) → P t.number → (is_open rest n ≡ true → P n) → is_open (if keeps then t ∷ rest else rest) n ≡ true → P n
-kept_case P true t rest n here on e = same_case P (t.number == n) t rest n refl here on e
-kept_case P false t rest n here on e = on e
+kept_case P keeps t rest n here on e = search rules
 
 -- what holds of all tickets holds of the open ones
 open_all : (P : ℕ → Type 0) (q : OpenTicket → Bool) (tickets : List OpenTicket) (n : ℕ) → AllByRecursion P (map (λ (t : OpenTicket). t.number) tickets) → is_open (filter q tickets) n ≡ true → P n
@@ -42,12 +35,10 @@ open_all P q (t ∷ tickets) n all e = kept_case P (q t) t (filter q tickets) n 
 issued_option : (past after : Past) (current : ℕ) (o : Option OpenTicket) → IsNext (next_ticket past) current o → past.opening.ticket ≡ after.opening.ticket → next_ticket past + length (option_to_list o) ≡ next_ticket after
     → AllByRecursion (IsWithin after) (option_to_list (number_option o))
 unfolding number_option
-issued_option past after current None is same e = tt
-issued_option past after current (Some t) is same e = ((omega (arith, is.number t refl, same), omega (arith, is.number t refl, e)), tt)
+issued_option past after current o is same e = search rules
 
 ended_option : (P : ℕ → Type 0) (o : Option ℕ) → ((n : ℕ) → o ≡ Some n → P n) → AllByRecursion P (option_to_list o)
-ended_option P None on = tt
-ended_option P (Some n) on = (on n refl, tt)
+ended_option P o on = search rules
 
 within_step : (past : Past) (line : EntryData) → Follows past line → AreWithin past → AreWithin (passed past line)
 within_step past line follows within =
@@ -87,9 +78,7 @@ apart (x ∷ xs) ys bound once too below from =
 
 -- the first ticket of the next opening
 goes_on : (before next : History) → cut (past_of before) ≡ Ok next.opening → next.opening.ticket ≡ next_ticket (past_of before)
-goes_on before next e =
-    let past : Past = past_of before in
-    ap (λ (o : Opening). o.ticket) (sym (reopened_is (is_worn_out past) (is_some_open (situation_of past).open_tickets) (reopened past) next.opening e))
+goes_on before next e = search rules
 
 module _ (f : History → List ℕ) (once : (history : History) → IsLegal history → NoneTwice (f history)) (within : (history : History) → IsLegal history → AllByRecursion (IsWithin (past_of history)) (f history)) where
   abbrev IsInTurn : History → List ℕ → Type 0

@@ -3,7 +3,7 @@ use Rattle.std.specs.Prelude.{◌≡◌, ℕ, ◌-◌, ◌*◌, ◌≤◌, ◌<�
 use Rattle.std.specs.List.{filter, flat_map}
 use Rattle.bpf_profile.specs.declared.machine.Verdict.{Verdict}
 use Rattle.bpf_profile.specs.JudgedWork.{JudgedData}
-use Rattle.bpf_profile.specs.Limits.{context_size}
+use Rattle.bpf_profile.specs.Layouts.{context_size}
 use Rattle.bpf_profile.specs.Meaning.{Judges}
 use Rattle.bpf_profile.specs.Outcomes.{Outcome}
 use Rattle.bpf_profile.specs.Programs.{VerifiedProgram}
@@ -99,7 +99,7 @@ pub record AreOfTheTicket (history : History) (place ticket : ℕ) (outcome : Ou
   -- it was the version of the newest program before that line
   pub named : program_from history.opening.version (programs_of (past_of (first_lines issuing history))) version ≡ Some (newest_before issuing history)
   -- this program says so of the outcome
-  pub judged : Judges context_size (newest_before issuing history).slots outcome v steps
+  pub judged : Judges (context_size (newest_before issuing history).layout) (newest_before issuing history).slots outcome v steps
 
 -- ---- a longest stay in HALF_OPEN
 

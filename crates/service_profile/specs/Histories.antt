@@ -86,7 +86,7 @@ refused_of past = refused_in past.standing.period past.stages
 -- ---- versions
 
 abbrev pub install_by : EventData → Reply → Option VerifiedProgram
-install_by (installs program) (reply.Installed version budget) = Some program
+install_by (installs program) (reply.Installed version budget layout) = Some program
 install_by event reply = None
 
 abbrev pub install_at : Stage → Option VerifiedProgram

@@ -2,6 +2,7 @@
 use Rattle.std.specs.Prelude.{ℕ, suc, ◌+◌, ◌-◌, ◌==◌, nat_le, nat_lt, ◌&&◌, not, Bool, true, false, if◌then◌else◌, List, [], ◌∷◌, ◌++◌, length, slice_get, Option, Some, None}
 use Rattle.std.specs.Str.{bytes_eq}
 use Rattle.std.specs.List.{filter, find, list_any, flat_map}
+use Rattle.bpf_profile.specs.Layouts.{number_of}
 use Rattle.bpf_profile.specs.declared.machine.Verdict.{Verdict}
 use Rattle.bpf_profile.specs.declared.machine.Verdict.TheVariants as verdict
 use Rattle.bpf_profile.specs.Outcomes.{Outcome, duration_of}
@@ -130,9 +131,9 @@ program_from first programs version = if nat_le first version then slice_get pro
 abbrev pub bytes_of : VerifiedProgram → List ℕ
 bytes_of program = flat_map slot_bytes program.slots
 
--- two programs are one where their bytes are the same
+-- two programs are one where their bytes and their layouts are the same
 abbrev pub same_program : VerifiedProgram → VerifiedProgram → Bool
-same_program a b = bytes_eq (bytes_of a) (bytes_of b)
+same_program a b = bytes_eq (bytes_of a) (bytes_of b) && (number_of a.layout == number_of b.layout)
 
 -- ---- how work is judged
 
@@ -226,7 +227,7 @@ abbrev pub installed : Situation → VerifiedProgram → Decision
 installed s program =
     if nat_le most_versions (length s.programs - s.dropped)
     then refused s.standing refusal.VersionsFull
-    else record { reply = reply.Installed (s.first_version + length s.programs) program.budget; next = s.standing }
+    else record { reply = reply.Installed (s.first_version + length s.programs) program.budget program.layout; next = s.standing }
 
 abbrev pub moved_to : Situation → ℕ → State → Decision
 moved_to s moment state = record { reply = reply.Moved state (suc s.standing.period); next = moved state moment s.standing }

@@ -1,7 +1,7 @@
 -- What it means that a verdict is the meaning's for the version that its ticket names.
 use Rattle.std.specs.Prelude.{◌≡◌, ℕ, List, Contains, Some}
 use Rattle.bpf_profile.specs.declared.machine.Verdict.{Verdict}
-use Rattle.bpf_profile.specs.Limits.{context_size}
+use Rattle.bpf_profile.specs.Layouts.{context_size}
 use Rattle.bpf_profile.specs.JudgedWork.{JudgedData}
 use Rattle.bpf_profile.specs.Meaning.{Judges}
 use Rattle.bpf_profile.specs.Programs.{VerifiedProgram}
@@ -20,7 +20,7 @@ pub record IsMeant (first : ℕ) (programs : List VerifiedProgram) (tickets : Li
   pub of_version : issued.version ≡ version
   pub program : VerifiedProgram
   pub held : program_from first programs version ≡ Some program
-  pub meant : Judges context_size program.slots work.outcome v steps
+  pub meant : Judges (context_size program.layout) program.slots work.outcome v steps
 
 abbrev pub IsMeantLine : ℕ → List VerifiedProgram → List OpenTicket → EntryData → Type 0
 IsMeantLine first programs tickets line =

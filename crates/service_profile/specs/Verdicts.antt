@@ -5,7 +5,7 @@ use Rattle.bpf_profile.specs.declared.machine.TrapReason.{TrapReason}
 use Rattle.bpf_profile.specs.declared.machine.Verdict.{Verdict}
 use Rattle.bpf_profile.specs.declared.machine.Verdict.TheVariants as verdict
 use Rattle.bpf_profile.specs.declared.slot.Slot.{Slot}
-use Rattle.bpf_profile.specs.Limits.{context_size}
+use Rattle.bpf_profile.specs.Layouts.{context_size}
 use Rattle.bpf_profile.specs.Machine.{State, Effect, goes, answers}
 use Rattle.bpf_profile.specs.Meaning.{step, entry}
 use Rattle.bpf_profile.specs.Outcomes.{Outcome}
@@ -27,10 +27,10 @@ ending_of on (Ok (goes state)) = one_later (on state)
 ending_of on (Ok (answers answer)) = Some (record { answer = answer; steps = 1 })
 ending_of on (Err reason) = None
 
--- the answer among the next steps, so many; none where the program traps or goes on
-unfoldable pub ending_within : List Slot → Outcome → ℕ → State → Option Ending
-ending_within slots outcome zero state = None
-ending_within slots outcome (suc left) state = ending_of (λ next. ending_within slots outcome left next) (step context_size slots outcome state)
+-- the answer among the next steps, so many, where the context has this size; none where the program traps or goes on
+unfoldable pub ending_within : ℕ → List Slot → Outcome → ℕ → State → Option Ending
+ending_within size slots outcome zero state = None
+ending_within size slots outcome (suc left) state = ending_of (λ next. ending_within size slots outcome left next) (step size slots outcome state)
 
 abbrev pub verdict_of : ℕ → Verdict
 verdict_of answer = if answer == 0 then verdict.Success else (if answer == 1 then verdict.Failure else verdict.Ignored)
@@ -40,4 +40,4 @@ judged_as ending = record { verdict = verdict_of ending.answer; steps = ending.s
 
 -- a verified program has an answer within its budget on every outcome, so that the last case never comes
 unfoldable pub judgement : VerifiedProgram → Outcome → Judgement
-judgement program outcome = option_map_or judged_as (ending_within program.slots outcome program.budget entry) (record { verdict = verdict.Ignored; steps = 0 })
+judgement program outcome = option_map_or judged_as (ending_within (context_size program.layout) program.slots outcome program.budget entry) (record { verdict = verdict.Ignored; steps = 0 })

@@ -1,7 +1,7 @@
 //! What a book answers.
 
 use crate::states::State;
-use bpf_profile::Verdict;
+use bpf_profile::{Layout, Verdict};
 use refusals::RefusalNumber;
 
 /// What became of a verdict.
@@ -41,10 +41,11 @@ pub enum Reply {
     Released {
         state: State,
     },
-    /// A program got a version.
+    /// A program got a version. Budget and layout are its.
     Installed {
         version: u64,
         budget: u32,
+        layout: Layout,
     },
     /// The breaker was moved.
     Moved {

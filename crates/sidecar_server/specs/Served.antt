@@ -5,7 +5,8 @@ use Rattle.std.specs.Global.{Global}
 use Rattle.service_profile.specs.declared.configuration.Config.{Config}
 use Rattle.verifier.specs.declared.verified.Verified.{Verified}
 use Rattle.service_profile.specs.Events.{History}
-use Rattle.desk.specs.Kept.{IsGood, AreOfSome, last_number}
+use Rattle.book.specs.Good.{IsGood}
+use Rattle.desk.specs.Kept.{AreOfSome, last_number}
 use Rattle.desk.specs.Seats.{SeatData, seat_of}
 use Rattle.desk.specs.Services.{ServiceData, service_of}
 use Rattle.http_desk.specs.Seated.{SeatedData, seated}

@@ -1,6 +1,6 @@
 //! Loads and stores (RFC 9669, section 5).
 ghost use Rattle.std.specs.Prelude.{◌≡◌, ◌+◌, ◌%◌, ◌≤◌, Ok, Err, IfOk, IfErr, OnOk, OnErr};
-ghost use Rattle.bpf_profile.specs.Limits.{stack_size, context_size};
+ghost use Rattle.bpf_profile.specs.Limits.{stack_size};
 ghost use Rattle.bpf_profile.specs.Words.{bytes_in};
 ghost use Rattle.stack_track.specs.Accesses.{any_loaded, zeros_of, load_context, stack_place, whole_cell, part_of_cell, load_cell, load_stack, load_at, stored_cell, store_stack, store_at};
 

@@ -4,6 +4,7 @@ ghost use Rattle.std.specs.Prelude.{◌<◌};
 use crate::checks::{is_true, same_at};
 use crate::programs::classifier_bytes;
 use crate::told::outcome_of;
+use bpf_profile::Layout;
 use bpf_run::{Verdict, run};
 use bpf_slow::{End, trace};
 use helpers::Record;
@@ -22,12 +23,18 @@ fn answer(verdict: Verdict) -> u64 {
 
 /// Whether a program is accepted. If it is, both machines end alike on these records.
 fn both_end_alike(rt: &impl Abort, alloc: Global, bytes: &[u8], records: &[Record]) -> bool {
-    let Ok(program) = verify(alloc, bytes) else {
+    let Ok(program) = verify(alloc, bytes, Layout::One) else {
         return false;
     };
     for record in records {
         let (verdict, steps) = run(&program, record);
-        let end = trace(alloc, program.program(), record, program.budget());
+        let end = trace(
+            alloc,
+            program.program(),
+            record,
+            Layout::One,
+            program.budget(),
+        );
         let end = end.expect(rt, "ample memory");
         same_at(rt, end, End::Done(answer(verdict), steps), &bytes);
     }
@@ -36,7 +43,7 @@ fn both_end_alike(rt: &impl Abort, alloc: Global, bytes: &[u8], records: &[Recor
 
 /// The slot and the number of a refusal; None for a program that is accepted.
 fn refusal_of(alloc: Global, bytes: &[u8]) -> Option<(u32, u8)> {
-    match verify(alloc, bytes) {
+    match verify(alloc, bytes, Layout::One) {
         Ok(_) => None,
         Err(refusal) => Some((refusal.slot, refusal.number.number())),
     }

@@ -18,7 +18,7 @@ fn outcome(rt: &impl Abort, tag: &[u8]) -> Record {
     }
     let mut facts = [0; 16];
     facts[15] = 0xfedcba9876543210;
-    Record::from_parts(context, facts, tag).expect(rt, "a short tag")
+    Record::from_layout1(context, facts, tag).expect(rt, "a short tag")
 }
 
 /// Marks the bytes 248 to 225 before the stack's end, and puts a number into R3: five instructions.

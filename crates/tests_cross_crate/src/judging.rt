@@ -1,6 +1,7 @@
 //! Verdicts and steps of programs on outcomes.
 use crate::checks::{same, same_at, same_at_slot};
 use crate::programs::bytes_of_slots;
+use bpf_profile::Layout;
 use bpf_run::{Verdict, judge, run};
 use helpers::Record;
 use std::alloc::Global;
@@ -15,13 +16,13 @@ fn outcome(rt: &impl Abort, kind: u8, status: u16) -> Record {
     let [low, high] = status.to_le_bytes();
     context[4] = low;
     context[5] = high;
-    Record::from_parts(context, [0; 16], &[]).expect(rt, "an empty tag")
+    Record::from_layout1(context, [0; 16], &[]).expect(rt, "an empty tag")
 }
 
 /// The program of these slots, which is accepted.
 fn verified(rt: &impl Abort, alloc: Global, slots: &[u64]) -> Verified {
     let bytes = bytes_of_slots(rt, alloc, slots);
-    verify(alloc, &bytes).expect(rt, "a program that is accepted")
+    verify(alloc, &bytes, Layout::One).expect(rt, "a program that is accepted")
 }
 
 /// The kind of an outcome, its status, and the verdict and the steps.
@@ -117,7 +118,7 @@ fn longest(rt: &impl Abort, alloc: Global) -> Vec<u8> {
 #[test]
 fn the_longest_program_runs(rt: HostRuntime) {
     let bytes = longest(&rt, rt.alloc());
-    let program = verify(rt.alloc(), &bytes).expect(&rt, "4,096 slots");
+    let program = verify(rt.alloc(), &bytes, Layout::One).expect(&rt, "4,096 slots");
     same(&rt, program.budget(), 4096);
     are_judged(&rt, &program, &[(0, 0, Verdict::Success, 4096)]);
 }

@@ -35,6 +35,8 @@ mod instructions;
 #[cfg(test)]
 mod judging;
 #[cfg(test)]
+mod layouts;
+#[cfg(test)]
 mod loads;
 #[cfg(test)]
 mod memory;

@@ -2,6 +2,7 @@
 use crate::checks::same_at;
 use crate::programs::{answered, ends, patterned};
 use crate::told::assembled;
+use bpf_profile::Layout;
 use helpers::Record;
 use std::alloc::Global;
 use std::process::Abort;
@@ -17,7 +18,7 @@ fn both_answer(
     steps: u32,
 ) {
     let program = assembled(rt, alloc, text);
-    let found = ends(rt, alloc, &program, outcome, steps);
+    let found = ends(rt, alloc, &program, Layout::One, outcome, steps);
     same_at(rt, found, answered(answer, steps), &text);
 }
 
@@ -118,7 +119,7 @@ fn of_helpers(rt: &impl Abort) -> Record {
     context[69] = 249;
     let mut facts = [0u64; 16];
     facts[15] = 0xffff_ffff_ffff_fffe;
-    Record::from_parts(context, facts, b"pay").expect(rt, "a short tag")
+    Record::from_layout1(context, facts, b"pay").expect(rt, "a short tag")
 }
 
 #[test]

@@ -1,5 +1,6 @@
 //! Programs whose answer shows what an instruction computes, run by both machines.
 use crate::checks::same_at;
+use bpf_profile::Layout;
 use bpf_run::{Verdict, run};
 use bpf_slow::{End, trace};
 use helpers::Record;
@@ -72,9 +73,9 @@ pub(crate) fn classifier_bytes(rt: &impl Abort, alloc: Global) -> [u8; 64] {
 
 /// An outcome whose context has the bytes 0, 37, 74 and so on, of which half have their highest bit.
 pub(crate) fn patterned(rt: &impl Abort) -> Record {
-    let mut context = [0u8; 128];
+    let mut context = [0u8; 192];
     let mut byte = 0u8;
-    for i in 0..128 {
+    for i in 0..192 {
         context[i] = byte;
         byte = byte.wrapping_add(37);
     }
@@ -84,17 +85,18 @@ pub(crate) fn patterned(rt: &impl Abort) -> Record {
 /// How the two machines end: the verdict and the steps of the fast one, and the end of the plain one.
 pub(crate) type Ends = ((Verdict, u32), End);
 
-/// How both machines end a program, the plain one within so many instructions.
+/// How both machines end a program on records of this layout, the plain one within so many instructions.
 pub(crate) fn ends(
     rt: &impl Abort,
     alloc: Global,
     bytes: &[u8],
+    layout: Layout,
     outcome: &Record,
     limit: u32,
 ) -> Ends {
-    let program = verify(alloc, bytes).expect(rt, "a program that is accepted");
-    let end = trace(alloc, program.program(), outcome, limit).expect(rt, "ample memory");
-    (run(&program, outcome), end)
+    let program = verify(alloc, bytes, layout).expect(rt, "a program that is accepted");
+    let end = trace(alloc, program.program(), outcome, layout, limit);
+    (run(&program, outcome), end.expect(rt, "ample memory"))
 }
 
 /// Ends with this answer, 0 or 1, after so many instructions.
@@ -106,7 +108,22 @@ pub(crate) fn answered(answer: bool, steps: u32) -> Ends {
     }
 }
 
-/// Checks that both machines end a program with this answer, 0 or 1, after so many instructions.
+/// Checks that both machines end a program on records of this layout with this answer, 0 or 1, after so many
+/// instructions.
+pub(crate) fn both_end_in(
+    rt: &impl Abort,
+    alloc: Global,
+    bytes: &[u8],
+    layout: Layout,
+    outcome: &Record,
+    answer: bool,
+    steps: u32,
+) {
+    let found = ends(rt, alloc, bytes, layout, outcome, steps);
+    same_at(rt, found, answered(answer, steps), &bytes);
+}
+
+/// The same for a program that sees a context of layout 1.
 pub(crate) fn both_end(
     rt: &impl Abort,
     alloc: Global,
@@ -115,8 +132,7 @@ pub(crate) fn both_end(
     answer: bool,
     steps: u32,
 ) {
-    let found = ends(rt, alloc, bytes, outcome, steps);
-    same_at(rt, found, answered(answer, steps), &bytes);
+    both_end_in(rt, alloc, bytes, Layout::One, outcome, answer, steps);
 }
 
 /// `mov r0, 0`, `exit`, `mov r0, 1`, `exit`.
@@ -131,8 +147,25 @@ fn compared(rt: &impl Abort, alloc: Global, first: &[u8], word: u64) -> Vec<u8> 
     joined(rt, alloc, &[first, &wide(3, word), &compare, &ANSWERS])
 }
 
-/// Checks that in both machines R1 is this word after the first slots, which take so many instructions,
-/// and no other one.
+/// Checks that in both machines, on records of this layout, R1 is this word after the first slots, which take
+/// so many instructions, and no other one.
+pub(crate) fn both_give_in(
+    rt: &impl Abort,
+    alloc: Global,
+    first: &[u8],
+    steps: u8,
+    layout: Layout,
+    outcome: &Record,
+    word: u64,
+) {
+    let steps = u32::from(steps) + 4;
+    let same = compared(rt, alloc, first, word);
+    both_end_in(rt, alloc, &same, layout, outcome, true, steps);
+    let other = compared(rt, alloc, first, word ^ 1);
+    both_end_in(rt, alloc, &other, layout, outcome, false, steps);
+}
+
+/// The same for a program that sees a context of layout 1.
 pub(crate) fn both_give(
     rt: &impl Abort,
     alloc: Global,
@@ -141,9 +174,5 @@ pub(crate) fn both_give(
     outcome: &Record,
     word: u64,
 ) {
-    let steps = u32::from(steps) + 4;
-    let same = compared(rt, alloc, first, word);
-    both_end(rt, alloc, &same, outcome, true, steps);
-    let other = compared(rt, alloc, first, word ^ 1);
-    both_end(rt, alloc, &other, outcome, false, steps);
+    both_give_in(rt, alloc, first, steps, Layout::One, outcome, word);
 }

@@ -2,6 +2,7 @@
 use crate::checks::same;
 use crate::programs::{patterned, slot};
 use bpf_decode::Program;
+use bpf_profile::Layout;
 use bpf_run::{Verdict, run};
 use bpf_slow::{End, TrapReason, trace};
 use flow_check::check;
@@ -40,7 +41,7 @@ fn in_plain_machine(
 ) -> (usize, u32, End) {
     let program = Program::decode(alloc, bytes).expect(rt, "slots of the profile");
     let flow = check(alloc, &program).expect(rt, "a straight program");
-    let end = trace(alloc, &program, outcome, limit).expect(rt, "ample memory");
+    let end = trace(alloc, &program, outcome, Layout::One, limit).expect(rt, "ample memory");
     (program.len(), flow.budget(), end)
 }
 
@@ -51,7 +52,7 @@ fn in_fast_machine(
     bytes: &[u8],
     outcome: &Record,
 ) -> (u32, (Verdict, u32)) {
-    let program = verify(alloc, bytes).expect(rt, "a program that is accepted");
+    let program = verify(alloc, bytes, Layout::One).expect(rt, "a program that is accepted");
     (program.budget(), run(&program, outcome))
 }
 
@@ -83,5 +84,5 @@ fn one_slot_is_taken(rt: HostRuntime) {
         slot: 0,
         number: RefusalNumber::UnsetRegister,
     };
-    same(&rt, verify(alloc, &bytes).err(), Some(refusal));
+    same(&rt, verify(alloc, &bytes, Layout::One).err(), Some(refusal));
 }

@@ -1,6 +1,7 @@
 //! What becomes of programs, as lines of text: tables of tests are short so.
 use crate::checks::same_at;
 use bpf_asm::{AsmError, assemble};
+use bpf_profile::Layout;
 use bpf_run::{Verdict, run};
 use helpers::Record;
 use serde_json::Value;
@@ -49,7 +50,7 @@ fn accepted(alloc: Global, program: &Verified) -> Result<String, AllocError> {
 
 /// The line of a program that is to be verified: its budget and its slots, or why it is refused.
 fn verified(rt: &impl Abort, alloc: Global, bytes: &[u8]) -> String {
-    let line = match verify(alloc, bytes) {
+    let line = match verify(alloc, bytes, Layout::One) {
         Ok(program) => accepted(alloc, &program),
         Err(refusal) => refused(alloc, refusal),
     };
@@ -93,7 +94,7 @@ fn verdict_line(alloc: Global, verdict: (Verdict, u32), budget: u32) -> Result<S
 
 /// The line of a record that an accepted program judges: the verdict, the steps and the budget.
 fn judged_record(rt: &impl Abort, alloc: Global, bytes: &[u8], record: &Record) -> String {
-    let program = verify(alloc, bytes).expect(rt, "a program that is accepted");
+    let program = verify(alloc, bytes, Layout::One).expect(rt, "a program that is accepted");
     let line = verdict_line(alloc, run(&program, record), program.budget());
     line.expect(rt, "ample memory")
 }

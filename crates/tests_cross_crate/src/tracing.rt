@@ -3,7 +3,7 @@
 use crate::checks::{same, same_at, same_at_slot};
 use crate::programs::bytes_of_slots;
 use bpf_decode::Program;
-use bpf_profile::TrapReason;
+use bpf_profile::{Layout, TrapReason};
 use bpf_slow::{End, trace};
 use helpers::Record;
 use std::alloc::Global;
@@ -51,12 +51,12 @@ const TAG_IS_COMPARED: [u64; 5] = [
 fn outcome_of_kind(rt: &impl Abort, kind: u8) -> Record {
     let mut context = [0u8; 128];
     context[0] = kind;
-    Record::from_parts(context, [0; 16], &[]).expect(rt, "an empty tag")
+    Record::from_layout1(context, [0; 16], &[]).expect(rt, "an empty tag")
 }
 
 /// The record of an outcome with a tag.
 fn outcome_with_tag(rt: &impl Abort, tag: &[u8]) -> Record {
-    Record::from_parts([0; 128], [0; 16], tag).expect(rt, "a short tag")
+    Record::from_layout1([0; 128], [0; 16], tag).expect(rt, "a short tag")
 }
 
 /// How a program of these slots, one part behind the other, ends within so many instructions.
@@ -67,7 +67,7 @@ fn end(rt: &impl Abort, alloc: Global, parts: &[&[u64]], outcome: &Record, limit
     }
     let bytes = bytes_of_slots(rt, alloc, &slots);
     let program = Program::decode(alloc, &bytes).expect(rt, "slots of the profile");
-    trace(alloc, &program, outcome, limit).expect(rt, "ample memory")
+    trace(alloc, &program, outcome, Layout::One, limit).expect(rt, "ample memory")
 }
 
 /// Checks that R1 and R2 are the same number after the first slots, and that the program has no step less.
@@ -451,7 +451,7 @@ fn wrong_pointers_trap(rt: HostRuntime) {
 fn facts_are_numbered(rt: HostRuntime) {
     let mut facts = [0; 16];
     facts[3] = 7;
-    let outcome = Record::from_parts([0; 128], facts, &[]).expect(&rt, "an empty tag");
+    let outcome = Record::from_layout1([0; 128], facts, &[]).expect(&rt, "an empty tag");
     are_ended(
         &rt,
         rt.alloc(),
@@ -479,7 +479,7 @@ fn facts_are_numbered(rt: HostRuntime) {
 fn the_front_of_the_body_is_read(rt: HostRuntime) {
     let mut context = [0u8; 128];
     context[66] = 2;
-    let outcome = Record::from_parts(context, [0; 16], &[]).expect(&rt, "an empty tag");
+    let outcome = Record::from_layout1(context, [0; 16], &[]).expect(&rt, "an empty tag");
     end_so(
         &rt,
         rt.alloc(),

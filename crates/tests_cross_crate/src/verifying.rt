@@ -6,7 +6,7 @@ use crate::programs::bytes_of_slots;
 use abs_domain::Flat;
 use abs_regs::AbsVal;
 use bpf_decode::Program;
-use bpf_profile::Register;
+use bpf_profile::{Layout, Register};
 use flow_check::check;
 use refusals::RefusalNumber;
 use std::alloc::{AllocError, Global};
@@ -15,7 +15,7 @@ use verifier::{Refusal, Verified, analyse, default_classifier, verify};
 
 /// The number and the slot of the refusal of a program; none for one that is accepted.
 fn refusal_of(rt: &impl Abort, alloc: Global, slots: &[u64]) -> Option<(RefusalNumber, u32)> {
-    match verify(alloc, &bytes_of_slots(rt, alloc, slots)) {
+    match verify(alloc, &bytes_of_slots(rt, alloc, slots), Layout::One) {
         Ok(_) => None,
         Err(Refusal { slot, number }) => Some((number, slot)),
     }
@@ -30,7 +30,7 @@ fn is_refused(rt: &impl Abort, alloc: Global, slots: &[u64], number: RefusalNumb
 /// The program of these slots, which is accepted.
 fn verified(rt: &impl Abort, alloc: Global, slots: &[u64]) -> Verified {
     let bytes = bytes_of_slots(rt, alloc, slots);
-    verify(alloc, &bytes).expect(rt, "a program that is accepted")
+    verify(alloc, &bytes, Layout::One).expect(rt, "a program that is accepted")
 }
 
 const EXIT: u64 = 0x9500000000000000;
@@ -258,7 +258,7 @@ type Known = (usize, u8, AbsVal<Flat>);
 fn are_known(rt: &impl Abort, alloc: Global, slots: &[u64], tail: usize, rows: &[Known]) {
     let program = decoded(rt, alloc, slots);
     let flow = check(alloc, &program).expect(rt, "a straight program");
-    let states = analyse::<Flat>(alloc, &program, &flow).expect(rt, "an answer of 2");
+    let states = analyse::<Flat>(alloc, &program, &flow, Layout::One).expect(rt, "an answer of 2");
     for row in rows {
         let (slot, register, value) = *row;
         assert!(rt; register < 11);
@@ -303,7 +303,7 @@ fn refusal_over_words(
     program: &Program,
 ) -> Option<(RefusalNumber, u32)> {
     let flow = check(alloc, program).expect(rt, "forward jumps");
-    match analyse::<Flat>(alloc, program, &flow) {
+    match analyse::<Flat>(alloc, program, &flow, Layout::One) {
         Ok(_) => None,
         Err(Refusal { slot, number }) => Some((number, slot)),
     }

@@ -2,7 +2,7 @@
 use crate::checks::{same, same_at};
 use answers::{body, status};
 use book::{Book, Config, ConfigParts, Event, Fate, Reading, Reply, State};
-use bpf_profile::Verdict;
+use bpf_profile::{Layout, Verdict};
 use bpf_run::judge;
 use helpers::Record;
 use refusals::RefusalNumber;
@@ -112,9 +112,19 @@ fn replies_are_written(rt: HostRuntime) {
                 Reply::Installed {
                     version: 2,
                     budget: 2,
+                    layout: Layout::One,
                 },
                 200,
                 "{\"budget\":2,\"version\":2}",
+            ),
+            (
+                Reply::Installed {
+                    version: 3,
+                    budget: 4,
+                    layout: Layout::Two,
+                },
+                200,
+                "{\"budget\":4,\"layout\":2,\"version\":3}",
             ),
             (
                 Reply::Moved {
@@ -223,7 +233,7 @@ fn apply(book: &mut Book, seat: u32, moment: u64, event: Event) {
 /// The end of a ticket with the outcome of a call that was answered.
 fn finish(rt: &impl Abort, book: &Book, ticket: u64) -> Event {
     let program = book.look(ticket).expect(rt, "an open ticket");
-    let outcome = Record::from_parts([0; 128], [0; 16], &[]).expect(rt, "an empty tag");
+    let outcome = Record::from_parts([0; 192], [0; 16], &[]).expect(rt, "an empty tag");
     Event::Finish(judge(program, outcome), ticket)
 }
 

@@ -1,7 +1,7 @@
 //! That each request is answered with ample memory, and that a report passes its gate once.
 use crate::checks::{is_true, same};
 use book::{Book, Config, ConfigParts, Fate, Reply, State};
-use bpf_profile::Verdict;
+use bpf_profile::{Layout, Verdict};
 use helpers::Record;
 use refusals::RefusalNumber;
 use service::{Gate, ONLY_SEAT, OpenGate, Report, Request, Response, ask};
@@ -35,12 +35,16 @@ fn is_replied(rt: &impl Abort, alloc: Global, book: &mut Book, request: Request,
 
 /// An install of the program of these bytes.
 fn install(rt: &impl Abort, alloc: Global, bytes: &[u8]) -> Request {
-    Request::Install(Vec::from_slice(alloc, bytes).expect(rt, "ample memory"))
+    let program = Vec::from_slice(alloc, bytes).expect(rt, "ample memory");
+    Request::Install {
+        program,
+        layout: Layout::One,
+    }
 }
 
 /// A report of the outcome of a call that was answered.
 fn report(rt: &impl Abort, ticket: u64) -> Request {
-    let outcome = Record::from_parts([0; 128], [0; 16], &[]).expect(rt, "an empty tag");
+    let outcome = Record::from_parts([0; 192], [0; 16], &[]).expect(rt, "an empty tag");
     Request::Report(Report { ticket, outcome })
 }
 
@@ -58,6 +62,7 @@ fn events_are_replied_to(rt: HostRuntime) {
     let installed = Reply::Installed {
         version: 2,
         budget: 2,
+        layout: Layout::One,
     };
     let request = install(&rt, alloc, &IGNORING);
     is_replied(&rt, alloc, &mut book, request, installed);

@@ -11,11 +11,15 @@ mod checks;
 #[cfg(test)]
 mod inputs;
 #[cfg(test)]
+mod json_layouts;
+#[cfg(test)]
 mod json_requests;
 #[cfg(test)]
 mod longest_stays;
 #[cfg(test)]
 mod replayed_events;
+#[cfg(test)]
+mod replayed_layouts;
 #[cfg(test)]
 mod replayed_reads;
 #[cfg(test)]

@@ -5,6 +5,7 @@ use crate::checks::{is_true, same};
 use crate::fixtures::pay;
 use answers::body;
 use book::State;
+use bpf_profile::Layout;
 use helpers::Record;
 use http_front::{Answerer, Books};
 use service::{Report, Response};
@@ -29,7 +30,7 @@ fn place_of_pay(rt: &impl Abort, books: &Books) -> usize
 
 /// A report of the outcome of a call that was answered.
 fn report(rt: &impl Abort, ticket: u64) -> Report {
-    let outcome = Record::from_parts([0; 128], [0; 16], &[]).expect(rt, "an empty tag");
+    let outcome = Record::from_parts([0; 192], [0; 16], &[]).expect(rt, "an empty tag");
     Report { ticket, outcome }
 }
 
@@ -46,7 +47,7 @@ fn routes_ask_what_they_say(rt: HostRuntime) {
         "{\"state\":\"CLOSED\",\"ticket\":1,\"version\":1}",
     );
     let bytes = Vec::from_slice(alloc, &IGNORING).expect(&rt, "ample memory");
-    let installed = books.install(place_of_pay(&rt, &books), 7, bytes);
+    let installed = books.install(place_of_pay(&rt, &books), 7, bytes, Layout::One);
     is_body(&rt, alloc, installed, "{\"budget\":2,\"version\":2}");
     let reported = books.report(place_of_pay(&rt, &books), 7, report(&rt, 1));
     let recorded =

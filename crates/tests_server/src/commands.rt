@@ -322,10 +322,13 @@ fn input_is_read_once(rt: HostRuntime) {
         &[
             (&["judge", FAILURE], "{}", 3),
             (&["judge", FAILURE], "", 1),
+            (&["judge", FAILURE, "2"], "{}", 3),
+            (&["judge", FAILURE, "3"], "{}", 0),
             (&["judge", "9g"], "{}", 0),
             (&["asm"], "exit\n", 6),
             (&["asm"], "", 1),
             (&["verify", FAILURE], "{}", 0),
+            (&["verify", FAILURE, "2"], "{}", 0),
             (&["dis", FAILURE], "{}", 0),
             (&["judge"], "{}", 0),
             (&["replay"], "{}\n", 4),

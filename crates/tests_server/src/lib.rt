@@ -15,17 +15,23 @@ mod commands;
 #[cfg(test)]
 mod failing_connections;
 #[cfg(test)]
+mod file_layouts;
+#[cfg(test)]
 mod fixtures;
 #[cfg(test)]
 mod heads;
 #[cfg(test)]
 mod hostile_messages;
 #[cfg(test)]
+mod layout_words;
+#[cfg(test)]
 mod longest_stays;
 #[cfg(test)]
 mod many_workers;
 #[cfg(test)]
 mod pools;
+#[cfg(test)]
+mod query_layouts;
 #[cfg(test)]
 mod racing_workers;
 #[cfg(test)]

@@ -8,7 +8,7 @@ use service::Request;
 use std::alloc::Global;
 use std::process::Abort;
 
-/// What is asked for, with ample memory.
+/// What is asked for where there is no query, with ample memory.
 fn asked(
     rt: &impl Abort,
     alloc: Global,
@@ -16,7 +16,7 @@ fn asked(
     number: Option<&str>,
     body: &[u8],
 ) -> Result<Request, RefusalNumber> {
-    body_asks(alloc, route, number, body).expect(rt, "ample memory")
+    body_asks(alloc, route, number, b"", body).expect(rt, "ample memory")
 }
 
 /// Whether a request is the one of a route that needs no body; that for a page is of page 7.
@@ -57,7 +57,7 @@ fn other_routes_ignore_their_body(rt: HostRuntime) {
 fn are_programs(rt: &impl Abort, alloc: Global, bodies: &[&[u8]]) {
     for body in bodies {
         match asked(rt, alloc, Route::Program, None, body) {
-            Ok(Request::Install(bytes)) => same(rt, bytes.as_slice(), *body),
+            Ok(Request::Install { program, .. }) => same(rt, program.as_slice(), *body),
             _ => is_true_at(rt, false, body),
         }
     }

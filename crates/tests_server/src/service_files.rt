@@ -8,7 +8,7 @@ use std::process::Abort;
 use texts::json;
 
 /// Reads a file's text. A mistake is found in it exactly where it can't be used.
-fn read(rt: &impl Abort, alloc: Global, text: &str) -> Option<Settings> {
+pub(crate) fn read(rt: &impl Abort, alloc: Global, text: &str) -> Option<Settings> {
     let settings = read_settings(alloc, text.as_bytes()).expect(rt, "ample memory");
     let mistake = file_mistake(alloc, text.as_bytes()).expect(rt, "ample memory");
     is_true_at(rt, mistake.is_some() == settings.is_none(), text);

@@ -23,6 +23,8 @@ mod gates;
 #[cfg(test)]
 mod histories;
 #[cfg(test)]
+mod layouts;
+#[cfg(test)]
 mod registries;
 #[cfg(test)]
 mod rolls;

@@ -2,6 +2,7 @@
 ghost use Rattle.std.specs.Prelude.{◌≤◌};
 
 use crate::checks::same_at;
+use bpf_profile::Layout;
 use refusals::RefusalNumber;
 use registry::Registry;
 use service_profile::OpenTicket;
@@ -64,7 +65,7 @@ fn shared(rt: &impl Abort, alloc: Global, program: Program) -> Arc<Verified> {
 /// The program that answers a constant.
 fn constant(rt: &impl Abort, alloc: Global, answer: u8) -> Verified {
     let bytes = [0xb7, 0, 0, 0, answer, 0, 0, 0, 0x95, 0, 0, 0, 0, 0, 0, 0];
-    verify(alloc, &bytes).expect(rt, "a constant answer")
+    verify(alloc, &bytes, Layout::One).expect(rt, "a constant answer")
 }
 
 /// A registry that holds the default classifier as version 1.

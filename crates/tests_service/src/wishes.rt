@@ -1,5 +1,6 @@
 //! What the tests ask of a service, and what it answers, as plain data: rows of constants stand for histories.
 use book::{Entry, Event, Fate, Reading, Reply, State};
+use bpf_profile::Layout;
 use bpf_run::Verdict;
 use helpers::Record;
 use refusals::RefusalNumber;
@@ -85,7 +86,11 @@ pub(crate) fn reply(answer: Answer) -> Reply {
             judged(version, Fate::Ignored, Verdict::Ignored, 2, state)
         }
         Answer::Released(state) => Reply::Released { state },
-        Answer::Installed(version, budget) => Reply::Installed { version, budget },
+        Answer::Installed(version, budget) => Reply::Installed {
+            version,
+            budget,
+            layout: Layout::One,
+        },
         Answer::Moved(state, period) => Reply::Moved { state, period },
         Answer::Refused(number) => Reply::Refused(number),
     }
@@ -137,7 +142,7 @@ pub(crate) fn half_a_second() -> ConfigParts {
 
 /// The record of a response.
 pub(crate) fn response<R: Abort>(rt: &R, status: u16) -> Record {
-    let mut context = [0u8; 128];
+    let mut context = [0u8; 192];
     let [low, high] = status.to_le_bytes();
     context[4] = low;
     context[5] = high;
@@ -147,7 +152,7 @@ pub(crate) fn response<R: Abort>(rt: &R, status: u16) -> Record {
 /// The default classifier, or the program that ignores every outcome.
 pub(crate) fn program<R: Abort>(rt: &R, alloc: Global, ignoring: bool) -> Verified {
     if ignoring {
-        verify(alloc, &IGNORING).expect(rt, "a constant answer")
+        verify(alloc, &IGNORING, Layout::One).expect(rt, "a constant answer")
     } else {
         default_classifier(alloc).expect(rt, "the default classifier")
     }

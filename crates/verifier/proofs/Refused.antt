@@ -5,9 +5,11 @@ use Rattle.std.specs.Result.{IsErrAnd}
 use Rattle.refusals.specs.declared.RefusalNumber.TheVariants.{ProgramOutOfMemory}
 use Rattle.bpf_decode.specs.declared.error.DecodeError.{DecodeError}
 use Rattle.flow_check.specs.declared.error.FlowError.{FlowError}
+use Rattle.bpf_profile.specs.declared.layout.Layout.{Layout}
 use Rattle.bpf_profile.specs.declared.slot.Slot.{Slot}
 use Rattle.bpf_profile.specs.Flow.{flow_fault}
-use Rattle.bpf_profile.specs.Limits.{most_slots, context_size}
+use Rattle.bpf_profile.specs.Layouts.{context_size}
+use Rattle.bpf_profile.specs.Limits.{most_slots}
 use Rattle.bpf_profile.specs.Spelling.{Spells, first_fault}
 use Rattle.verifier.specs.Analysis.{analysis_fault}
 use Rattle.verifier.specs.Product.{product}
@@ -28,15 +30,15 @@ abbrev refusal_of : DecodeError → Refusal
 refusal_of error = record { slot = error.slot; number = error.number }
 
 -- the refusal of bytes that decoding refuses
-pub refused_undecoded : (bytes : List ℕ) (error : DecodeError) (e : Refusal) → e ≡ record { slot = error.slot; number = error.number }
-    → (error ≡ record { slot = 0; number = ProgramOutOfMemory }) ⊎ (first_fault bytes ≡ Some (record { slot = error.slot; number = error.number })) → (e ≡ out_of_memory) ⊎ IsRefused bytes (fault_of e)
-refused_undecoded bytes error e is (inl none) = inl (is ∙ ap refusal_of none)
-refused_undecoded bytes error e is (inr fault) = inr (inl (fault ∙ ap (λ (f : Refusal). Some (fault_of f)) (sym is)))
+pub refused_undecoded : (layout : Layout) (bytes : List ℕ) (error : DecodeError) (e : Refusal) → e ≡ record { slot = error.slot; number = error.number }
+    → (error ≡ record { slot = 0; number = ProgramOutOfMemory }) ⊎ (first_fault bytes ≡ Some (record { slot = error.slot; number = error.number })) → (e ≡ out_of_memory) ⊎ IsRefused layout bytes (fault_of e)
+refused_undecoded layout bytes error e is (inl none) = inl (is ∙ ap refusal_of none)
+refused_undecoded layout bytes error e is (inr fault) = inr (inl (fault ∙ ap (λ (f : Refusal). Some (fault_of f)) (sym is)))
 
 -- the refusal of bytes whose program is refused
-pub refused_program : (bytes : List ℕ) (slots : List Slot) (error e : Refusal) → e ≡ error → Spells bytes slots → (error ≡ out_of_memory) ⊎ IsProgramRefused slots (fault_of error) → (e ≡ out_of_memory) ⊎ IsRefused bytes (fault_of e)
-refused_program bytes slots error e is spelled (inl none) = inl (is ∙ none)
-refused_program bytes slots error e is spelled (inr refused) = inr (inr (slots, spelled, subst (λ (f : Refusal). IsProgramRefused slots (fault_of f)) (sym is) refused))
+pub refused_program : (layout : Layout) (bytes : List ℕ) (slots : List Slot) (error e : Refusal) → e ≡ error → Spells bytes slots → (error ≡ out_of_memory) ⊎ IsProgramRefused layout slots (fault_of error) → (e ≡ out_of_memory) ⊎ IsRefused layout bytes (fault_of e)
+refused_program layout bytes slots error e is spelled (inl none) = inl (is ∙ none)
+refused_program layout bytes slots error e is spelled (inr refused) = inr (inr (slots, spelled, subst (λ (f : Refusal). IsProgramRefused layout slots (fault_of f)) (sym is) refused))
 
 pub slot_of : (e : Refusal) (slot : ℕ) → e.slot ≡ slot → slot < most_slots → e.slot < most_slots
 slot_of e slot is h = subst (λ (n : ℕ). n < most_slots) (sym is) h
@@ -48,12 +50,12 @@ abbrev refusal_of_flow : FlowError → Refusal
 refusal_of_flow error = record { slot = error.slot; number = error.number }
 
 -- the refusal of a program whose flow is refused
-pub refused_flow : (slots : List Slot) (error : FlowError) (e : Refusal) → e ≡ record { slot = error.slot; number = error.number }
-    → (error ≡ record { slot = 0; number = ProgramOutOfMemory }) ⊎ (flow_fault slots ≡ Some (record { slot = error.slot; number = error.number })) → (e ≡ out_of_memory) ⊎ IsProgramRefused slots (fault_of e)
-refused_flow slots error e is (inl none) = inl (is ∙ ap refusal_of_flow none)
-refused_flow slots error e is (inr fault) = inr (inl (fault ∙ ap (λ (f : Refusal). Some (fault_of f)) (sym is)))
+pub refused_flow : (layout : Layout) (slots : List Slot) (error : FlowError) (e : Refusal) → e ≡ record { slot = error.slot; number = error.number }
+    → (error ≡ record { slot = 0; number = ProgramOutOfMemory }) ⊎ (flow_fault slots ≡ Some (record { slot = error.slot; number = error.number })) → (e ≡ out_of_memory) ⊎ IsProgramRefused layout slots (fault_of e)
+refused_flow layout slots error e is (inl none) = inl (is ∙ ap refusal_of_flow none)
+refused_flow layout slots error e is (inr fault) = inr (inl (fault ∙ ap (λ (f : Refusal). Some (fault_of f)) (sym is)))
 
 -- the refusal of a program that the analysis refuses
-pub refused_analysis : (slots : List Slot) (error e : Refusal) → e ≡ error → flow_fault slots ≡ None → (error ≡ out_of_memory) ⊎ (analysis_fault product context_size slots ≡ Some (fault_of error)) → (e ≡ out_of_memory) ⊎ IsProgramRefused slots (fault_of e)
-refused_analysis slots error e is accepted (inl none) = inl (is ∙ none)
-refused_analysis slots error e is accepted (inr fault) = inr (inr (accepted, fault ∙ ap (λ (f : Refusal). Some (fault_of f)) (sym is)))
+pub refused_analysis : (layout : Layout) (slots : List Slot) (error e : Refusal) → e ≡ error → flow_fault slots ≡ None → (error ≡ out_of_memory) ⊎ (analysis_fault product (context_size layout) slots ≡ Some (fault_of error)) → (e ≡ out_of_memory) ⊎ IsProgramRefused layout slots (fault_of e)
+refused_analysis layout slots error e is accepted (inl none) = inl (is ∙ none)
+refused_analysis layout slots error e is accepted (inr fault) = inr (inr (accepted, fault ∙ ap (λ (f : Refusal). Some (fault_of f)) (sym is)))

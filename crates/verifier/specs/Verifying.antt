@@ -1,8 +1,9 @@
 -- What verifying answers.
 use Rattle.std.specs.Prelude.{◌≡◌, ◌⊎◌, ℕ, ◌<◌, List, length, slice_get, Some, None}
 use Rattle.refusals.specs.declared.RefusalNumber.TheVariants.{ProgramOutOfMemory}
+use Rattle.bpf_profile.specs.declared.layout.Layout.{Layout}
 use Rattle.bpf_profile.specs.declared.slot.Slot.{Slot}
-use Rattle.bpf_profile.specs.Limits.{context_size}
+use Rattle.bpf_profile.specs.Layouts.{context_size}
 use Rattle.bpf_profile.specs.Flow.{flow_fault, successors, IsBudget}
 use Rattle.bpf_profile.specs.Spelling.{Spells, Fault, first_fault}
 use Rattle.verifier.specs.Analysis.{analysis_fault}
@@ -17,23 +18,23 @@ out_of_memory = record { slot = 0; number = ProgramOutOfMemory }
 abbrev pub fault_of : Refusal → Fault
 fault_of e = record { slot = e.slot; number = e.number }
 
--- flow and analysis find no fault
-abbrev pub IsAccepted : List Slot → Type 0
-IsAccepted slots = (flow_fault slots ≡ None) × (analysis_fault product context_size slots ≡ None)
+-- flow and the analysis on records of a layout find no fault
+abbrev pub IsAccepted : Layout → List Slot → Type 0
+IsAccepted layout slots = (flow_fault slots ≡ None) × (analysis_fault product (context_size layout) slots ≡ None)
 
--- the bytes spell a program that flow and analysis accept, with its budget
+-- the bytes spell a program that flow and the analysis on records of its layout accept, with its budget
 pub record IsVerification (bytes : List ℕ) (program : VerifiedProgram) : Type 0 where
   pub spelled : Spells bytes program.slots
-  pub accepted : IsAccepted program.slots
+  pub accepted : IsAccepted program.layout program.slots
   pub budget : IsBudget program.slots program.budget
 
 -- the fault that a program is refused for: the first of its flow, or else the first of the analysis
-abbrev pub IsProgramRefused : List Slot → Fault → Type 0
-IsProgramRefused slots fault = (flow_fault slots ≡ Some fault) ⊎ ((flow_fault slots ≡ None) × (analysis_fault product context_size slots ≡ Some fault))
+abbrev pub IsProgramRefused : Layout → List Slot → Fault → Type 0
+IsProgramRefused layout slots fault = (flow_fault slots ≡ Some fault) ⊎ ((flow_fault slots ≡ None) × (analysis_fault product (context_size layout) slots ≡ Some fault))
 
 -- the fault that bytes are refused for: the first of decoding, or else the program's
-abbrev pub IsRefused : List ℕ → Fault → Type 0
-IsRefused bytes fault = (first_fault bytes ≡ Some fault) ⊎ ((slots : List Slot) × Spells bytes slots × IsProgramRefused slots fault)
+abbrev pub IsRefused : Layout → List ℕ → Fault → Type 0
+IsRefused layout bytes fault = (first_fault bytes ≡ Some fault) ⊎ ((slots : List Slot) × Spells bytes slots × IsProgramRefused layout slots fault)
 
 -- the flow of a program, slot by slot
 pub record IsFlowOf (slots : List Slot) (edges : List (List ℕ)) : Type 0 where

@@ -1,6 +1,7 @@
 //! The classifier that a service has before another one is installed.
 ghost use Rattle.std.specs.Prelude.{◌≡◌, IfOk, IfErr};
-ghost use Rattle.bpf_profile.specs.Limits.{context_size};
+ghost use Rattle.bpf_profile.specs.declared.layout.Layout.TheVariants as layout;
+ghost use Rattle.bpf_profile.specs.Layouts.{context_size};
 ghost use Rattle.bpf_profile.specs.Safety.{IsSafe};
 ghost use Rattle.bpf_profile.specs.Spelling.{Spells};
 ghost use Rattle.verifier.specs.DefaultClassifier.{default_classifier_bytes};
@@ -8,6 +9,7 @@ ghost use Rattle.verifier.specs.Verifying.{IsVerification, out_of_memory};
 
 use crate::refusal::Refusal;
 use crate::verified::{Verified, verify};
+use bpf_profile::Layout;
 use std::alloc::Global;
 
 /// Its bytes, eight for each slot: a failure is an outcome that is no response, or a status from 500 on.
@@ -23,12 +25,13 @@ const DEFAULT_CLASSIFIER: [u8; 64] = [
 ];
 
 /// The classifier that services begin with: a failure is an outcome that is no response, or one with
-/// a status from 500 on. The only error is want of memory.
+/// a status from 500 on. It sees a context of layout 1. The only error is want of memory.
 pub fn default_classifier(alloc: Global) -> Result<Verified, Refusal>
     ensures spelled { IfOk result (λ v. Spells default_classifier_bytes v.slots) }
-    ensures safe { IfOk result (λ v. IsSafe context_size v.slots v.budget) }
+    ensures safe { IfOk result (λ v. IsSafe (context_size layout.One) v.slots v.budget) }
     ensures verified { IfOk result (λ v. IsVerification default_classifier_bytes v) }
+    ensures layout { IfOk result (λ v. v.layout ≡ layout.One) }
     ensures refused { IfErr result (λ e. e ≡ out_of_memory) }
 {
-    verify(alloc, &DEFAULT_CLASSIFIER)
+    verify(alloc, &DEFAULT_CLASSIFIER, Layout::One)
 }

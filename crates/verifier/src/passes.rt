@@ -1,7 +1,8 @@
 //! The pass over the slots, in order. All edges lead forward, so each slot comes after all its
 //! predecessors.
 ghost use Rattle.std.specs.Prelude.{◌≡◌, ◌⊎◌, ◌<◌, length, Some, None, IfSome, IfErr, OnOk};
-ghost use Rattle.bpf_profile.specs.Limits.{most_slots, context_size};
+ghost use Rattle.bpf_profile.specs.Layouts.{context_size};
+ghost use Rattle.bpf_profile.specs.Limits.{most_slots};
 ghost use Rattle.bpf_profile.specs.Flow.{successors, flow_fault};
 ghost use Rattle.bpf_profile.specs.Meaning.{instruction_at};
 ghost use Rattle.bpf_profile.specs.Spelling.{IsProgram};
@@ -16,6 +17,7 @@ use crate::sending::{boxed_copy, send};
 use abs_domain::Domain;
 use abs_states::AbsState;
 use bpf_decode::Decoded;
+use bpf_profile::Layout;
 use flow_check::{Flow, Successors};
 use std::alloc::Global;
 
@@ -40,6 +42,7 @@ fn pass<D: Domain>(
     slots: &Decoded,
     flow: &Flow,
     place: usize,
+    layout: Layout,
 ) -> Result<(), Refusal>
     // A state over the domain is no larger than memory.
     requires fits { StateFits D.row }
@@ -48,9 +51,9 @@ fn pass<D: Domain>(
     requires program { IsProgram slots.now }
     requires accepted { flow_fault slots.now ≡ None }
     requires flow { IsFlowOf slots.now flow.now.edges }
-    ensures passed { OnOk result (fault_with ⟦<D as Domain>⟧ context_size (instruction_at slots.now place) (state_of (seen states.old) place) ≡ None) }
-    ensures sent { OnOk result (seen states.new ≡ delivered_all ⟦<D as Domain>⟧ (seen states.old) (sent_with ⟦<D as Domain>⟧ context_size place (instruction_at slots.now place) (state_of (seen states.old) place))) }
-    ensures fault { IfErr result (λ e. (e ≡ out_of_memory) ⊎ ((fault_with ⟦<D as Domain>⟧ context_size (instruction_at slots.now place) (state_of (seen states.old) place) ≡ Some e.number) × (e.slot ≡ place))) }
+    ensures passed { OnOk result (fault_with ⟦<D as Domain>⟧ (context_size layout) (instruction_at slots.now place) (state_of (seen states.old) place) ≡ None) }
+    ensures sent { OnOk result (seen states.new ≡ delivered_all ⟦<D as Domain>⟧ (seen states.old) (sent_with ⟦<D as Domain>⟧ (context_size layout) place (instruction_at slots.now place) (state_of (seen states.old) place))) }
+    ensures fault { IfErr result (λ e. (e ≡ out_of_memory) ⊎ ((fault_with ⟦<D as Domain>⟧ (context_size layout) (instruction_at slots.now place) (state_of (seen states.old) place) ≡ Some e.number) × (e.slot ≡ place))) }
 {
     let Some(instruction) = slots.at(place) else {
         return Ok(());
@@ -60,7 +63,15 @@ fn pass<D: Domain>(
     };
     let state = boxed_copy(alloc, held)?;
     let edges = edges_at(flow, slots, place);
-    send(alloc, states, state, &instruction, place as u32, edges)
+    send(
+        alloc,
+        states,
+        state,
+        &instruction,
+        place as u32,
+        edges,
+        layout,
+    )
 }
 
 /// Passes over all slots in order, up to the first fault.
@@ -69,19 +80,20 @@ pub(crate) fn pass_all<D: Domain>(
     states: &mut [Option<Box<AbsState<D>>>],
     slots: &Decoded,
     flow: &Flow,
+    layout: Layout,
 ) -> Result<(), Refusal>
     requires fits { StateFits D.row }
     requires entered { seen states.old ≡ entry_states ⟦<D as Domain>⟧ (length slots.now) }
     requires program { IsProgram slots.now }
     requires accepted { flow_fault slots.now ≡ None }
     requires flow { IsFlowOf slots.now flow.now.edges }
-    ensures passed { OnOk result (analysis_fault ⟦<D as Domain>⟧ context_size slots.now ≡ None) }
-    ensures known { OnOk result (AreKnown ⟦<D as Domain>⟧ context_size slots.now (seen states.new)) }
-    ensures fault { IfErr result (λ e. (e ≡ out_of_memory) ⊎ (analysis_fault ⟦<D as Domain>⟧ context_size slots.now ≡ Some (fault_of e))) }
+    ensures passed { OnOk result (analysis_fault ⟦<D as Domain>⟧ (context_size layout) slots.now ≡ None) }
+    ensures known { OnOk result (AreKnown ⟦<D as Domain>⟧ (context_size layout) slots.now (seen states.new)) }
+    ensures fault { IfErr result (λ e. (e ≡ out_of_memory) ⊎ (analysis_fault ⟦<D as Domain>⟧ (context_size layout) slots.now ≡ Some (fault_of e))) }
     ensures slot { IfErr result (λ e. e.slot < most_slots) }
 {
     for place in 0..slots.len() {
-        match pass(alloc, states, slots, flow, place) {
+        match pass(alloc, states, slots, flow, place, layout) {
             Ok(()) => {}
             Err(refusal) => return Err(refusal),
         }

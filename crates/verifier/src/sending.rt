@@ -1,7 +1,7 @@
 //! The abstract states that a pass over the slots sends along the edges of each. Each state is in memory of
 //! its own, so that it is passed on without a copy.
 ghost use Rattle.std.specs.Prelude.{◌≡◌, ◌⊎◌, ◌<◌, ◌++◌, length, true, false, Some, None, Ok, Err, IfSome, IfOk, IfErr, OnOk, box_value};
-ghost use Rattle.bpf_profile.specs.Limits.{context_size};
+ghost use Rattle.bpf_profile.specs.Layouts.{context_size};
 ghost use Rattle.abs_states.specs.States.{entry_state};
 ghost use Rattle.abs_states.specs.Transfers.{transfer_in};
 ghost use Rattle.verifier.specs.Analysis.{message_to, fault_in};
@@ -14,7 +14,7 @@ use crate::refusal::Refusal;
 use abs_domain::Domain;
 use abs_states::AbsState;
 use bpf_decode::Decoded;
-use bpf_profile::{CONTEXT_SIZE, Instruction};
+use bpf_profile::{Instruction, Layout};
 use flow_check::Successors;
 use std::alloc::{AllocError, Global};
 
@@ -88,12 +88,13 @@ fn follow<D: Domain>(
     taken: bool,
     instruction: &Instruction,
     slot: u32,
+    layout: Layout,
 ) -> Result<(), Refusal>
-    ensures passed { OnOk result (transfer_in ⟦<D as Domain>⟧ context_size state.old taken instruction.now ≡ Ok state.new) }
-    ensures refused { IfErr result (λ e. transfer_in ⟦<D as Domain>⟧ context_size state.old taken instruction.now ≡ Err e.number) }
+    ensures passed { OnOk result (transfer_in ⟦<D as Domain>⟧ (context_size layout) state.old taken instruction.now ≡ Ok state.new) }
+    ensures refused { IfErr result (λ e. transfer_in ⟦<D as Domain>⟧ (context_size layout) state.old taken instruction.now ≡ Err e.number) }
     ensures slot { IfErr result (λ e. e.slot ≡ slot) }
 {
-    match state.transfer(CONTEXT_SIZE as u64, taken, instruction) {
+    match state.transfer(layout.context_size(), taken, instruction) {
         Ok(()) => Ok(()),
         Err(number) => Err(Refusal { slot, number }),
     }
@@ -106,13 +107,14 @@ fn send_one<D: Domain>(
     instruction: &Instruction,
     slot: u32,
     next: Option<u32>,
+    layout: Layout,
 ) -> Result<(), Refusal>
     requires { IfSome next (λ to. to < length states.old) }
-    ensures passed { OnOk result (fault_in (transfer_in ⟦<D as Domain>⟧ context_size (box_value state) false instruction.now) ≡ None) }
-    ensures sent { OnOk result (seen states.new ≡ delivered_all ⟦<D as Domain>⟧ (seen states.old) (message_to next (transfer_in ⟦<D as Domain>⟧ context_size (box_value state) false instruction.now))) }
-    ensures fault { IfErr result (λ e. (transfer_in ⟦<D as Domain>⟧ context_size (box_value state) false instruction.now ≡ Err e.number) × (e.slot ≡ slot)) }
+    ensures passed { OnOk result (fault_in (transfer_in ⟦<D as Domain>⟧ (context_size layout) (box_value state) false instruction.now) ≡ None) }
+    ensures sent { OnOk result (seen states.new ≡ delivered_all ⟦<D as Domain>⟧ (seen states.old) (message_to next (transfer_in ⟦<D as Domain>⟧ (context_size layout) (box_value state) false instruction.now))) }
+    ensures fault { IfErr result (λ e. (transfer_in ⟦<D as Domain>⟧ (context_size layout) (box_value state) false instruction.now ≡ Err e.number) × (e.slot ≡ slot)) }
 {
-    follow(&mut state, false, instruction, slot)?;
+    follow(&mut state, false, instruction, slot, layout)?;
     deliver(states, next, state);
     Ok(())
 }
@@ -126,17 +128,18 @@ fn send_two<D: Domain>(
     slot: u32,
     next: Option<u32>,
     target: u32,
+    layout: Layout,
 ) -> Result<(), Refusal>
     requires fits { StateFits D.row }
     requires next { IfSome next (λ to. to < length states.old) }
     requires target { target < length states.old }
-    ensures passed { OnOk result (fault_in (transfer_in ⟦<D as Domain>⟧ context_size (box_value state) false instruction.now) ≡ None) }
-    ensures sent { OnOk result (seen states.new ≡ delivered_all ⟦<D as Domain>⟧ (seen states.old) (message_to next (transfer_in ⟦<D as Domain>⟧ context_size (box_value state) false instruction.now) ++ message_to (Some target) (transfer_in ⟦<D as Domain>⟧ context_size (box_value state) true instruction.now))) }
-    ensures fault { IfErr result (λ e. (e ≡ out_of_memory) ⊎ ((transfer_in ⟦<D as Domain>⟧ context_size (box_value state) false instruction.now ≡ Err e.number) × (e.slot ≡ slot))) }
+    ensures passed { OnOk result (fault_in (transfer_in ⟦<D as Domain>⟧ (context_size layout) (box_value state) false instruction.now) ≡ None) }
+    ensures sent { OnOk result (seen states.new ≡ delivered_all ⟦<D as Domain>⟧ (seen states.old) (message_to next (transfer_in ⟦<D as Domain>⟧ (context_size layout) (box_value state) false instruction.now) ++ message_to (Some target) (transfer_in ⟦<D as Domain>⟧ (context_size layout) (box_value state) true instruction.now))) }
+    ensures fault { IfErr result (λ e. (e ≡ out_of_memory) ⊎ ((transfer_in ⟦<D as Domain>⟧ (context_size layout) (box_value state) false instruction.now ≡ Err e.number) × (e.slot ≡ slot))) }
 {
     let mut other = boxed_copy(alloc, &state)?;
-    follow(&mut state, false, instruction, slot)?;
-    follow(&mut other, true, instruction, slot)?;
+    follow(&mut state, false, instruction, slot, layout)?;
+    follow(&mut other, true, instruction, slot, layout)?;
     deliver(states, next, state);
     join_at(states, target as usize, other);
     Ok(())
@@ -151,16 +154,26 @@ pub(crate) fn send<D: Domain>(
     instruction: &Instruction,
     slot: u32,
     edges: Successors,
+    layout: Layout,
 ) -> Result<(), Refusal>
     requires fits { StateFits D.row }
     requires next { IfSome edges.next (λ to. to < length states.old) }
     requires target { IfSome edges.target (λ to. to < length states.old) }
-    ensures passed { OnOk result (fault_in (transfer_in ⟦<D as Domain>⟧ context_size (box_value state) false instruction.now) ≡ None) }
-    ensures sent { OnOk result (seen states.new ≡ delivered_all ⟦<D as Domain>⟧ (seen states.old) (message_to edges.next (transfer_in ⟦<D as Domain>⟧ context_size (box_value state) false instruction.now) ++ message_to edges.target (transfer_in ⟦<D as Domain>⟧ context_size (box_value state) true instruction.now))) }
-    ensures fault { IfErr result (λ e. (e ≡ out_of_memory) ⊎ ((transfer_in ⟦<D as Domain>⟧ context_size (box_value state) false instruction.now ≡ Err e.number) × (e.slot ≡ slot))) }
+    ensures passed { OnOk result (fault_in (transfer_in ⟦<D as Domain>⟧ (context_size layout) (box_value state) false instruction.now) ≡ None) }
+    ensures sent { OnOk result (seen states.new ≡ delivered_all ⟦<D as Domain>⟧ (seen states.old) (message_to edges.next (transfer_in ⟦<D as Domain>⟧ (context_size layout) (box_value state) false instruction.now) ++ message_to edges.target (transfer_in ⟦<D as Domain>⟧ (context_size layout) (box_value state) true instruction.now))) }
+    ensures fault { IfErr result (λ e. (e ≡ out_of_memory) ⊎ ((transfer_in ⟦<D as Domain>⟧ (context_size layout) (box_value state) false instruction.now ≡ Err e.number) × (e.slot ≡ slot))) }
 {
     match edges.target {
-        Some(to) => send_two(alloc, states, state, instruction, slot, edges.next, to),
-        None => send_one(states, state, instruction, slot, edges.next),
+        Some(to) => send_two(
+            alloc,
+            states,
+            state,
+            instruction,
+            slot,
+            edges.next,
+            to,
+            layout,
+        ),
+        None => send_one(states, state, instruction, slot, edges.next, layout),
     }
 }

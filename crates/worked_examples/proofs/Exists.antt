@@ -2,7 +2,7 @@
 use Rattle.std.proofs.Common.{◌≡◌, ℕ, zero, suc, ◌≤◌, false, List, [], ◌∷◌, length, slice_get, Option, Some, None, IsOk, lit<, lit≤, arith, refl, sym, subst}
 use Rattle.bpf_profile.specs.declared.slot.Slot.{Slot}
 use Rattle.bpf_profile.specs.declared.slot.Slot.TheVariants.{Ins, Tail}
-use Rattle.bpf_profile.specs.Limits.{context_size}
+use Rattle.bpf_profile.specs.declared.layout.Layout.TheVariants as layout
 use Rattle.bpf_profile.specs.Flow.{successors, flow_fault_at, flow_fault_from, flow_fault, WalkFrom, IsWalk, IsBudget}
 use Rattle.bpf_profile.specs.Opcodes.{operation_of, comparison_of, size_of, convert_opcode, arithmetic_opcode, jump_opcode, immediate_opcode, load_opcode, store_opcode, store_register_opcode, opcode_of}
 use Rattle.bpf_profile.specs.Slots.{read_fields, instruction_of}
@@ -21,7 +21,7 @@ abbrev pub zero_slots : List Slot
 zero_slots = Ins 183 0 0 0 0 ∷ (Ins 149 0 0 0 0 ∷ [])
 
 abbrev pub zero_program : VerifiedProgram
-zero_program = record { slots = zero_slots; budget = 2 }
+zero_program = record { slots = zero_slots; budget = 2; layout = layout.One }
 
 abbrev pub zero_bytes : List ℕ
 zero_bytes = 183 ∷ (0 ∷ (0 ∷ (0 ∷ (0 ∷ (0 ∷ (0 ∷ (0 ∷ (149 ∷ (0 ∷ (0 ∷ (0 ∷ (0 ∷ (0 ∷ (0 ∷ (0 ∷ [])))))))))))))))
@@ -30,7 +30,7 @@ zero_flow : flow_fault zero_slots ≡ None
 unfolding successors flow_fault_at flow_fault_from instruction_of read_fields opcode_of operation_of comparison_of size_of convert_opcode arithmetic_opcode jump_opcode immediate_opcode load_opcode store_opcode store_register_opcode
 zero_flow = refl
 
-zero_analysis : analysis_fault product context_size zero_slots ≡ None
+zero_analysis : analysis_fault product 128 zero_slots ≡ None
 unfolding arriving fault_at fault_from transfer_in instruction_of read_fields opcode_of operation_of comparison_of size_of convert_opcode arithmetic_opcode jump_opcode immediate_opcode load_opcode store_opcode store_register_opcode
 zero_analysis = refl
 

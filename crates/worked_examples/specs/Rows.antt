@@ -1,6 +1,7 @@
 -- Worked examples of the documented machine: what is done, and what is heard.
 use Rattle.std.specs.Prelude.{ℕ, List, [], ◌∷◌, ◌++◌, None}
 use Rattle.bpf_profile.specs.declared.machine.Verdict.TheVariants as verdict
+use Rattle.bpf_profile.specs.declared.layout.Layout.TheVariants as layout
 use Rattle.refusals.specs.declared.RefusalNumber.TheVariants as refusal
 use Rattle.service_profile.specs.declared.configuration.ConfigParts.{ConfigParts}
 use Rattle.service_profile.specs.declared.configuration.SlidingWindowType.TheVariants as window
@@ -63,10 +64,10 @@ ignored_call_frees =
 
 abbrev pub ignored_call_freed : List Heard
 ignored_call_freed =
-    says (reply.Installed 2 2)
+    says (reply.Installed 2 2 layout.One)
     ∷ (says (reply.Moved state.HalfOpen 2)
     ∷ (says (reply.Permitted 1 2 state.HalfOpen)
-    ∷ (says (reply.Installed 3 6)
+    ∷ (says (reply.Installed 3 6 layout.One)
     ∷ (says (reply.Permitted 2 3 state.HalfOpen)
     ∷ (says (reply.Refused refusal.CallNotPermitted)
     ∷ (says (reply.Finished fate.Ignored verdict.Ignored 2 2 state.HalfOpen)

@@ -2,6 +2,7 @@
 use Rattle.std.specs.Prelude.{◌≡◌, ℕ, List, [], ◌∷◌, ◌++◌, length, replicate, Option, Some, None, Ok, Err}
 use Rattle.std.specs.List.{filter_map}
 use Rattle.byteorder.specs.Endian.{little_bytes}
+use Rattle.bpf_profile.specs.declared.layout.Layout.TheVariants as layout
 use Rattle.bpf_profile.specs.declared.slot.Slot.TheVariants.{Ins}
 use Rattle.bpf_profile.specs.Outcomes.{Outcome}
 use Rattle.refusals.specs.declared.RefusalNumber.{RefusalNumber}
@@ -22,15 +23,16 @@ abbrev pub default_classifier : VerifiedProgram
 default_classifier = record {
   slots = Ins 97 2 1 0 0 ∷ (Ins 85 2 0 4 0 ∷ (Ins 97 2 1 4 0 ∷ (Ins 53 2 0 2 500 ∷ (Ins 183 0 0 0 0 ∷ (Ins 149 0 0 0 0 ∷ (Ins 183 0 0 0 1 ∷ (Ins 149 0 0 0 0 ∷ [])))))));
   budget = 6;
+  layout = layout.One;
 }
 
 -- each outcome is ignored
 abbrev pub ignoring_classifier : VerifiedProgram
-ignoring_classifier = record { slots = Ins 183 0 0 0 2 ∷ (Ins 149 0 0 0 0 ∷ []); budget = 2 }
+ignoring_classifier = record { slots = Ins 183 0 0 0 2 ∷ (Ins 149 0 0 0 0 ∷ []); budget = 2; layout = layout.One }
 
 -- a response with a status, and nothing else of note
 abbrev pub response : ℕ → Outcome
-response status = record { context = little_bytes 4 0 ++ (little_bytes 4 status ++ replicate 120 0); facts = replicate 16 0; tag = [] }
+response status = record { context = little_bytes 4 0 ++ (little_bytes 4 status ++ replicate 184 0); facts = replicate 16 0; tag = [] }
 
 -- ---- steps of one caller
 

@@ -6,6 +6,7 @@ use crate::checks::{same, same_at};
 use crate::programs::{bytes_of_slots, classifier_bytes};
 use abs_domain::Both;
 use bpf_decode::Program;
+use bpf_profile::Layout;
 use flow_check::check;
 use known_bits::KnownBits;
 use ranges::Range;
@@ -18,7 +19,7 @@ const MOVE: u64 = 0xb700000000000000;
 
 /// The budget and the width of a program.
 fn counted(alloc: Global, bytes: &[u8]) -> Result<(u32, u32), Refusal> {
-    let (verified, width) = verify_counted(alloc, bytes)?;
+    let (verified, width) = verify_counted(alloc, bytes, Layout::One)?;
     Ok((verified.budget(), width))
 }
 
@@ -26,7 +27,7 @@ fn counted(alloc: Global, bytes: &[u8]) -> Result<(u32, u32), Refusal> {
 fn analysed(alloc: Global, bytes: &[u8]) -> Result<u32, Refusal> {
     let program = Program::decode(alloc, bytes)?;
     let flow = check(alloc, &program)?;
-    analyse::<Both<Range, KnownBits>>(alloc, &program, &flow)?;
+    analyse::<Both<Range, KnownBits>>(alloc, &program, &flow, Layout::One)?;
     Ok(flow.budget())
 }
 

@@ -18,6 +18,7 @@ pub returns : goal.returns
 returns c = λ held s stands before.
     let shown : c.deref.result.now ≡ c.args.judged.now.program = c.deref.ensures ∙ c.program.ensures.program in
     let slots : c.args.judged.now.program.slots ≡ c.args.program.now.slots = ap (λ (p : VerifiedProgram). p.slots) (sym shown) ∙ c.if-not-same_program.ensures.slots refl in
-    let judged = judgement_by_slots c.args.program.now c.args.judged.now.program.slots c.args.judged.now.outcome c.args.judged.now.verdict c.args.judged.now.steps slots c.know_program.ensures.safe c.know_work.ensures.outcome c.know_work.ensures.tied in
+    let layout : c.args.judged.now.program.layout ≡ c.args.program.now.layout = ap (λ (p : VerifiedProgram). p.layout) (sym shown) ∙ c.if-not-same_program.ensures.layout refl in
+    let judged = judgement_by_slots c.args.program.now c.args.judged.now.program.slots c.args.judged.now.program.layout c.args.judged.now.outcome c.args.judged.now.verdict c.args.judged.now.steps slots layout c.know_program.ensures.safe c.know_work.ensures.outcome c.know_work.ensures.tied in
     let same : same_program c.args.judged.now.program c.args.program.now ≡ true = ap (λ (p : VerifiedProgram). same_program p c.args.program.now) (sym shown) ∙ sym c.if-not-same_program.ensures.same in
     rw (same, judged) (c.concluded.ensures held s stands before)

@@ -12,4 +12,4 @@ returns-then-version_count-ge-MOST_VERSIONS c = λ moment held s stands.
 
 pub returns : goal.returns
 returns c = λ moment held s stands.
-    version_given s moment c.args.program.now c.version_count.result c.next_version.result c.budget.result c.standing-standing.result (c.version_count.ensures held s stands) c.if-version_count-ge-MOST_VERSIONS.false (c.next_version.ensures held s stands) c.budget.ensures.budget (c.standing-standing.ensures.stands held s stands)
+    version_given s moment c.args.program.now c.version_count.result c.next_version.result c.budget.result c.layout.result c.standing-standing.result (c.version_count.ensures held s stands) c.if-version_count-ge-MOST_VERSIONS.false (c.next_version.ensures held s stands) c.budget.ensures.budget c.layout.ensures (c.standing-standing.ensures.stands held s stands)

@@ -1,19 +1,19 @@
-use Rattle.std.proofs.Common.{ap, sym, ◌∙◌}
-use Rattle.refusals.specs.declared.RefusalNumber.TheVariants as refusal
+use Rattle.std.proofs.Common.{◌≡◌, ◌∙◌, Ok, Err, ap, sym}
 use Rattle.service_profile.specs.declared.standings.Standing.{Standing}
-use Rattle.book.specs.Effects.{refused_plan}
-use Rattle.book.proofs.Planned.{release_of_none, release_of_spent, release_of_open}
+use Rattle.service_profile.specs.Events.{releases}
+use Rattle.book.specs.Effects.{planned, refused_plan, released_plan}
+use Rattle.book.specs.Finding.{ticket_in}
+use Rattle.book.proofs.Planned.{released_so}
 use Rattle.book.proofs.machine.released.Goals as goal
 
-pub returns-then-not-is_issued : goal.returns-then-not-is_issued
-returns-then-not-is_issued c = λ moment held s stands.
-    release_of_none s moment c.args.ticket _ (sym (c.if-not-is_issued.ensures held s stands)) (c.refused.ensures ∙ ap (λ (n : Standing). refused_plan n refusal.NoTicket) (c.standing-standing.ensures.stands held s stands))
+pub returns-in-Ok : goal.returns-in-Ok
+returns-in-Ok c = λ moment held s stands.
+    let is : Ok c.in-Ok.field-0 ≡ ticket_in s c.args.ticket = sym c.in-Ok.is ∙ c.ticket.ensures held s stands in
+    c.ended.ensures ∙ ap (λ (n : Standing). released_plan n c.args.ticket) (c.standing-standing.ensures.stands held s stands)
+    ∙ ap (planned s.config moment (releases c.args.ticket)) (sym (released_so s c.args.ticket _ is))
 
-pub returns-then-is_none : goal.returns-then-is_none
-returns-then-is_none c = λ moment held s stands.
-    release_of_spent s moment c.args.ticket c.open_ticket.result _ (sym (c.if-not-is_issued.ensures held s stands)) (c.open_ticket.ensures held s stands) c.if-is_none.ensures
-    (c.refused-then-is_none.ensures ∙ ap (λ (n : Standing). refused_plan n refusal.TicketSpent) (c.standing-standing.ensures.stands held s stands))
-
-pub returns : goal.returns
-returns c = λ moment held s stands.
-    release_of_open s moment c.args.ticket c.open_ticket.result c.standing-standing.result (sym (c.if-not-is_issued.ensures held s stands)) (c.open_ticket.ensures held s stands) c.if-is_none.ensures (c.standing-standing.ensures.stands held s stands)
+pub returns-in-Err : goal.returns-in-Err
+returns-in-Err c = λ moment held s stands.
+    let is : Err c.in-Err.number ≡ ticket_in s c.args.ticket = sym c.in-Err.is ∙ c.ticket.ensures held s stands in
+    c.refused.ensures ∙ ap (λ (n : Standing). refused_plan n c.in-Err.number) (c.standing-standing.ensures.stands held s stands)
+    ∙ ap (planned s.config moment (releases c.args.ticket)) (sym (released_so s c.args.ticket _ is))

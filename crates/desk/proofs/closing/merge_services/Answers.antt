@@ -2,7 +2,8 @@ use Rattle.std.proofs.Common.{◌≡◌, ◌+◌, ◌∙◌, ℕ, List, [], ◌�
 use Rattle.std.proofs.lemmas.List.{map-append}
 use Rattle.std.specs.List.{AllByRecursion}
 use Rattle.service_profile.specs.Events.{History}
-use Rattle.desk.specs.Kept.{IsGood, IsKept, AreOfSome, last_number}
+use Rattle.book.specs.Good.{IsGood}
+use Rattle.desk.specs.Kept.{IsKept, AreOfSome, last_number}
 use Rattle.desk.proofs.Descent.{one_more_of, sum_more, good_more}
 use Rattle.desk.proofs.closing.merge_services.Goals as goal
 

@@ -1,7 +1,8 @@
 use Rattle.std.proofs.Common.{◌≡◌, ◌+◌, ◌*◌, ℕ, List, length, map}
 use Rattle.std.specs.List.{AllByRecursion}
 use Rattle.std.specs.Prelude.{sum, vec_capacity}
-use Rattle.desk.specs.Kept.{IsGood, AreOfSome, last_number, most_numbers, most_cuts}
+use Rattle.book.specs.Good.{IsGood}
+use Rattle.desk.specs.Kept.{AreOfSome, last_number, most_numbers, most_cuts}
 use Rattle.desk.proofs.closing.merge_services.Given as goal
 
 abbrev pub invariant-loop-service : goal.invariant-loop-service

@@ -1,4 +1,4 @@
-use Rattle.std.proofs.Common.{rules}
+use Rattle.std.proofs.Common.{rules, inl}
 use Rattle.sidecar_commands.specs.Commands.{NamesReplay}
 use Rattle.sidecar_commands.proofs.Cuts.{cut_at_write, classifier_in_part}
 use Rattle.sidecar_commands.proofs.commands.command.Goals as goal
@@ -16,3 +16,6 @@ pub returns-in-Err-clause-part : goal.returns-in-Err-clause-part
 returns-in-Err-clause-part g c =
     let named : NamesReplay c.args.words.now = search rules in
     λ is. cut_at_write c.args.words.now c.in-Err.error _ _ _ named c.in-Err.ensures.part (rw c.status_of.ensures at is)
+
+pub returns-then-not-is_replay-clause-unread : goal.returns-then-not-is_replay-clause-unread
+returns-then-not-is_replay-clause-unread g c = λ unasked. c.command.ensures.unread (λ asked. unasked (inl asked))

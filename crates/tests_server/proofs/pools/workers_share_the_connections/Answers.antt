@@ -1,7 +1,7 @@
 use denote.Exit.{yes}
 use denote.Param.Send.{IsSend, sendable, param_send, arg_send}
 use Rattle.std.proofs.Crossing.{crosses}
-use Rattle.desk.proofs.Sending.{book_field_send}
+use Rattle.book.proofs.Sending.{book_field_send}
 use Rattle.http_front.specs.contracts.books.Books as books
 use Rattle.tests_server.proofs.pools.workers_share_the_connections.Goals as goal
 

@@ -10,7 +10,7 @@ width_of-requires c =
     let all = c.in_ok-slots.ensures.same in
     record {
       program = c.in_ok-slots.ensures.program;
-      accepted = ap flow_fault all ∙ c.requires.0;
+      accepted = ap flow_fault all ∙ c.requires;
       flow = is_flow_of c.in_ok-slots.slots c.in-Ok.flow.edges c.in-Ok.ensures.edges;
     }
 

@@ -1,7 +1,7 @@
 use Rattle.std.proofs.Common.{◌≡◌, ◌<◌, ◌++◌, ℕ, length, Option, true, false, inr, sym, subst}
 use Rattle.std.specs.Prelude.{IfSome, OnOk, box_value}
 use Rattle.abs_states.specs.Transfers.{transfer_in}
-use Rattle.bpf_profile.specs.Limits.{context_size}
+use Rattle.bpf_profile.specs.Layouts.{context_size}
 use Rattle.verifier.specs.Analysis.{message_to}
 use Rattle.verifier.specs.Passes.{seen, delivered_all}
 use Rattle.verifier.proofs.Known.{if_err_map}
@@ -18,7 +18,7 @@ returns-in-Some-clause-passed g c = c.send_two.ensures.passed
 
 pub returns-in-Some-clause-sent : goal.returns-in-Some-clause-sent
 returns-in-Some-clause-sent g c =
-    subst (λ (o : Option ℕ). OnOk c.send_two.result (seen c.send_two.new.states ≡ delivered_all g.D.Domain (seen c.args.states.now) (message_to c.args.edges.next (transfer_in g.D.Domain context_size (box_value c.args.state) false c.args.instruction.now) ++ message_to o (transfer_in g.D.Domain context_size (box_value c.args.state) true c.args.instruction.now)))) (sym c.in-Some.is)
+    subst (λ (o : Option ℕ). OnOk c.send_two.result (seen c.send_two.new.states ≡ delivered_all g.D.Domain (seen c.args.states.now) (message_to c.args.edges.next (transfer_in g.D.Domain (context_size c.args.layout) (box_value c.args.state) false c.args.instruction.now) ++ message_to o (transfer_in g.D.Domain (context_size c.args.layout) (box_value c.args.state) true c.args.instruction.now)))) (sym c.in-Some.is)
     c.send_two.ensures.sent
 
 pub returns-in-Some-clause-fault : goal.returns-in-Some-clause-fault

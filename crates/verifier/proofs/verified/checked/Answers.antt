@@ -16,7 +16,7 @@ pub returns-in_err-flow-clause-accepted : goal.returns-in_err-flow-clause-accept
 returns-in_err-flow-clause-accepted c = no_value c.from_residual.result _ _ c.from_residual.ensures.1
 
 pub returns-in_err-flow-clause-refused : goal.returns-in_err-flow-clause-refused
-returns-in_err-flow-clause-refused c = passed_on c.from_residual.result _ _ (λ e is. refused_flow c.args.program.now c.in_err-flow.field-0.0 e is c.in_err-flow.ensures.refused) c.from_residual.ensures.1
+returns-in_err-flow-clause-refused c = passed_on c.from_residual.result _ _ (λ e is. refused_flow c.args.layout c.args.program.now c.in_err-flow.field-0.0 e is c.in_err-flow.ensures.refused) c.from_residual.ensures.1
 
 pub returns-in_err-flow-clause-slot : goal.returns-in_err-flow-clause-slot
 returns-in_err-flow-clause-slot c = passed_on c.from_residual.result _ _ (λ e is. slot_of e c.in_err-flow.field-0.0.slot (ap (λ (f : Refusal). f.slot) is) c.in_err-flow.ensures.slot) c.from_residual.ensures.1
@@ -43,7 +43,7 @@ pub returns-in_err-flat-clause-accepted : goal.returns-in_err-flat-clause-accept
 returns-in_err-flat-clause-accepted c = no_value c.from_residual-in_err-flat.result _ _ c.from_residual-in_err-flat.ensures.1
 
 pub returns-in_err-flat-clause-refused : goal.returns-in_err-flat-clause-refused
-returns-in_err-flat-clause-refused c = passed_on c.from_residual-in_err-flat.result _ _ (λ e is. refused_analysis c.args.program.now c.in_err-flat.field-0.0 e is c.in_ok-flow.ensures.accepted c.in_err-flat.ensures.refused) c.from_residual-in_err-flat.ensures.1
+returns-in_err-flat-clause-refused c = passed_on c.from_residual-in_err-flat.result _ _ (λ e is. refused_analysis c.args.layout c.args.program.now c.in_err-flat.field-0.0 e is c.in_ok-flow.ensures.accepted c.in_err-flat.ensures.refused) c.from_residual-in_err-flat.ensures.1
 
 pub returns-in_err-flat-clause-slot : goal.returns-in_err-flat-clause-slot
 returns-in_err-flat-clause-slot c = passed_on c.from_residual-in_err-flat.result _ _ (λ e is. slot_of e c.in_err-flat.field-0.0.slot (ap (λ (f : Refusal). f.slot) is) c.in_err-flat.ensures.slot) c.from_residual-in_err-flat.ensures.1

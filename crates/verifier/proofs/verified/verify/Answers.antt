@@ -1,6 +1,7 @@
 use Rattle.std.proofs.Common.{ℕ, inl, List, sym, ap, subst}
+use Rattle.bpf_profile.specs.declared.layout.Layout.{Layout}
 use Rattle.bpf_profile.specs.declared.slot.Slot.{Slot}
-use Rattle.bpf_profile.specs.Limits.{context_size}
+use Rattle.bpf_profile.specs.Layouts.{context_size}
 use Rattle.bpf_profile.specs.Flow.{IsBudget}
 use Rattle.bpf_profile.specs.Safety.{IsSafe}
 use Rattle.bpf_profile.specs.Spelling.{Spells}
@@ -23,8 +24,11 @@ returns-in_err-program-clause-safe c = no_value c.from_residual.result _ _ c.fro
 pub returns-in_err-program-clause-verified : goal.returns-in_err-program-clause-verified
 returns-in_err-program-clause-verified c = no_value c.from_residual.result _ _ c.from_residual.ensures.1
 
+pub returns-in_err-program-clause-layout : goal.returns-in_err-program-clause-layout
+returns-in_err-program-clause-layout c = no_value c.from_residual.result _ _ c.from_residual.ensures.1
+
 pub returns-in_err-program-clause-refused : goal.returns-in_err-program-clause-refused
-returns-in_err-program-clause-refused c = passed_on c.from_residual.result _ _ (λ e is. refused_undecoded c.args.bytes.now c.in_err-program.field-0.0 e is c.in_err-program.ensures.fault) c.from_residual.ensures.1
+returns-in_err-program-clause-refused c = passed_on c.from_residual.result _ _ (λ e is. refused_undecoded c.args.layout c.args.bytes.now c.in_err-program.field-0.0 e is c.in_err-program.ensures.fault) c.from_residual.ensures.1
 
 pub returns-in_err-program-clause-slot : goal.returns-in_err-program-clause-slot
 returns-in_err-program-clause-slot c = passed_on c.from_residual.result _ _ (λ e is. slot_of e c.in_err-program.field-0.0.slot (ap (λ (f : Refusal). f.slot) is) c.in_err-program.ensures.slot) c.from_residual.ensures.1
@@ -43,8 +47,11 @@ returns-in_err-budget-clause-safe c = no_value c.from_residual-in_err-budget.res
 pub returns-in_err-budget-clause-verified : goal.returns-in_err-budget-clause-verified
 returns-in_err-budget-clause-verified c = no_value c.from_residual-in_err-budget.result _ _ c.from_residual-in_err-budget.ensures.1
 
+pub returns-in_err-budget-clause-layout : goal.returns-in_err-budget-clause-layout
+returns-in_err-budget-clause-layout c = no_value c.from_residual-in_err-budget.result _ _ c.from_residual-in_err-budget.ensures.1
+
 pub returns-in_err-budget-clause-refused : goal.returns-in_err-budget-clause-refused
-returns-in_err-budget-clause-refused c = passed_on c.from_residual-in_err-budget.result _ _ (λ e is. refused_program c.args.bytes.now c.in_ok-program.program c.in_err-budget.field-0.0 e is c.in_ok-program.ensures.program c.in_err-budget.ensures.refused) c.from_residual-in_err-budget.ensures.1
+returns-in_err-budget-clause-refused c = passed_on c.from_residual-in_err-budget.result _ _ (λ e is. refused_program c.args.layout c.args.bytes.now c.in_ok-program.program c.in_err-budget.field-0.0 e is c.in_ok-program.ensures.program c.in_err-budget.ensures.refused) c.from_residual-in_err-budget.ensures.1
 
 pub returns-in_err-budget-clause-slot : goal.returns-in_err-budget-clause-slot
 returns-in_err-budget-clause-slot c = passed_on c.from_residual-in_err-budget.result _ _ (λ e is. slot_of e c.in_err-budget.field-0.0.slot (ap (λ (f : Refusal). f.slot) is) c.in_err-budget.ensures.slot) c.from_residual-in_err-budget.ensures.1
@@ -72,6 +79,9 @@ returns-in_err-kept-clause-safe c = no_value c.from_residual-in_err-kept.result 
 pub returns-in_err-kept-clause-verified : goal.returns-in_err-kept-clause-verified
 returns-in_err-kept-clause-verified c = no_value c.from_residual-in_err-kept.result _ _ c.from_residual-in_err-kept.ensures.1
 
+pub returns-in_err-kept-clause-layout : goal.returns-in_err-kept-clause-layout
+returns-in_err-kept-clause-layout c = no_value c.from_residual-in_err-kept.result _ _ c.from_residual-in_err-kept.ensures.1
+
 pub returns-in_err-kept-clause-refused : goal.returns-in_err-kept-clause-refused
 returns-in_err-kept-clause-refused c = passed_on c.from_residual-in_err-kept.result _ _ (λ e is. inl is) c.from_residual-in_err-kept.ensures.1
 
@@ -84,18 +94,23 @@ pub returns-clause-spelled : goal.returns-clause-spelled
 returns-clause-spelled c = subst (λ (slots : List Slot). Spells c.args.bytes.now slots) (sym c.in_ok-kept.ensures.program) c.in_ok-program.ensures.program
 
 pub returns-clause-accepted : goal.returns-clause-accepted
-returns-clause-accepted c = subst IsAccepted (sym c.in_ok-kept.ensures.program) c.in_ok-budget.ensures.accepted
+returns-clause-accepted c = subst (IsAccepted c.args.layout) (sym c.in_ok-kept.ensures.program) c.in_ok-budget.ensures.accepted
 
 pub returns-clause-safe : goal.returns-clause-safe
 returns-clause-safe c =
-    subst (λ (slots : List Slot). IsSafe context_size slots c.in_ok-kept.field-0.budget) (sym c.in_ok-kept.ensures.program)
-    (subst (λ (budget : ℕ). IsSafe context_size c.in_ok-program.program budget) (sym c.in_ok-kept.ensures.budget) c.in_ok-budget.ensures.runnable.safe)
+    subst (λ (slots : List Slot). IsSafe (context_size c.args.layout) slots c.in_ok-kept.field-0.budget) (sym c.in_ok-kept.ensures.program)
+    (subst (λ (budget : ℕ). IsSafe (context_size c.args.layout) c.in_ok-program.program budget) (sym c.in_ok-kept.ensures.budget) c.in_ok-budget.ensures.runnable.safe)
 
 pub returns-clause-verified : goal.returns-clause-verified
 returns-clause-verified c = record {
   spelled = subst (λ (slots : List Slot). Spells c.args.bytes.now slots) (sym c.in_ok-kept.ensures.program) c.in_ok-program.ensures.program;
-  accepted = subst IsAccepted (sym c.in_ok-kept.ensures.program) c.in_ok-budget.ensures.accepted;
+  accepted =
+      subst (λ (layout : Layout). IsAccepted layout c.in_ok-kept.field-0.slots) (sym c.in_ok-kept.ensures.layout)
+      (subst (IsAccepted c.args.layout) (sym c.in_ok-kept.ensures.program) c.in_ok-budget.ensures.accepted);
   budget =
       subst (λ (slots : List Slot). IsBudget slots c.in_ok-kept.field-0.budget) (sym c.in_ok-kept.ensures.program)
       (subst (λ (budget : ℕ). IsBudget c.in_ok-program.program budget) (sym c.in_ok-kept.ensures.budget) c.in_ok-budget.ensures.budget);
 }
+
+pub returns-clause-layout : goal.returns-clause-layout
+returns-clause-layout c = c.in_ok-kept.ensures.layout

@@ -1,6 +1,6 @@
 use Rattle.std.proofs.Common.{arith, sym}
 use Rattle.book.specs.Seen.{seen}
-use Rattle.desk.proofs.Counting.{entries_counted}
+use Rattle.book.proofs.Counting.{entries_counted}
 use Rattle.desk.proofs.Descent.{of_same, applied_opening}
 use Rattle.desk.proofs.kept.Kept.apply.Goals as goal
 

@@ -2,7 +2,7 @@ use Rattle.std.proofs.Common.{◌≡◌, arith, sym, subst, suc}
 use Rattle.service_profile.specs.Events.{History}
 use Rattle.service_profile.specs.Histories.{past_of, next_line}
 use Rattle.desk.specs.Kept.{IsKept}
-use Rattle.desk.proofs.Counting.{cuts_go_on}
+use Rattle.book.proofs.Counting.{cuts_go_on}
 use Rattle.desk.proofs.Descent.{of_cut, none_cut, has_left}
 use Rattle.desk.proofs.kept.Kept.cut.Goals as goal
 

@@ -1,5 +1,5 @@
 use Rattle.std.proofs.Common.{◌≡◌, arith}
-use Rattle.desk.proofs.Counting.{rolls_go_on}
+use Rattle.book.proofs.Counting.{rolls_go_on}
 use Rattle.desk.proofs.Descent.{of_same, rolled_opening}
 use Rattle.service_profile.specs.Histories.{past_of, next_line}
 use Rattle.desk.proofs.kept.Kept.roll.Goals as goal

@@ -1,0 +1,101 @@
+-- What is said of the tickets where the newest one lies beside the others.
+use Rattle.std.proofs.Common.{◌≡◌, ℕ, min, ◌<◌, ◌==◌, ◌||◌, not, Bool, true, false, cond, Option, Some, None, List, [], ◌∷◌, ◌++◌, arith, refl, sym, ap, subst, ◌∙◌, Less}
+use Rattle.std.proofs.lemmas.Bool.Decides.{nat_tests}
+use Rattle.std.proofs.lemmas.List.Elements.{filter-append}
+use Rattle.std.proofs.lemmas.List.Sums.{fold-append}
+use Rattle.std.proofs.lemmas.Map.Keys.{IsStrictlyIncreasing-from_sorted, sorted_from_strictly_increasing}
+use Rattle.std.specs.Cmp.{nat_cmp_is}
+use Rattle.std.specs.List.{AllByRecursion, filter}
+use Rattle.std.specs.List.Sorted.{IsStrictlySortedBy}
+use Rattle.std.specs.Ordering.{nat_cmp}
+use Rattle.service_profile.specs.Answers.{least_version}
+use Rattle.service_profile.specs.Machine.{open_ticket, is_open}
+use Rattle.service_profile.specs.declared.tickets.OpenTicket.{OpenTicket}
+use Rattle.registry.specs.Newest.{with_newest, IsNewest, has_number}
+use Rattle.registry.specs.Registries.{Ascend}
+use Rattle.registry.proofs.Entries.{or_last, open_last, or_none, is_open_last, same_number, numbers_of, numbers_last, sorted_last}
+use Rattle.registry.proofs.Keeping.{fewer}
+
+abbrev pub AreBelow : ℕ → List OpenTicket → Type 0
+AreBelow n tickets = AllByRecursion (λ ticket. ticket.number < n) tickets
+
+below_differs : (k n : ℕ) → k < n → (k == n) ≡ false
+below_differs k n less = grind (arith, nat_tests)
+
+-- none of them has a number that is above all of theirs
+none_below : (n : ℕ) (ts : List OpenTicket) → AreBelow n ts → open_ticket ts n ≡ None
+none_below n [] below = refl
+none_below n (t ∷ ts) below = ap (λ (b : Bool). cond b (Some t) (open_ticket ts n)) (below_differs t.number n below.0) ∙ none_below n ts below.1
+
+at_number : (t : OpenTicket) (n : ℕ) (ts : List OpenTicket) → (t.number == n) ≡ true → AreBelow t.number ts → AreBelow n ts
+at_number t n ts same below = subst (λ (m : ℕ). AreBelow m ts) (same_number n t.number same) below
+
+pub newest_found : (n : ℕ) (older : List OpenTicket) (newest : Option OpenTicket) → IsNewest older newest → has_number newest n ≡ true → newest ≡ open_ticket (with_newest older newest) n
+newest_found n older None is has = let bad : ◌≡◌ {A = Bool} false true = has in cc
+newest_found n older (Some t) is has =
+    sym (open_last n older t ∙ ap (λ (b : Bool). or_last (open_ticket older n) b t) has ∙ ap (λ (o : Option OpenTicket). or_last o true t) (none_below n older (at_number t n older has is)))
+
+pub older_found : (n : ℕ) (older : List OpenTicket) (newest : Option OpenTicket) → has_number newest n ≡ false → open_ticket older n ≡ open_ticket (with_newest older newest) n
+older_found n older None has = refl
+older_found n older (Some t) has = sym (open_last n older t ∙ ap (λ (b : Bool). or_last (open_ticket older n) b t) has ∙ or_none (open_ticket older n) t)
+
+either_way : (a b : Bool) → (a || (b || false)) ≡ (b || a)
+either_way true true = refl
+either_way true false = refl
+either_way false true = refl
+either_way false false = refl
+
+pub newest_or_older : (n : ℕ) (older : List OpenTicket) (newest : Option OpenTicket) → is_open (with_newest older newest) n ≡ (has_number newest n || is_open older n)
+newest_or_older n older None = refl
+newest_or_older n older (Some t) = is_open_last n older t ∙ either_way (is_open older n) (t.number == n)
+
+pub least_of_both : (current : ℕ) (older : List OpenTicket) (t : OpenTicket) → least_version current (older ++ t ∷ []) ≡ min (least_version current older) t.version
+least_of_both current older t = fold-append (λ (least : ℕ) (ticket : OpenTicket). min least ticket.version) current older (t ∷ [])
+
+less_all : (n : ℕ) (ts : List OpenTicket) → AreBelow n ts → AllByRecursion (λ m. nat_cmp m n ≡ Less) (numbers_of ts)
+less_all n [] below = tt
+less_all n (t ∷ ts) below = (sym (nat_cmp_is t.number n Less below.0), less_all n ts below.1)
+
+pub in_order_with : (older : List OpenTicket) (newest : Option OpenTicket) → Ascend older → IsNewest older newest → Ascend (with_newest older newest)
+in_order_with older None ascend is = ascend
+in_order_with older (Some t) ascend is =
+    IsStrictlyIncreasing-from_sorted (numbers_of (older ++ t ∷ []))
+    (subst (IsStrictlySortedBy nat_cmp) (sym (numbers_last older t)) (sorted_last (numbers_of older) t.number (sorted_from_strictly_increasing (numbers_of older) ascend) (less_all t.number older is)))
+
+stay_head : (t : OpenTicket) (b : Bool) (kept ts : List OpenTicket) → b ≡ false → kept ≡ ts → cond (not b) (t ∷ kept) kept ≡ t ∷ ts
+stay_head t true kept ts differs is = let bad : ◌≡◌ {A = Bool} true false = differs in cc
+stay_head t false kept ts differs is = ap (λ (us : List OpenTicket). t ∷ us) is
+
+abbrev others : ℕ → List OpenTicket → List OpenTicket
+others n ts = filter (λ ticket. not (ticket.number == n)) ts
+
+all_stay : (n : ℕ) (ts : List OpenTicket) → AreBelow n ts → others n ts ≡ ts
+all_stay n [] below = refl
+all_stay n (t ∷ ts) below = stay_head t (t.number == n) (others n ts) ts (below_differs t.number n below.0) (all_stay n ts below.1)
+
+dropped_last : (ts : List OpenTicket) (t : OpenTicket) (b : Bool) → b ≡ true → ts ++ cond (not b) (t ∷ []) [] ≡ ts
+dropped_last [] t true is = refl
+dropped_last (u ∷ ts) t true is = ap (λ (us : List OpenTicket). u ∷ us) (dropped_last ts t true refl)
+dropped_last ts t false is = let bad : ◌≡◌ {A = Bool} false true = is in cc
+
+kept_last : (ts : List OpenTicket) (t : OpenTicket) (b : Bool) → b ≡ false → ts ++ cond (not b) (t ∷ []) [] ≡ ts ++ t ∷ []
+kept_last ts t true is = let bad : ◌≡◌ {A = Bool} true false = is in cc
+kept_last ts t false is = refl
+
+-- where the newest one ends, the older ones are left
+pub newest_ended : (n : ℕ) (older : List OpenTicket) (newest : Option OpenTicket) → IsNewest older newest → has_number newest n ≡ true → older ≡ others n (with_newest older newest)
+newest_ended n older None is has = let bad : ◌≡◌ {A = Bool} false true = has in cc
+newest_ended n older (Some t) is has =
+    sym (filter-append (λ (ticket : OpenTicket). not (ticket.number == n)) older (t ∷ [])
+    ∙ ap (λ (ts : List OpenTicket). ts ++ cond (not (t.number == n)) (t ∷ []) []) (all_stay n older (at_number t n older has is))
+    ∙ dropped_last older t (t.number == n) has)
+
+-- and else it stays behind those of the older ones that are left
+pub older_ended : (n : ℕ) (older : List OpenTicket) (newest : Option OpenTicket) → has_number newest n ≡ false → with_newest (others n older) newest ≡ others n (with_newest older newest)
+older_ended n older None has = refl
+older_ended n older (Some t) has =
+    sym (filter-append (λ (ticket : OpenTicket). not (ticket.number == n)) older (t ∷ []) ∙ kept_last (others n older) t (t.number == n) has)
+
+pub still_newest : (n : ℕ) (older : List OpenTicket) (newest : Option OpenTicket) → IsNewest older newest → IsNewest (others n older) newest
+still_newest n older None is = tt
+still_newest n older (Some t) is = fewer (λ (ticket : OpenTicket). ticket.number < t.number) (λ (ticket : OpenTicket). not (ticket.number == n)) older is

@@ -1,6 +1,0 @@
-use Rattle.std.proofs.Common.{sym, ◌∙◌}
-use Rattle.registry.proofs.Entries.{least_over}
-use Rattle.registry.proofs.tickets.OpenTickets.least_version.Goals as goal
-
-pub returns : goal.returns
-returns c = rw (← c.self.view_is) (c.least_of.ensures ∙ sym (least_over c.args.current c.self.inside.terms.entries))
