@@ -12,9 +12,16 @@ const MOST_WORKERS: u64 = 64;
 fn unknown_key(alloc: Global, members: &Map<String, Value>) -> Result<Option<String>, AllocError> {
     for key in members.keys() {
         let key = key.as_str();
-        if !matches!(key, "listen" | "workers" | "connections" | "services") {
+        if !matches!(
+            key,
+            "listen" | "workers" | "keeper" | "connections" | "services"
+        ) {
             let place = Place { path: "", key };
-            return unknown(alloc, place, "listen, workers, connections and services");
+            return unknown(
+                alloc,
+                place,
+                "listen, workers, keeper, connections and services",
+            );
         }
     }
     Ok(None)
@@ -37,6 +44,21 @@ fn address_mistake(alloc: Global, value: &Value) -> Result<Option<String>, Alloc
             found,
             "an IP address with a port, as \"127.0.0.1:8080\"",
         ),
+    }
+}
+
+/// Returns what is wrong with the keeper, where the file has one.
+fn keeper_mistake(alloc: Global, value: &Value) -> Result<Option<String>, AllocError> {
+    let place = Place {
+        path: "",
+        key: "keeper",
+    };
+    let Some(found) = value.get("keeper") else {
+        return Ok(None);
+    };
+    match found.as_str() {
+        Some("lock" | "slot") => Ok(None),
+        _ => wrong(alloc, place, found, "\"lock\" or \"slot\""),
     }
 }
 
@@ -75,6 +97,9 @@ fn mistake_in(alloc: Global, value: &Value) -> Result<Option<String>, AllocError
         return Ok(Some(mistake));
     }
     if let Some(mistake) = count_mistake(alloc, value, "workers", 1, MOST_WORKERS)? {
+        return Ok(Some(mistake));
+    }
+    if let Some(mistake) = keeper_mistake(alloc, value)? {
         return Ok(Some(mistake));
     }
     if let Some(mistake) = count_mistake(alloc, value, "connections", 0, u64::MAX)? {

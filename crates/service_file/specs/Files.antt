@@ -3,7 +3,7 @@ use Rattle.std.specs.Prelude.{ℕ, suc, List, [], ◌∷◌, ◌++◌, length, B
 use Rattle.std.specs.List.{list_all, list_any}
 use Rattle.std.specs.Str.{bytes_eq}
 use Rattle.serde_json.specs.Data.{Data, Items, no_items, item, Members, no_members, member}
-use Rattle.serde_json.specs.Find.{get, as_array, as_object}
+use Rattle.serde_json.specs.Find.{get, as_array, as_object, as_str}
 use Rattle.bpf_profile.specs.declared.layout.Layout.{Layout}
 use Rattle.helpers.specs.Json.{◌>>=◌, if_there}
 use Rattle.service_profile.specs.declared.configuration.ConfigParts.{ConfigParts}
@@ -13,6 +13,8 @@ use Rattle.requests.specs.Layouts.{layout_of}
 use Rattle.requests.specs.Programs.{program_of}
 use Rattle.texts.specs.JsonText.{json_of}
 use Rattle.requests.specs.Values.{number_at, text_at}
+use Rattle.service_file.specs.declared.keepers.Keeper.{Keeper}
+use Rattle.service_file.specs.declared.keepers.Keeper.TheVariants.{Lock, Slot}
 
 -- a service: its name, its configuration, its program's bytes, where the file has a program, and the layout that the program is for
 pub record ServiceData : Type 0 where
@@ -21,10 +23,11 @@ pub record ServiceData : Type 0 where
   pub program : Option (List ℕ)
   pub layout : Layout
 
--- the whole file: the text of the address, how many workers, after how many connections serving ends, and the services
+-- the whole file: the text of the address, how many workers, how the books are kept between their calls, after how many connections serving ends, and the services
 pub record FileData : Type 0 where
   pub listen : List ℕ
   pub workers : ℕ
+  pub keeper : Keeper
   pub connections : ℕ
   pub services : List ServiceData
 
@@ -45,7 +48,7 @@ has_known_keys is_known d = has_known_members is_known (as_object d)
 
 unfoldable pub is_file_key : List ℕ → Bool
 is_file_key key =
-    bytes_eq key (codes "listen") || (bytes_eq key (codes "workers") || (bytes_eq key (codes "connections") || bytes_eq key (codes "services")))
+    bytes_eq key (codes "listen") || (bytes_eq key (codes "workers") || (bytes_eq key (codes "connections") || (bytes_eq key (codes "services") || bytes_eq key (codes "keeper"))))
 
 unfoldable pub is_service_key : List ℕ → Bool
 is_service_key key = bytes_eq key (codes "name") || (bytes_eq key (codes "config") || (bytes_eq key (codes "program") || bytes_eq key (codes "layout")))
@@ -125,15 +128,27 @@ services_at d = option_and_then services_of (option_and_then as_array (get (code
 abbrev pub workers_at : Data → Option ℕ
 workers_at d = option_and_then (kept_if is_count) (number_at (codes "workers") d)
 
--- None where the value is no object, lacks a key, has one of another name, or a value that can't be used
+-- the keepers by their names
+unfoldable pub keeper_named : List ℕ → Option Keeper
+keeper_named name =
+    if bytes_eq name (codes "lock") then Some Lock
+    else (if bytes_eq name (codes "slot") then Some Slot
+    else None)
+
+-- the lock where the key is missing; None where another value than the name of a keeper stands there
+abbrev pub keeper_at : Data → Option Keeper
+keeper_at d = if_there Lock (λ v. option_and_then keeper_named (as_str v)) (get (codes "keeper") d)
+
+-- None where the value is no object, lacks a key other than the keeper, has one of another name, or a value that can't be used
 unfoldable pub file_of : Data → Option FileData
 file_of d =
     if has_known_keys is_file_key d then (do
       listen ← text_at (codes "listen") d
       workers ← workers_at d
+      keeper ← keeper_at d
       connections ← number_at (codes "connections") d
       services ← services_at d
-      Some (record { listen = listen; workers = workers; connections = connections; services = services }))
+      Some (record { listen = listen; workers = workers; keeper = keeper; connections = connections; services = services }))
     else None
 
 -- the same of JSON text

@@ -11,6 +11,7 @@ abbrev pub file_data : FilePart → FileData
 file_data part = record {
   listen = string_bytes part.listen;
   workers = part.workers;
+  keeper = part.keeper;
   connections = part.connections;
   services = map service_data part.services.items;
 }

@@ -36,6 +36,7 @@ HasRefusal (given ∷ later) = ((fault : Fault) × IsRefused given.layout (bytes
 pub record AreSettings (settings : Settings) (file : FileData) : Type 0 where
   pub address : IsSocketText file.listen settings.listen
   pub threads : settings.workers ≡ file.workers
+  pub kept : settings.keeper ≡ file.keeper
   pub ends : settings.connections ≡ file.connections
   pub served : AreServices settings.services.items file.services
 

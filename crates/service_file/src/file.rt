@@ -4,6 +4,7 @@ ghost use Rattle.serde_json.specs.View.{view};
 ghost use Rattle.service_file.specs.Files.{workers_at, file_of, file_in};
 ghost use Rattle.service_file.specs.Parts.{file_data};
 
+use crate::keepers::{Keeper, keeper_at};
 use crate::keys::has_file_keys;
 use crate::names::is_count;
 use crate::services::{ServicePart, services_at};
@@ -18,6 +19,7 @@ pub(crate) struct FilePart {
     /// The text of the address.
     pub listen: String,
     pub workers: u64,
+    pub keeper: Keeper,
     pub connections: u64,
     pub services: Vec<ServicePart>,
 }
@@ -48,6 +50,9 @@ fn file(alloc: Global, value: &Value) -> Result<Option<FilePart>, AllocError>
     let Some(workers) = workers_at(value) else {
         return Ok(None);
     };
+    let Some(keeper) = keeper_at(value) else {
+        return Ok(None);
+    };
     let Some(connections) = number_at(value, "connections") else {
         return Ok(None);
     };
@@ -58,6 +63,7 @@ fn file(alloc: Global, value: &Value) -> Result<Option<FilePart>, AllocError>
     Ok(Some(FilePart {
         listen,
         workers,
+        keeper,
         connections,
         services,
     }))

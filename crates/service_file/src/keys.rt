@@ -11,7 +11,10 @@ use serde_json::{Map, Value};
 fn is_file_key(key: &str) -> bool
     ensures { result ≡ is_file_key key.now }
 {
-    matches!(key, "listen" | "workers" | "connections" | "services")
+    matches!(
+        key,
+        "listen" | "workers" | "connections" | "services" | "keeper"
+    )
 }
 
 #[tactic(auto, unfolding(crate::specs::Files::is_service_key))]

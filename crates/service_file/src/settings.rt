@@ -7,6 +7,7 @@ ghost use Rattle.service_file.specs.Parts.{service_data, file_data};
 ghost use Rattle.service_file.specs.Settled.{bytes_of, IsService, AreServices, HasRefusal, AreSettings, CannotSettle, IsRead, HasCounts};
 
 use crate::file::{FilePart, file_in};
+use crate::keepers::Keeper;
 use crate::services::ServicePart;
 use book::Config;
 use bpf_profile::Layout;
@@ -32,6 +33,8 @@ pub struct Settings {
     pub listen: SocketAddr,
     /// How many connections are served at once, 1 to 64.
     pub workers: u64,
+    /// How the books are kept between the workers' calls.
+    pub keeper: Keeper,
     /// After how many connections serving ends; 0 for never.
     pub connections: u64,
     /// 1 to 64 services, no two of one name.
@@ -129,6 +132,7 @@ fn settled(alloc: Global, part: FilePart) -> Result<Option<Settings>, AllocError
     Ok(Some(Settings {
         listen,
         workers: part.workers,
+        keeper: part.keeper,
         connections: part.connections,
         services,
     }))
@@ -136,8 +140,8 @@ fn settled(alloc: Global, part: FilePart) -> Result<Option<Settings>, AllocError
 
 /// The settings that a file's text gives.
 ///
-/// The text is a JSON object: `listen` is an IP address with its port, as text; `workers`, 1 to 64;
-/// `connections`, below 2^64, after how many connections serving ends, or 0 for never; and `services`, an
+/// The text is a JSON object: `listen` is an IP address with its port, as text; `workers`, 1 to 64; `keeper`, `lock` or
+/// `slot`, the lock where it is missing; `connections`, below 2^64, after how many connections serving ends, or 0 for never; and `services`, an
 /// array of 1 to 64 objects with `name` (1 to 64 small letters, digits, hyphens and underscores, each name
 /// once), `config` (as `requests::config` reads it; the defaults where it is missing), `program`
 /// (hexadecimal, in which blanks don't count; the default classifier where it is missing) and `layout` (the

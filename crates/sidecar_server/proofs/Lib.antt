@@ -4,3 +4,5 @@ pub mod Returning
 pub mod Seating
 pub mod Silence
 pub mod Endings
+pub mod Along
+pub mod SlotSeating

@@ -1,3 +1,4 @@
 pub mod Opened
+pub mod Slotted
 pub mod Served
 pub mod Server

@@ -19,7 +19,9 @@ use Rattle.http_pool.specs.declared.workers.Worker.{Worker}
 use Rattle.http_pool.specs.Workers.{HaveWorked}
 use Rattle.service_file.specs.declared.settings.ServiceSettings.{ServiceSettings}
 use Rattle.service_file.specs.declared.settings.Settings.{Settings}
+use Rattle.service_file.specs.declared.keepers.Keeper.TheVariants as keeper
 use Rattle.sidecar_server.specs.Opened.{AreOpened}
+use Rattle.sidecar_server.specs.Slotted.{HasServedAtSlots}
 
 -- the books of services, in their order
 abbrev pub books_of : List NamedBook → List History
@@ -76,8 +78,9 @@ HasServedAtDesk {C} ticks settings clock books counts =
     × (counts ≡ counts_of (seats_with later))
     × AreClosed (services_of settings.services.items) books (seats_with later)
 
--- by one worker, or by many, each with a copy of the clock
+-- by one worker, or by many, each with a copy of the clock, who keep the books behind locks or in slots as the settings say
 abbrev pub HasServedBy : {C : Type 0} → (C → ℕ → C → Type 0) → Settings → C → C → List History → List ℕ → Type 0
 HasServedBy ticks settings clock later books counts =
     ((settings.workers ≡ 1) × HasServedAlone ticks settings clock later books × (counts ≡ []))
-    ⊎ ((1 < settings.workers) × HasServedAtDesk ticks settings clock books counts × (later ≡ clock))
+    ⊎ ((1 < settings.workers) × (settings.keeper ≡ keeper.Lock) × HasServedAtDesk ticks settings clock books counts × (later ≡ clock))
+    ⊎ ((1 < settings.workers) × (settings.keeper ≡ keeper.Slot) × HasServedAtSlots ticks settings clock books counts × (later ≡ clock))

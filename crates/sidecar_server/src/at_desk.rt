@@ -26,7 +26,7 @@ use std::time;
 use verifier::Verified;
 
 /// What a desk opens its services by: the name, the configuration and the first program of each.
-fn opened_by(
+pub(crate) fn opened_by(
     alloc: Global,
     services: Vec<ServiceSettings>,
 ) -> Result<Vec<(String, Config, Verified)>, AllocError>
@@ -83,7 +83,7 @@ fn workers<'a, L: Ledger, M: Ledger + Offered, R: Wait, C: Clock + Copy>(
 
 /// Serves the connections of a listener by workers, who come back. Where the system runs fewer workers at once, it
 /// says so first. The error is want of memory.
-fn serve_by_pool<
+pub(crate) fn serve_by_pool<
     R: Threads + Wait + time::Clock + Sync,
     A: Answerer + Send + Drop,
     C: Clock + Send + Drop,

@@ -3,6 +3,7 @@
 #![tactic(auto)]
 
 mod at_desk;
+mod at_slots;
 mod clock;
 mod notices;
 mod opening;

@@ -7,6 +7,7 @@ ghost use Rattle.sidecar_server.specs.Server.{refused_line, IsListening, IsUsabl
 ghost use Rattle.sidecar_server.specs.Served.{HasServedAlone, HasServedBy};
 
 use crate::at_desk::serve_at_desk;
+use crate::at_slots::serve_at_slots;
 use crate::notices::{notify_error, notify_failure, notify_mistake};
 use crate::opening::{books_of, open};
 use book::Book;
@@ -14,7 +15,7 @@ use counted_io::Counted;
 use http_front::Clock;
 use http_pool::serve_connections;
 use refusals::{RefusalNumber, RefusalText};
-use service_file::{Settings, read_settings};
+use service_file::{Keeper, Settings, read_settings};
 use std::alloc::Global;
 use std::fs::{File, Files};
 use std::io::{ErrorKind, Read, Write};
@@ -225,7 +226,7 @@ where
     }
 }
 
-/// Opens the services, listens and serves, by one worker or by many.
+/// Opens the services, listens and serves, by one worker or by many, who keep the books as the settings say.
 fn serve_settings<R, O: Write, E: Write, C: Clock + Copy + Send>(
     rt: &R,
     alloc: Global,
@@ -246,16 +247,19 @@ where
     if settings.workers == 1 {
         return serve_alone(rt, alloc, settings, out, err, clock);
     }
-    serve_at_desk::<Brand, Brand, R, O, E, C>(
-        rt,
-        alloc,
-        Blank::new(193),
-        Blank::new(193),
-        settings,
-        out,
-        err,
-        *clock,
-    )
+    match settings.keeper {
+        Keeper::Lock => serve_at_desk::<Brand, Brand, R, O, E, C>(
+            rt,
+            alloc,
+            Blank::new(193),
+            Blank::new(193),
+            settings,
+            out,
+            err,
+            *clock,
+        ),
+        Keeper::Slot => serve_at_slots(rt, alloc, settings, out, err, *clock),
+    }
 }
 
 /// Prints that a file's text can't be used, and then what is wrong with it on `err`.
@@ -298,9 +302,11 @@ where
     // on, by as many workers as the file says. The same holds where the listener accepts no more. The books that come
     // back are those that were served. By one worker they stand where its connections left them. By many, a caller can
     // rest on this: each has a legal and sound history of one of the file's services, with its configuration and its
-    // first program, after some cuts; and entries and cuts are just those that the workers' seats count, so that none
-    // is missing but what rolls handed out, and none was made that no worker's call made. It is done only where the
-    // file says after how many connections. That a connection was served at all no clause can say.
+    // first program, after some cuts. With locks, entries and cuts are just those that the workers' seats count, so
+    // that none is missing but what rolls handed out, and none was made that no worker's call made. With slots, the
+    // books stand in the order of the services, and every answer of every worker was given within the histories of
+    // these books. It is done only where the file says after how many connections. That a connection was served at
+    // all no clause can say.
     ensures done { IsServing result.status → HasServedFile C.ticks text.now result.status clock.old clock.new (O.contents out.old.inner) (O.contents out.new.inner) result.books.items result.counts.items }
     // Where it is refused, the refusal was printed: the text can't be used, or it can and the address can't be bound.
     ensures refused { (number : RefusalNumber) → result.status ≡ ServerStatus.Refused number → IsFileRefused text.now number × Appends (O.contents out.old.inner) (O.contents out.new.inner) (refused_line number) }

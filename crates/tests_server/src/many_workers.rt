@@ -1,5 +1,6 @@
 //! A server with four workers, which is to serve four connections, and whose five clients are connected at the same
-//! time. Of the first four the client that connected last asks first; the fifth is one too many.
+//! time. Of the first four the client that connected last asks first; the fifth is one too many. The books lie behind
+//! locks, or in slots.
 use crate::checks::{is_true_at, same};
 use crate::fixtures::is_unanswered;
 use counted_io::Counted;
@@ -15,8 +16,11 @@ use std::thread::Threads;
 use std::time::Duration;
 use std::{io, thread, time};
 
-const FILE: &str =
+const LOCKS: &str =
     "{\"listen\":\"127.0.0.1:0\",\"workers\":4,\"connections\":4,\"services\":[{\"name\":\"pay\"}]}";
+
+const SLOTS: &str =
+    "{\"listen\":\"127.0.0.1:0\",\"workers\":4,\"keeper\":\"slot\",\"connections\":4,\"services\":[{\"name\":\"pay\"}]}";
 
 const ACQUIRE: &str = "POST /v1/services/pay/acquire HTTP/1.1\r\n\r\n";
 
@@ -57,8 +61,8 @@ impl<'a> Write for Teller<'a> {
 /// How the server ended, the number of the last entry in its one journal, and what its workers' seats count.
 type Ended = (ServerStatus, u64, Vec<u64>);
 
-/// Serves by the file, and tells the port.
-fn serve<R>(rt: &R, alloc: Global, port: &AtomicU64) -> Ended
+/// Serves by a file, and tells the port.
+fn serve<R>(rt: &R, alloc: Global, file: &str, port: &AtomicU64) -> Ended
 where
     R: Threads + Wait + Sync + time::Clock + Net<Listener = TcpListener, Stream = TcpStream>,
 {
@@ -68,7 +72,7 @@ where
     });
     let mut err = Counted::new(Vec::new(alloc));
     let mut clock = SystemClock::new(rt);
-    let end = serve_file(rt, alloc, FILE.as_bytes(), &mut out, &mut err, &mut clock);
+    let end = serve_file(rt, alloc, file.as_bytes(), &mut out, &mut err, &mut clock);
     let last = match end.books.as_slice() {
         [book] => book.last_number(),
         _ => 0,
@@ -152,8 +156,8 @@ where
     })
 }
 
-/// A server in a thread of its own, and its clients.
-fn serve_and_call<R>(rt: &R, alloc: Global) -> (Ended, io::Result<Answers>)
+/// A server in a thread of its own, by a file, and its clients.
+fn serve_and_call<R>(rt: &R, alloc: Global, file: &str) -> (Ended, io::Result<Answers>)
 where
     R: Threads + Wait + Sync + time::Clock + Net<Listener = TcpListener, Stream = TcpStream>,
 {
@@ -161,7 +165,7 @@ where
     let port = &told;
     thread::join(
         rt,
-        move || serve(rt, alloc, port),
+        move || serve(rt, alloc, file, port),
         move || call(rt, alloc, port),
     )
 }
@@ -193,25 +197,42 @@ fn have_seats(rt: &impl Abort, journal: &[u8], seats: &[&str]) {
     }
 }
 
-#[test]
-fn four_workers_serve_at_once(rt: HostRuntime) -> Result<(), Fail> {
-    let alloc = rt.alloc();
-    let ((status, last, counts), answers) = serve_and_call(&rt, alloc);
-    same(&rt, status, ServerStatus::Done);
+/// Four workers serve at once by a file, each by a seat of its own.
+fn four_workers_serve<R>(rt: &R, alloc: Global, file: &str) -> Result<(), Fail>
+where
+    R: Abort
+        + Threads
+        + Wait
+        + Sync
+        + time::Clock
+        + Net<Listener = TcpListener, Stream = TcpStream>,
+{
+    let ((status, last, counts), answers) = serve_and_call(rt, alloc, file);
+    same(rt, status, ServerStatus::Done);
     // The desk was closed with all its seats: its journal has the four entries that they count, and no fifth.
-    same(&rt, last, 4);
-    same(&rt, counts.as_slice(), [1, 1, 1, 1].as_slice());
+    same(rt, last, 4);
+    same(rt, counts.as_slice(), [1, 1, 1, 1].as_slice());
     let Answers {
         acquired,
         journal,
         further,
     } = answers?;
-    are_in_order(&rt, alloc, &acquired);
+    are_in_order(rt, alloc, &acquired);
     have_seats(
-        &rt,
+        rt,
         &journal,
         &["\"seat\":1", "\"seat\":2", "\"seat\":3", "\"seat\":4"],
     );
-    same(&rt, is_unanswered(alloc, &further), true);
+    same(rt, is_unanswered(alloc, &further), true);
     Ok(())
+}
+
+#[test]
+fn four_workers_serve_at_once(rt: HostRuntime) -> Result<(), Fail> {
+    four_workers_serve(&rt, rt.alloc(), LOCKS)
+}
+
+#[test]
+fn four_workers_serve_at_once_from_slots(rt: HostRuntime) -> Result<(), Fail> {
+    four_workers_serve(&rt, rt.alloc(), SLOTS)
 }

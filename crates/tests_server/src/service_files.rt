@@ -2,7 +2,7 @@
 use crate::checks::{is_true, is_true_at, same, same_at};
 use config_mistakes::{config_mistake, file_mistake};
 use requests::config;
-use service_file::{Settings, read_settings};
+use service_file::{Keeper, Settings, read_settings};
 use std::alloc::{AllocError, Global};
 use std::process::Abort;
 use texts::json;
@@ -48,6 +48,32 @@ fn addresses_may_be_of_version_6(rt: HostRuntime) {
     let settings = read(&rt, rt.alloc(), text).expect(&rt, "a file");
     is_true(&rt, settings.listen.is_ipv6());
     same(&rt, settings.connections, u64::MAX);
+}
+
+/// The keeper that a file with this text between its workers and its connections gives; none where it can't be used.
+fn keeper_of(rt: &impl Abort, alloc: Global, part: &str) -> Option<Keeper> {
+    let text = format!(in alloc;
+        "{{\"listen\":\"127.0.0.1:1\",\"workers\":2,{part}\"connections\":0,\"services\":[{{\"name\":\"pay\"}}]}}"
+    );
+    let text = text.expect(rt, "ample memory");
+    Some(read(rt, alloc, &text)?.keeper)
+}
+
+#[test]
+fn keepers_are_read(rt: HostRuntime) {
+    let alloc = rt.alloc();
+    for row in [
+        ("", Some(Keeper::Lock)),
+        ("\"keeper\":\"lock\",", Some(Keeper::Lock)),
+        ("\"keeper\":\"slot\",", Some(Keeper::Slot)),
+        ("\"keeper\":\"Slot\",", None),
+        ("\"keeper\":\"\",", None),
+        ("\"keeper\":null,", None),
+        ("\"keeper\":1,", None),
+    ] {
+        let (part, keeper) = row;
+        same_at(&rt, keeper_of(&rt, alloc, part), keeper, part);
+    }
 }
 
 /// A key of a configuration, its least and its greatest value, and what stands before it in the object.

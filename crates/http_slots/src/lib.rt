@@ -1,0 +1,6 @@
+//! Services in slots, as an answerer over HTTP: each worker asks by a seat of its own.
+#![tactic(auto)]
+
+mod seated;
+
+pub use seated::SlotAnswerer;

@@ -1,0 +1,95 @@
+-- What a seat had seen before a request begins the histories of the books, or is of earlier openings, where that holds of what it has seen after it.
+use Rattle.std.proofs.Common.{◌≡◌, ℕ, zero, suc, List, [], ◌∷◌, Option, Some, None, Result, Ok, Err, map, refl, sym, ap, ◌∙◌, subst, inl, inr}
+use Rattle.std.specs.Prelude.{slice_get, slice_set}
+use Rattle.service.specs.Asked.{RequestData, acquire, report, release, install, move, reset, read, page, cut, roll, ResponseData, replies, refuses_program, shows, pages, hands}
+use Rattle.service.specs.Asking.{IsFinishServed, IsServedBy}
+use Rattle.service.specs.declared.request.Report.{Report}
+use Rattle.bpf_profile.specs.Programs.{VerifiedProgram}
+use Rattle.refusals.specs.declared.RefusalNumber.{RefusalNumber}
+use Rattle.service_profile.specs.declared.replies.Reply.{Reply}
+use Rattle.service_profile.specs.Calls.{CallData, CallAnswer, applies, IsCalled}
+use Rattle.service_profile.specs.Calls as call
+use Rattle.service_profile.specs.Events.{History, acquires, finishes, releases, installs, moves, resets}
+use Rattle.slot_table.specs.declared.view.View.{View}
+use Rattle.slot_table.specs.Rules.{BeginsLast}
+use Rattle.slot_table.proofs.Backwards.{called_back}
+use Rattle.slot_desk.specs.Calls.{ServiceSeatData, IsAskedAt, IsCalledAt, IsTurnedAway}
+use Rattle.slot_desk.specs.Closing.{RowBegins, SeatBegins}
+use Rattle.slot_desk.specs.Seats.{SeatData}
+use Rattle.slot_desk.specs.Slots.{seen_of}
+
+-- ---- calls
+
+row_back : (books : List History) (views : List View) (service : ℕ) (v w : View) → slice_get views service ≡ Some v → ((last : History) → BeginsLast last w.seen → BeginsLast last v.seen)
+    → RowBegins books (map seen_of (slice_set views service w)) → RowBegins books (map seen_of views)
+row_back [] views service v w is back h = tt
+row_back (b ∷ bs) [] service v w is back h = tt
+row_back (b ∷ bs) (u ∷ us) zero v w is back h =
+    let some : ◌≡◌ {A = Option View} (Some u) (Some v) = is in
+    let same : u ≡ v = cc in
+    (subst (λ (x : View). BeginsLast b x.seen) (sym same) (back b h.0), h.1)
+row_back (b ∷ bs) (u ∷ us) (suc service) v w is back h = (h.0, row_back bs us service v w is back h.1)
+
+called_seat_back : (books : List History) (service : ℕ) (seat : SeatData) (c : CallData) (given : CallAnswer) (after : SeatData) → IsCalledAt service seat c given after → SeatBegins books after → SeatBegins books seat
+called_seat_back books service seat c given after (v, w, is, did, left) h =
+    row_back books seat.views service v w is (λ last. called_back last seat.number c given v w did) (subst (SeatBegins books) left h)
+
+-- where a seat is turned away nothing changes
+turned : (seat : SeatData) (c : CallData) (given : CallAnswer) (after : SeatData) → IsTurnedAway seat c given after → after ≡ seat
+turned seat (applies moment event) (call.replies r) after is = is.2
+turned seat (applies moment event) (call.finds found) after is = absurd is
+turned seat (applies moment event) (call.shows shown) after is = absurd is
+turned seat (applies moment event) (call.hands found) after is = absurd is
+turned seat (call.looks ticket) given after is = absurd is
+turned seat (call.reads moment) given after is = absurd is
+turned seat (call.pages from) given after is = absurd is
+turned seat call.cuts given after is = absurd is
+turned seat (call.rolls last) given after is = absurd is
+
+-- what a step of a seat at a service keeps: its service and its tables, and what it had seen begins the books where what it then has seen does
+pub record Keeps (at after : ServiceSeatData) : Type 0 where
+  pub service : after.service ≡ at.service
+  pub tables : after.seat.tables ≡ at.seat.tables
+  pub begins : (books : List History) → SeatBegins books after.seat → SeatBegins books at.seat
+
+pub keeps_itself : (at after : ServiceSeatData) → after ≡ at → Keeps at after
+keeps_itself at after is = record {
+  service = ap (λ (a : ServiceSeatData). a.service) is;
+  tables = ap (λ (a : ServiceSeatData). a.seat.tables) is;
+  begins = λ books h. subst (λ (a : ServiceSeatData). SeatBegins books a.seat) is h;
+}
+
+keeps_on : (at between after : ServiceSeatData) → Keeps at between → Keeps between after → Keeps at after
+keeps_on at between after first second = record {
+  service = second.service ∙ first.service;
+  tables = second.tables ∙ first.tables;
+  begins = λ books h. first.begins books (second.begins books h);
+}
+
+asked_keeps : (at : ServiceSeatData) (c : CallData) (given : CallAnswer) (after : ServiceSeatData) → IsAskedAt at c given after → Keeps at after
+asked_keeps at c given after (stays, inl away) =
+    let same = turned at.seat c given after.seat away in
+    record { service = stays; tables = ap (λ (s : SeatData). s.tables) same; begins = λ books h. subst (SeatBegins books) same h }
+asked_keeps at c given after (stays, inr called) =
+    record { service = stays; tables = ap (λ (s : SeatData). s.tables) called.4; begins = λ books h. called_seat_back books at.service at.seat c given after.seat called h }
+
+-- ---- requests
+
+finish_keeps : (at : ServiceSeatData) (moment : ℕ) (reported : Report) (found : Result VerifiedProgram RefusalNumber) (r : Reply) (after : ServiceSeatData) → IsFinishServed IsAskedAt at moment reported found r after → Keeps at after
+finish_keeps at moment reported (Err refused) r after ended = keeps_itself at after ended.1
+finish_keeps at moment reported (Ok program) r after ended = asked_keeps at (applies moment (finishes ended.0 reported.ticket)) (call.replies r) after ended.4
+
+pub served_keeps : (at : ServiceSeatData) (moment : ℕ) (wanted : RequestData) (given : ResponseData) (after : ServiceSeatData) → IsServedBy IsAskedAt at moment wanted given after → Keeps at after
+served_keeps at moment acquire (replies r) after is = asked_keeps at (applies moment acquires) (call.replies r) after is
+served_keeps at moment (report reported) (replies r) after (found, between, looked, ended) =
+    keeps_on at between after (asked_keeps at (call.looks reported.ticket) (call.finds found) between looked) (finish_keeps between moment reported found r after ended)
+served_keeps at moment (release ticket) (replies r) after is = asked_keeps at (applies moment (releases ticket)) (call.replies r) after is
+served_keeps at moment (install bytes layout) (refuses_program refused) after is = keeps_itself at after is.1
+served_keeps at moment (install bytes layout) (replies r) after (program, verified, seen, safe, is) = asked_keeps at (applies moment (installs program)) (call.replies r) after is
+served_keeps at moment (move state) (replies r) after is = asked_keeps at (applies moment (moves state)) (call.replies r) after is
+served_keeps at moment reset (replies r) after is = asked_keeps at (applies moment resets) (call.replies r) after is
+served_keeps at moment read (shows shown) after is = asked_keeps at (call.reads moment) (call.shows shown) after is
+served_keeps at moment (page from) given after (found, is, told) = asked_keeps at (call.pages from) (call.hands found) after is
+served_keeps at moment cut given after (found, is, told) = asked_keeps at call.cuts (call.hands found) after is
+served_keeps at moment (roll last) given after (found, is, told) = asked_keeps at (call.rolls last) (call.hands found) after is
+served_keeps at moment wanted given after is = absurd is

@@ -1,0 +1,68 @@
+use Rattle.std.proofs.Common.{rules, arith, sym, ap, ◌∙◌, subst, ◌≡◌, ◌+◌, ◌++◌, List, length, map, reverse, replicate, vec_len, take, drop, Option}
+use Rattle.std.specs.List.{AllByRecursion}
+use Rattle.std.proofs.lemmas.List.{length-map, reverse-reverse}
+use Rattle.service_profile.specs.Events.{History}
+use Rattle.slot_table.specs.Places.{SlotData}
+use Rattle.slot_desk.specs.Desks.{DeskData}
+use Rattle.slot_desk.specs.Slots.{table_of, known_of, back_of, dealt_of, origin_of}
+use Rattle.slot_desk.specs.Closing.{SeatBegins, Finished, AreOf}
+use Rattle.slot_desk.proofs.Counting.{Leaves, all_leave, all_back, whole, as_long}
+use Rattle.slot_desk.proofs.Known.{all_of, seats_begin, as_many_books}
+use Rattle.slot_desk.proofs.desks.Desk.close.Goals as goal
+
+pub gather-requires-clause-some : goal.gather-requires-clause-some
+gather-requires-clause-some c =
+    let same : vec_len c.args.seats ≡ c.self.inside.given = search rules in
+    subst (AllByRecursion (Leaves (vec_len c.args.seats))) (sym c.as_mut_slice.ensures.value) (all_leave _ _ _ (vec_len c.args.seats) c.self.invariant.0 c.self.invariant.1 (omega (arith, same)))
+
+pub finish_all-requires-clause-all : goal.finish_all-requires-clause-all
+finish_all-requires-clause-all c =
+    let given = c.self.inside.given in
+    let same : vec_len c.args.seats ≡ given = search rules in
+    let g = c.gather.ensures in
+    let many = vec_len c.self.inside.slots in
+    let slots = c.gather.new.slots in
+    let value = c.as_mut_slice.ensures.value in
+    let dealt : map dealt_of slots ≡ map dealt_of c.self.inside.slots.items = g.dealt ∙ ap (map dealt_of) value in
+    let kept : take c.self.inside.slots.len (slots ++ drop (length slots) c.self.inside.slots.items) ≡ slots = whole _ _ _ (as_long dealt_of _ _ dealt) (search rules) in
+    let twice : slots ≡ reverse c.reverse.new.self.items = sym (ap reverse (c.reverse.ensures.items ∙ ap reverse kept) ∙ reverse-reverse slots) in
+    let back : map back_of slots ≡ map (λ k. k + given) (replicate many 0) = g.back ∙ (ap (λ (l : List SlotData). map (λ k. k + vec_len c.args.seats) (map back_of l)) value ∙ (ap (map (λ k. k + vec_len c.args.seats)) c.self.invariant.1 ∙ ap (λ n. map (λ k. k + n) (replicate many 0)) same)) in
+    subst (AllByRecursion (λ slot. slot.back ≡ slot.dealt)) twice (all_back slots many given (dealt ∙ c.self.invariant.0) back)
+
+pub returns-clause-all_books : goal.returns-clause-all_books
+returns-clause-all_books c =
+    let f = c.finish_all.ensures in
+    let slots = c.gather.new.slots in
+    let dealt : map dealt_of slots ≡ map dealt_of c.self.inside.slots.items = c.gather.ensures.dealt ∙ ap (map dealt_of) c.as_mut_slice.ensures.value in
+    let kept : take c.self.inside.slots.len (slots ++ drop (length slots) c.self.inside.slots.items) ≡ slots = whole _ _ _ (as_long dealt_of _ _ dealt) (search rules) in
+    let twice : reverse c.reverse.new.self.items ≡ slots = ap reverse (c.reverse.ensures.items ∙ ap reverse kept) ∙ reverse-reverse slots in
+    let books : c.finish_all.new.books.items ≡ f.0 = search rules in
+    let done : Finished f.0 slots = subst (λ l. Finished f.0 l) twice f.2 in
+    let len : vec_len c.finish_all.new.books ≡ length c.finish_all.new.books.items = search rules in
+    let of_books : length c.finish_all.new.books.items ≡ length slots = ap length books ∙ as_many_books f.0 slots done in
+    let of_slots : length slots ≡ length c.self.inside.slots.items = as_long dealt_of _ _ dealt in
+    let of_tables : length c.args.self.tables ≡ length c.self.inside.slots.items = sym (ap (λ (d : DeskData). length d.tables) c.self.view_is) ∙ length-map c.self.inside.slots.items table_of in
+    omega (arith, len, of_books, of_slots, of_tables)
+
+pub returns-clause-good : goal.returns-clause-good
+returns-clause-good c =
+    let f = c.finish_all.ensures in
+    let slots = c.gather.new.slots in
+    let dealt : map dealt_of slots ≡ map dealt_of c.self.inside.slots.items = c.gather.ensures.dealt ∙ ap (map dealt_of) c.as_mut_slice.ensures.value in
+    let kept : take c.self.inside.slots.len (slots ++ drop (length slots) c.self.inside.slots.items) ≡ slots = whole _ _ _ (as_long dealt_of _ _ dealt) (search rules) in
+    let twice : reverse c.reverse.new.self.items ≡ slots = ap reverse (c.reverse.ensures.items ∙ ap reverse kept) ∙ reverse-reverse slots in
+    let books : c.finish_all.new.books.items ≡ f.0 = search rules in
+    let done : Finished f.0 slots = subst (λ l. Finished f.0 l) twice f.2 in
+    let origins : map origin_of slots ≡ c.args.self.origins = c.gather.ensures.origins ∙ (ap (map origin_of) c.as_mut_slice.ensures.value ∙ ap (λ (d : DeskData). d.origins) c.self.view_is) in
+    subst (λ (x : List (Option History) × List History). AreOf x.0 x.1) (λ i. (origins i, sym books i)) (all_of f.0 slots done)
+
+pub returns-clause-begun : goal.returns-clause-begun
+returns-clause-begun c =
+    let f = c.finish_all.ensures in
+    let slots = c.gather.new.slots in
+    let dealt : map dealt_of slots ≡ map dealt_of c.self.inside.slots.items = c.gather.ensures.dealt ∙ ap (map dealt_of) c.as_mut_slice.ensures.value in
+    let kept : take c.self.inside.slots.len (slots ++ drop (length slots) c.self.inside.slots.items) ≡ slots = whole _ _ _ (as_long dealt_of _ _ dealt) (search rules) in
+    let twice : reverse c.reverse.new.self.items ≡ slots = ap reverse (c.reverse.ensures.items ∙ ap reverse kept) ∙ reverse-reverse slots in
+    let books : c.finish_all.new.books.items ≡ f.0 = search rules in
+    let done : Finished f.0 slots = subst (λ l. Finished f.0 l) twice f.2 in
+    subst (λ l. AllByRecursion (SeatBegins l) c.args.seats.items) (sym books) (seats_begin f.0 _ _ done c.gather.ensures.known)

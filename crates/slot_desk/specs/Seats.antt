@@ -1,0 +1,37 @@
+-- What contracts see of a seat, which has a place at each service of its desk.
+use Rattle.std.specs.Prelude.{◌≡◌, ℕ, ◌+◌, List, map, Option, slice_get, slice_set, Some}
+use Rattle.atomic_table.specs.Seated.{TableId}
+use Rattle.service_profile.specs.Events.{History}
+use Rattle.slot_table.specs.declared.view.View.{View}
+use Rattle.slot_table.specs.Rules.{newcomer}
+use Rattle.slot_desk.specs.Desks.{DeskData}
+
+-- its number, how many entries its calls have made, and of each service the table of the book and what the seat knows of it
+pub record SeatData : Type 0 where
+  pub number : ℕ
+  pub count : ℕ
+  pub tables : List TableId
+  pub views : List View
+
+abbrev pub seat_of : ℕ → ℕ → List TableId → List View → SeatData
+seat_of number count tables views = record { number = number; count = count; tables = tables; views = views }
+
+-- the seat is one of the desk's
+abbrev pub IsSeatOf : DeskData → SeatData → Type 0
+IsSeatOf desk seat = seat.tables ≡ desk.tables
+
+-- a new view of this number, of a book that opened so
+abbrev pub newcomer_of : ℕ → Option History → View
+newcomer_of number origin = newcomer origin number
+
+-- a seat of this number that has made no calls, of services whose books lie in these tables and opened so
+abbrev pub new_seat : ℕ → List TableId → List (Option History) → SeatData
+new_seat number tables origins = seat_of number 0 tables (map (newcomer_of number) origins)
+
+-- the seat after a call at a service that left it this view there, and made so many entries
+abbrev pub seat_with : SeatData → ℕ → View → ℕ → SeatData
+seat_with seat service view made = seat_of seat.number (seat.count + made) seat.tables (slice_set seat.views service view)
+
+-- only what the seat knows of one service changed, and so; and it counts so many entries more
+abbrev pub ChangesAt : ℕ → ℕ → (View → View → Type 0) → SeatData → SeatData → Type 0
+ChangesAt service made P seat after = (v w : View) × (slice_get seat.views service ≡ Some v) × P v w × (after ≡ seat_with seat service w made)

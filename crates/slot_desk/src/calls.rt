@@ -1,0 +1,202 @@
+//! The calls of seats that wait until they have the book of their service.
+ghost use Rattle.std.specs.Prelude.{◌≡◌, ◌<◌, ◌-◌, ◌^◌};
+ghost use Rattle.std.specs.Arc.{arc_value};
+ghost use Rattle.book.specs.Seen.{seen};
+ghost use Rattle.service_profile.specs.Answers.{map_ok};
+ghost use Rattle.service_profile.specs.Calls.{applies, looks, reads, pages, cuts, rolls, replies, finds, shows, hands};
+ghost use Rattle.service_profile.specs.Events.{acquires, releases, installs, moves, resets};
+ghost use Rattle.slot_desk.specs.Calls.{IsCalledAt};
+ghost use Rattle.slot_desk.specs.Desks.{IsServiceOf};
+ghost use Rattle.slot_desk.specs.Seats.{IsSeatOf};
+
+use crate::desks::Desk;
+use crate::seats::Seat;
+use crate::services::ServiceId;
+use book::{Entry, Event, Reading, Reply, State};
+use refusals::RefusalNumber;
+use std::sync::{Arc, Wait};
+use verifier::Verified;
+
+// Of each call: the answer is the named service's book's to this seat, after a good history that begins with all that the seat
+// has seen of that service and has just its own entries; what the call left is what the seat has seen after it; what it knows of
+// the other services stays.
+impl Desk {
+    /// Applies an event at a moment, in milliseconds.
+    pub(crate) fn apply<R: Wait>(
+        &self,
+        rt: &R,
+        seat: &mut Seat,
+        service: ServiceId,
+        moment: u64,
+        event: Event,
+    ) -> Reply
+        requires seat { IsSeatOf self.now seat.old }
+        requires service { IsServiceOf self.now service }
+        requires room { seat.old.count < 2 ^ 64 - 8 }
+        ensures called { IsCalledAt service seat.old (applies moment (seen event)) (replies result) seat.new }
+    {
+        let at = service.place();
+        let place = &mut seat.places[at];
+        let (reply, made) = self.slots[at].apply(rt, place, moment, event);
+        seat.count += made;
+        reply
+    }
+
+    /// Finds the program that judges under a ticket.
+    pub(crate) fn look<R: Wait>(
+        &self,
+        rt: &R,
+        seat: &mut Seat,
+        service: ServiceId,
+        ticket: u64,
+    ) -> Result<Arc<Verified>, RefusalNumber>
+        requires seat { IsSeatOf self.now seat.old }
+        requires service { IsServiceOf self.now service }
+        ensures called { IsCalledAt service seat.old (looks ticket) (finds (map_ok arc_value result)) seat.new }
+    {
+        let at = service.place();
+        let place = &mut seat.places[at];
+        self.slots[at].look(rt, place, ticket)
+    }
+
+    /// Asks for a ticket, before a call.
+    pub fn acquire<R: Wait>(
+        &self,
+        rt: &R,
+        seat: &mut Seat,
+        service: ServiceId,
+        moment: u64,
+    ) -> Reply
+        requires seat { IsSeatOf self.now seat.old }
+        requires service { IsServiceOf self.now service }
+        requires room { seat.old.count < 2 ^ 64 - 8 }
+        ensures called { IsCalledAt service seat.old (applies moment acquires) (replies result) seat.new }
+    {
+        self.apply(rt, seat, service, moment, Event::Acquire)
+    }
+
+    /// Ends a ticket without an outcome.
+    pub fn release<R: Wait>(
+        &self,
+        rt: &R,
+        seat: &mut Seat,
+        service: ServiceId,
+        moment: u64,
+        ticket: u64,
+    ) -> Reply
+        requires seat { IsSeatOf self.now seat.old }
+        requires service { IsServiceOf self.now service }
+        requires room { seat.old.count < 2 ^ 64 - 8 }
+        ensures called { IsCalledAt service seat.old (applies moment (releases ticket)) (replies result) seat.new }
+    {
+        self.apply(rt, seat, service, moment, Event::Release(ticket))
+    }
+
+    /// Makes a program the current version.
+    pub fn install<R: Wait>(
+        &self,
+        rt: &R,
+        seat: &mut Seat,
+        service: ServiceId,
+        moment: u64,
+        program: Arc<Verified>,
+    ) -> Reply
+        requires seat { IsSeatOf self.now seat.old }
+        requires service { IsServiceOf self.now service }
+        requires room { seat.old.count < 2 ^ 64 - 8 }
+        ensures called { IsCalledAt service seat.old (applies moment (installs (arc_value program))) (replies result) seat.new }
+    {
+        self.apply(rt, seat, service, moment, Event::Install(program))
+    }
+
+    /// Moves the breaker to a state.
+    pub fn move_to<R: Wait>(
+        &self,
+        rt: &R,
+        seat: &mut Seat,
+        service: ServiceId,
+        moment: u64,
+        state: State,
+    ) -> Reply
+        requires seat { IsSeatOf self.now seat.old }
+        requires service { IsServiceOf self.now service }
+        requires room { seat.old.count < 2 ^ 64 - 8 }
+        ensures called { IsCalledAt service seat.old (applies moment (moves state)) (replies result) seat.new }
+    {
+        self.apply(rt, seat, service, moment, Event::Move(state))
+    }
+
+    /// Moves the breaker to CLOSED.
+    pub fn reset<R: Wait>(&self, rt: &R, seat: &mut Seat, service: ServiceId, moment: u64) -> Reply
+        requires seat { IsSeatOf self.now seat.old }
+        requires service { IsServiceOf self.now service }
+        requires room { seat.old.count < 2 ^ 64 - 8 }
+        ensures called { IsCalledAt service seat.old (applies moment resets) (replies result) seat.new }
+    {
+        self.apply(rt, seat, service, moment, Event::Reset)
+    }
+
+    /// Reads how the service stands at a moment, which is raised for this answer alone.
+    pub fn read<R: Wait>(&self, rt: &R, seat: &mut Seat, service: ServiceId, moment: u64) -> Reading
+        requires seat { IsSeatOf self.now seat.old }
+        requires service { IsServiceOf self.now service }
+        ensures called { IsCalledAt service seat.old (reads moment) (shows result) seat.new }
+    {
+        let at = service.place();
+        let place = &mut seat.places[at];
+        self.slots[at].read(rt, place, moment)
+    }
+
+    /// Copies at most 100 entries of the journal, from a number on.
+    pub fn page<R: Wait>(
+        &self,
+        rt: &R,
+        seat: &mut Seat,
+        service: ServiceId,
+        _moment: u64,
+        from: u64,
+    ) -> Result<Vec<Entry>, RefusalNumber>
+        requires seat { IsSeatOf self.now seat.old }
+        requires service { IsServiceOf self.now service }
+        ensures called { IsCalledAt service seat.old (pages from) (hands (map_ok (λ entries. entries.items) result)) seat.new }
+    {
+        let at = service.place();
+        let place = &mut seat.places[at];
+        self.slots[at].page(rt, place, from)
+    }
+
+    /// Hands out all entries of the journal, which opens anew. Numbers go on.
+    pub fn cut<R: Wait>(
+        &self,
+        rt: &R,
+        seat: &mut Seat,
+        service: ServiceId,
+        _moment: u64,
+    ) -> Result<Vec<Entry>, RefusalNumber>
+        requires seat { IsSeatOf self.now seat.old }
+        requires service { IsServiceOf self.now service }
+        ensures called { IsCalledAt service seat.old cuts (hands (map_ok (λ entries. entries.items) result)) seat.new }
+    {
+        let at = service.place();
+        let place = &mut seat.places[at];
+        self.slots[at].cut(rt, place)
+    }
+
+    /// Hands out the entries of the journal up to a number. All else of the service goes on as it is.
+    pub fn roll<R: Wait>(
+        &self,
+        rt: &R,
+        seat: &mut Seat,
+        service: ServiceId,
+        _moment: u64,
+        last: u64,
+    ) -> Result<Vec<Entry>, RefusalNumber>
+        requires seat { IsSeatOf self.now seat.old }
+        requires service { IsServiceOf self.now service }
+        ensures called { IsCalledAt service seat.old (rolls last) (hands (map_ok (λ entries. entries.items) result)) seat.new }
+    {
+        let at = service.place();
+        let place = &mut seat.places[at];
+        self.slots[at].roll(rt, place, last)
+    }
+}

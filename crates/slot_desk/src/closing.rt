@@ -1,0 +1,109 @@
+//! The end of a desk.
+ghost use Rattle.std.specs.Prelude.{◌≡◌, ◌<◌, ◌≤◌, ◌+◌, ◌++◌, List, suc, vec_len, vec_capacity, length, map, reverse, IfOk, IfErr};
+ghost use Rattle.std.specs.List.{AllByRecursion};
+ghost use Rattle.service_profile.specs.Events.{History};
+ghost use Rattle.slot_desk.specs.Closing.{SeatBegins, AreOf, IsUnclosed, added, SeatKnown, KeepsKnown, Finished};
+ghost use Rattle.slot_desk.specs.Seats.{IsSeatOf};
+ghost use Rattle.slot_desk.specs.Slots.{table_of, origin_of, dealt_of, back_of, known_of, table_at, seen_at};
+
+use crate::desks::Desk;
+use crate::seats::Seat;
+use book::Book;
+use refusals::RefusalNumber;
+use slot_table::{Place, Slot};
+use std::alloc::Global;
+
+/// A desk that was not closed, with the seats that were given, and why: `SeatsMissing` where they are not
+/// all seats of the desk, `ServiceOutOfMemory` without memory.
+#[derive(Drop)]
+pub struct Unclosed {
+    pub desk: Desk,
+    pub seats: Vec<Seat>,
+    pub number: RefusalNumber,
+}
+
+/// Gives each slot its place back. The first slot's is the last of the list.
+fn give_back_all(slots: &mut [Slot], mut places: Vec<Place>)
+    requires here { map table_at (reverse places.items) ≡ map table_of slots.old }
+    requires some { AllByRecursion (λ slot. slot.back < slot.dealt) slots.old }
+    ensures tables { map table_of slots.new ≡ map table_of slots.old }
+    ensures origins { map origin_of slots.new ≡ map origin_of slots.old }
+    ensures dealt { map dealt_of slots.new ≡ map dealt_of slots.old }
+    ensures back { map back_of slots.new ≡ map suc (map back_of slots.old) }
+    ensures known { map known_of slots.new ≡ added (map known_of slots.old) (map seen_at (reverse places.items)) }
+{
+    if let Some((first, rest)) = slots.split_first_mut() {
+        let Some(place) = places.pop() else {
+            unreachable!()
+        };
+        first.give_back(place);
+        give_back_all(rest, places);
+    }
+}
+
+/// Gives the slots the places of all seats back.
+fn gather(slots: &mut [Slot], mut seats: Vec<Seat>)
+    requires here { AllByRecursion (λ seat. seat.tables ≡ map table_of slots.old) seats.items }
+    requires some { AllByRecursion (λ slot. slot.back + vec_len seats ≤ slot.dealt) slots.old }
+    ensures origins { map origin_of slots.new ≡ map origin_of slots.old }
+    ensures dealt { map dealt_of slots.new ≡ map dealt_of slots.old }
+    ensures back { map back_of slots.new ≡ map (λ n. n + vec_len seats) (map back_of slots.old) }
+    ensures known { AllByRecursion (SeatKnown (map known_of slots.new)) seats.items }
+    ensures kept { KeepsKnown (map known_of slots.old) (map known_of slots.new) }
+{
+    if let Some(seat) = seats.pop() {
+        let Seat { mut places, .. } = seat;
+        places.reverse();
+        give_back_all(slots, places);
+        gather(slots, seats);
+    }
+}
+
+/// Takes the books out of the slots. The first book's slot is the last of the list.
+fn finish_all(mut slots: Vec<Slot>, books: &mut Vec<Book>)
+    requires all { AllByRecursion (λ slot. slot.back ≡ slot.dealt) (reverse slots.items) }
+    requires room { vec_len books.old + vec_len slots ≤ vec_capacity books.old }
+    ensures { (more : List History) × (books.new.items ≡ books.old.items ++ more) × Finished more (reverse slots.items) }
+{
+    if let Some(slot) = slots.pop() {
+        books.push_reserved(slot.finish());
+        finish_all(slots, books);
+    }
+}
+
+impl Desk {
+    /// Closes the desk, where all its seats are given, and hands out the books, in the order of the
+    /// services.
+    pub fn close(self, alloc: Global, seats: Vec<Seat>) -> Result<Vec<Book>, Unclosed>
+        requires seats { AllByRecursion (λ seat. IsSeatOf self seat) seats.items }
+        ensures all_seats { IfOk result (λ books. vec_len seats ≡ self.seats) }
+        ensures all_books { IfOk result (λ books. vec_len books ≡ length self.tables) }
+        // Each is good, and of the book at its place that opened so.
+        ensures good { IfOk result (λ books. AreOf self.origins books.items) }
+        // What each seat had seen of a service begins the history of its book, or is of an earlier opening.
+        ensures begun { IfOk result (λ books. AllByRecursion (SeatBegins books.items) seats.items) }
+        ensures unclosed { IfErr result (λ e. IsUnclosed (vec_len seats) self.seats e.number) }
+        ensures unchanged { IfErr result (λ e. (e.desk ≡ self) × (e.seats ≡ seats)) }
+    {
+        if seats.len() != self.given as usize {
+            return Err(Unclosed {
+                desk: self,
+                seats,
+                number: RefusalNumber::SeatsMissing,
+            });
+        }
+        let mut books = Vec::new(alloc);
+        if books.reserve(self.slots.len()).is_err() {
+            return Err(Unclosed {
+                desk: self,
+                seats,
+                number: RefusalNumber::ServiceOutOfMemory,
+            });
+        }
+        let Desk { mut slots, .. } = self;
+        gather(slots.as_mut_slice(), seats);
+        slots.reverse();
+        finish_all(slots, &mut books);
+        Ok(books)
+    }
+}

@@ -1,0 +1,23 @@
+//! Services that many threads ask at once, without locks. Each service's book lies in a slot, from which whoever calls it takes
+//! it by one exchange; and each seat knows what it has seen of each service.
+#![tactic(auto)]
+
+mod asking;
+mod calls;
+mod closing;
+mod desks;
+pub mod laws;
+mod reports;
+mod seats;
+mod service_seat;
+mod services;
+mod sitting;
+mod trying;
+
+pub use closing::Unclosed;
+pub use desks::Desk;
+pub use seats::Seat;
+pub use service::Gate;
+pub use service_seat::ServiceSeat;
+pub use services::ServiceId;
+pub use slot_table::{Busy, Held};

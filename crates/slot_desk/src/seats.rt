@@ -1,0 +1,68 @@
+//! Seats: who makes calls.
+ghost use Rattle.std.specs.Prelude.{◌≡◌, ◌-◌, ◌<◌, ◌^◌, [], true, false};
+ghost use Rattle.slot_desk.specs.Calls.{IsFull};
+ghost use Rattle.slot_desk.specs.Seats.{seat_of};
+
+use slot_table::Place;
+use std::alloc::Global;
+use std::marker::Model;
+
+/// A seat may make an event only while its count is below this.
+const FULL_COUNT: u64 = u64::MAX - 7;
+
+/// Who makes calls at a desk, by a place at each service. Contracts see its number, how many entries its calls have made, and of
+/// each service the table of the book and what the seat knows of it.
+#[derive(Drop)]
+pub struct Seat {
+    pub(crate) number: u32,
+    pub(crate) count: u64,
+    pub(crate) places: Vec<Place>,
+}
+
+impl Model for Seat {
+    ghost use Rattle.std.specs.Prelude.{◌≡◌, map, replicate, vec_len};
+    ghost use Rattle.slot_desk.specs.Seats.{SeatData, seat_of};
+    ghost use Rattle.slot_desk.specs.Slots.{table_at, number_at, view_at};
+
+    ghost Value = { SeatData };
+
+    ghost view = { λ seat. seat_of seat.number seat.count (map table_at seat.places.items) (map view_at seat.places.items) };
+
+    // Its places all have its number.
+    ghost invariant = { λ seat. map number_at seat.places.items ≡ replicate (vec_len seat.places) seat.number };
+}
+
+impl Seat {
+    /// A seat with no places.
+    pub(crate) fn nobody(alloc: Global) -> Seat
+        ensures { result ≡ seat_of 0 0 [] [] }
+    {
+        Seat {
+            number: 0,
+            count: 0,
+            places: Vec::new(alloc),
+        }
+    }
+
+    /// Its number at its desk, from 1 on: the entries of its calls carry it.
+    pub fn number(&self) -> u32
+        ensures { result ≡ self.now.number }
+    {
+        self.number
+    }
+
+    /// How many entries its calls have made, in all journals of its desk.
+    pub fn count(&self) -> u64
+        ensures { result ≡ self.now.count }
+    {
+        self.count
+    }
+
+    /// Whether its count leaves no room for another entry.
+    pub(crate) fn is_full(&self) -> bool
+        ensures full { result ≡ true → IsFull self.now }
+        ensures room { result ≡ false → self.now.count < 2 ^ 64 - 8 }
+    {
+        self.count >= FULL_COUNT
+    }
+}

@@ -1,0 +1,102 @@
+//! The calls of a seat on a service of its desk, as whoever asks a service makes them.
+ghost use Rattle.std.specs.Prelude.{◌≡◌};
+ghost use Rattle.slot_desk.specs.Calls.{service_seat};
+ghost use Rattle.slot_desk.specs.Desks.{IsServiceOf};
+ghost use Rattle.slot_desk.specs.Seats.{IsSeatOf};
+
+use crate::desks::Desk;
+use crate::seats::Seat;
+use crate::services::ServiceId;
+use book::{Entry, Event, Reading, Reply};
+use refusals::RefusalNumber;
+use service::BookCalls;
+use std::marker::Model;
+use std::sync::{Arc, Wait};
+use verifier::Verified;
+
+/// What a seat is answered whose count is full.
+const TURNED_AWAY: Reply = Reply::Refused(RefusalNumber::JournalFull);
+
+/// A seat at a service of its desk. That both belong together is kept here, so that `service::ask` can call it. Contracts see the
+/// service and the seat.
+#[derive(Drop)]
+pub struct ServiceSeat<'a, R: Wait> {
+    rt: &'a R,
+    desk: &'a Desk,
+    service: ServiceId,
+    seat: Seat,
+}
+
+impl<'a, R: Wait> Model for ServiceSeat<'a, R> {
+    ghost use Rattle.slot_desk.specs.Calls.{ServiceSeatData, service_seat};
+    ghost use Rattle.slot_desk.specs.Desks.{IsServiceOf};
+    ghost use Rattle.slot_desk.specs.Seats.{IsSeatOf};
+
+    ghost Value = { ServiceSeatData };
+
+    ghost view = { λ at. service_seat at.service at.seat };
+
+    ghost invariant = { λ at. IsSeatOf at.desk.now at.seat × IsServiceOf at.desk.now at.service };
+}
+
+impl<'a, R: Wait> ServiceSeat<'a, R> {
+    /// A seat at a service of its desk. Its calls wait by `rt`.
+    pub fn new(rt: &'a R, desk: &'a Desk, service: ServiceId, seat: Seat) -> Self
+        requires seat { IsSeatOf desk.now seat }
+        requires service { IsServiceOf desk.now service }
+        ensures { result ≡ service_seat service seat }
+    {
+        ServiceSeat {
+            rt,
+            desk,
+            service,
+            seat,
+        }
+    }
+
+    /// Gives the seat back.
+    pub fn into_seat(self) -> Seat
+        ensures { result ≡ self.entry.seat }
+    {
+        let ServiceSeat { seat, .. } = self;
+        seat
+    }
+}
+
+impl<'a, R: Wait> BookCalls<()> for ServiceSeat<'a, R> {
+    ghost use Rattle.slot_desk.specs.Calls.{IsAskedAt};
+
+    ghost calls = { λ _. IsAskedAt };
+
+    fn apply(&mut self, _place: &(), moment: u64, event: Event) -> Reply {
+        if self.seat.is_full() {
+            return TURNED_AWAY;
+        }
+        self.desk
+            .apply(self.rt, &mut self.seat, self.service, moment, event)
+    }
+
+    fn look(&mut self, _place: &(), ticket: u64) -> Result<Arc<Verified>, RefusalNumber> {
+        self.desk
+            .look(self.rt, &mut self.seat, self.service, ticket)
+    }
+
+    fn read(&mut self, _place: &(), moment: u64) -> Reading {
+        self.desk
+            .read(self.rt, &mut self.seat, self.service, moment)
+    }
+
+    fn page(&mut self, _place: &(), from: u64) -> Result<Vec<Entry>, RefusalNumber> {
+        self.desk
+            .page(self.rt, &mut self.seat, self.service, 0, from)
+    }
+
+    fn cut(&mut self, _place: &()) -> Result<Vec<Entry>, RefusalNumber> {
+        self.desk.cut(self.rt, &mut self.seat, self.service, 0)
+    }
+
+    fn roll(&mut self, _place: &(), last: u64) -> Result<Vec<Entry>, RefusalNumber> {
+        self.desk
+            .roll(self.rt, &mut self.seat, self.service, 0, last)
+    }
+}

@@ -1,0 +1,7 @@
+pub mod Lines
+pub mod Histories
+pub mod Views
+pub mod Keeps
+pub mod Calling
+pub mod Showing
+pub mod Backwards

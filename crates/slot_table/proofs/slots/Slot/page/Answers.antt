@@ -1,0 +1,16 @@
+use Rattle.slot_table.specs.Rules.{missed}
+use Rattle.service_profile.specs.Calls.{IsCalled, pages, hands}
+use Rattle.service_profile.specs.Answers.{map_ok}
+use Rattle.slot_table.proofs.Calling.{may_put, is_called, called_by}
+use Rattle.slot_table.proofs.slots.Slot.page.Goals as goal
+
+pub put-requires-clause-held : goal.put-requires-clause-held
+put-requires-clause-held g c =
+    let taken = c.take_waiting.ensures.taken in
+    may_put (pages c.args.from) (hands (map_ok (λ entries. entries.items) c.page-answer.result)) c.place.inside.number (missed taken.0 c.place.inside.seat.me.0) _ _ _ c.place.invariant.1 taken.1 c.page-answer.ensures.did
+
+pub returns-clause-called : goal.returns-clause-called
+returns-clause-called g c =
+    let taken = c.take_waiting.ensures.taken in
+    called_by (pages c.args.from) (hands (map_ok (λ entries. entries.items) c.page-answer.result)) _ _ _ _ _ c.place.view_is
+    (taken.0, is_called (pages c.args.from) (hands (map_ok (λ entries. entries.items) c.page-answer.result)) c.place.inside.number _ _ _ _ _ taken.1 c.page-answer.ensures.did c.put.ensures.put)

@@ -1,0 +1,4 @@
+pub mod Origins
+pub mod Rules
+pub mod Calls
+pub mod Places

@@ -1,0 +1,184 @@
+-- The rule of the table, and what each step tells. Word 0 is 1 where the book is at home, and else 0.
+use Rattle.std.specs.Prelude.{◌≡◌, ◌≢◌, ◌⊎◌, ℕ, ◌+◌, ◌-◌, ◌<◌, ◌≤◌, List, [], ◌∷◌, ◌++◌, Bool, true, false, Option, Some, None}
+use mathlib.Core.Option.{some, none}
+use lib.ListN.{get_elem?}
+use Rattle.atomic_table.specs.Table.{State, Me, Step}
+use Rattle.service_profile.specs.Events.{EntryData, History}
+use Rattle.service_profile.specs.Answers.{with_line}
+use Rattle.book.specs.Good.{IsGood}
+use Rattle.slot_table.specs.Origins.{IsOf}
+use Rattle.service_profile.specs.Seats.{lines_of, BeginsWith}
+use Rattle.slot_table.specs.declared.view.View.{View}
+
+-- ---- histories that were seen
+
+-- the history goes on from what was seen, in the same opening
+abbrev pub Begins : History → History → Type 0
+Begins history x = (x.opening ≡ history.opening) × BeginsWith history.lines x.lines
+
+-- what a seat finds that has seen this, has this number, and has made these entries
+pub data FoundAfter (seen : Option History) (number : ℕ) (mine : List EntryData) (history : History) : Type 0 where
+  -- it had seen nothing, and has made no entry
+  at_first : seen ≡ None → lines_of number history.lines ≡ [] → FoundAfter seen number mine history
+  -- the history begins with what was seen, and its entries are those that it made
+  goes_on : (x : History) → seen ≡ Some x → Begins history x → lines_of number history.lines ≡ mine → FoundAfter seen number mine history
+  -- a later opening than the one that was seen, in which it has made no entry
+  later : (x : History) → seen ≡ Some x → x.opening.period < history.opening.period → lines_of number history.lines ≡ [] → FoundAfter seen number mine history
+
+abbrev pub Finds : View → History → Type 0
+Finds v history = FoundAfter v.seen v.number v.mine history
+
+-- what was seen, if anything, begins the history of its opening, which is the last one or an earlier one
+abbrev pub IsPast : (ℕ → History) → History → Option History → Type 0
+IsPast past now None = Unit {0}
+IsPast past now (Some x) = (x.opening.period ≤ now.opening.period) × Begins (past x.opening.period) x
+
+abbrev pub ArePast : (ℕ → History) → History → List (Option History) → Type 0
+ArePast past now [] = Unit {0}
+ArePast past now (x ∷ xs) = IsPast past now x × ArePast past now xs
+
+-- ---- views
+
+-- the book that was laid into the slot, of what is remembered of it
+abbrev pub origin_of : List History → Option History
+origin_of [] = None
+origin_of (first ∷ others) = Some first
+
+abbrev pub newcomer : Option History → ℕ → View
+newcomer origin n = record { origin = origin; sits = true; number = n; holds = false; seen = None; mine = []; takes = 0; misses = 0; deals = false; next = 0; parts = 1; told = None; known = [] }
+
+abbrev pub dealer : Option History → ℕ → ℕ → List (Option History) → View
+dealer origin next parts known = record { origin = origin; sits = false; number = 0; holds = false; seen = None; mine = []; takes = 0; misses = 0; deals = true; next = next; parts = parts; told = None; known = known }
+
+abbrev pub spent : View
+spent = record { origin = None; sits = false; number = 0; holds = false; seen = None; mine = []; takes = 0; misses = 0; deals = false; next = 0; parts = 0; told = None; known = [] }
+
+abbrev pub dealt : View → View
+dealt v = record v { next = v.next + 1; parts = v.parts - 1 }
+
+abbrev pub dealt_to : View → View
+dealt_to v = newcomer v.origin v.next
+
+abbrev pub gathered : View → View → View
+gathered v w = record v { parts = v.parts + w.parts; known = v.known ++ w.seen ∷ [] }
+
+abbrev pub note : View → View
+note v = record spent { told = v.seen }
+
+abbrev pub informed : View → View → View
+informed v w = record v { told = w.told }
+
+-- it holds the history taken, which is now seen, with its own entries in it
+abbrev pub taking : View → History → View
+taking v history = record v { holds = true; seen = Some history; mine = lines_of v.number history.lines; takes = v.takes + 1 }
+
+abbrev pub missing : View → View
+missing v = record v { misses = v.misses + 1 }
+
+abbrev pub missed : ℕ → View → View
+missed n v = record v { misses = v.misses + n }
+
+-- seen and own entries are those of the history put
+abbrev pub putting : View → History → View
+putting v history = record v { holds = false; seen = Some history; mine = lines_of v.number history.lines }
+
+-- ---- the rule
+
+abbrev pub Each : (View → Type 0) → List View → Type 0
+Each P views = (j : ℕ) (v : View) → get_elem? views j ≡ some v → P v
+
+abbrev pub Idle : List View → Type 0
+Idle views = Each (λ v. v.holds ≡ false) views
+
+abbrev pub OnlyHolder : List View → ℕ → History → Type 0
+OnlyHolder views who history =
+    ((v : View) × (get_elem? views who ≡ some v) × (v.holds ≡ true) × (v.sits ≡ true) × (v.seen ≡ Some history))
+    × ((j : ℕ) (v : View) → get_elem? views j ≡ some v → v.holds ≡ true → j ≡ who)
+
+abbrev pub AtHome : State History View → History → Type 0
+AtHome s history = (s.words ≡ 1 ∷ []) × (s.homes ≡ some history ∷ []) × Idle s.views
+
+abbrev pub IsOut : State History View → History → Type 0
+IsOut s history = (s.words ≡ 0 ∷ []) × (s.homes ≡ none ∷ []) × ((who : ℕ) × OnlyHolder s.views who history)
+
+-- what a view says is true of the last history and of those of the earlier openings
+pub record Fits (origin : Option History) (past : ℕ → History) (now : History) (v : View) : Type 0 where
+  pub seat : v.sits ≡ true → Finds v now × IsPast past now v.seen × (v.origin ≡ origin)
+  pub told : IsPast past now v.told
+  pub known : ArePast past now v.known
+  pub source : v.deals ≡ true → v.origin ≡ origin
+  pub fresh : v.deals ≡ true → (by : ℕ) → v.next ≤ by → lines_of by now.lines ≡ []
+  pub backed : v.holds ≡ true → 0 < v.parts
+
+-- whether it makes calls, its number, whether it deals, and the next number
+abbrev pub card : View → Bool × ℕ × Bool × ℕ
+card v = (v.sits, v.number, v.deals, v.next)
+
+-- no two seats have one number, one seat deals, and the next number is above all
+pub record Agree (j k : ℕ) (a b : Bool × ℕ × Bool × ℕ) : Type 0 where
+  pub apart : a.0 ≡ true → b.0 ≡ true → a.1 ≡ b.1 → j ≡ k
+  pub below : a.2 ≡ true → b.0 ≡ true → b.1 < a.3
+  pub one : a.2 ≡ true → b.2 ≡ true → j ≡ k
+
+abbrev pub Pairs : List View → Type 0
+Pairs views = (j k : ℕ) (v w : View) → get_elem? views j ≡ some v → get_elem? views k ≡ some w → Agree j k (card v) (card w)
+
+abbrev pub parts_of : List View → ℕ
+parts_of [] = 0
+parts_of (v ∷ vs) = v.parts + parts_of vs
+
+pub record Kept (origin : Option History) (s : State History View) : Type 0 where
+  -- the last history, and that of each opening, by its first period
+  pub now : History
+  pub past : ℕ → History
+  pub current : past now.opening.period ≡ now
+  pub good : (period : ℕ) → IsOf origin (past period)
+  pub place : AtHome s now ⊎ IsOut s now
+  pub fits : Each (Fits origin past now) s.views
+  pub pairs : Pairs s.views
+  pub parts : parts_of s.views ≡ 129
+
+-- ---- the steps
+
+-- at 1 the book was taken, and else nothing but the count of misses changed
+abbrev pub Took : Step History → Me History View → ℕ → Me History View → Type 0
+Took st m found m' =
+    (found ≡ 1 → (history : History) × IsOf m.0.origin history × Finds m.0 history × (m'.0 ≡ taking m.0 history) × (m'.1 ≡ (0, history) ∷ []))
+    × (found ≢ 1 → (m'.0 ≡ missing m.0) × (m'.1 ≡ m.1))
+
+-- what a seat of this number may put back in the place of a history
+pub data Grows (number : ℕ) (history after : History) : Type 0 where
+  same : after ≡ history → Grows number history after
+  -- entries were handed out
+  hands_out : after.opening ≡ history.opening → after.lines ≡ history.lines → Grows number history after
+  entry : (l : EntryData) → l.seat ≡ number → after ≡ with_line history l → Grows number history after
+  opens : after.lines ≡ [] → history.opening.period < after.opening.period → Grows number history after
+
+abbrev pub MayPut : View → History → Type 0
+MayPut v after = IsOf v.origin after × ((history : History) × (v.seen ≡ Some history) × Grows v.number history after)
+
+abbrev pub Put : Step History → Me History View → ℕ → Me History View → Type 0
+Put st m found m' = (after : History) → m.1 ≡ (0, after) ∷ [] → (m'.0 ≡ putting m.0 after) × (m'.1 ≡ [])
+
+-- where both are of one opening, both begin one good history
+abbrev pub BeginOne : History → History → Type 0
+BeginOne one other = one.opening.period ≡ other.opening.period → (history : History) × IsGood history × Begins history one × Begins history other
+
+abbrev pub AreOfOne : Option History → Option History → Type 0
+AreOfOne None other = Unit {0}
+AreOfOne (Some one) None = Unit {0}
+AreOfOne (Some one) (Some other) = BeginOne one other
+
+abbrev pub Met : Step History → Me History View → ℕ → Me History View → Type 0
+Met st m found m' = (m'.0 ≡ record m.0 { told = None }) × (m'.1 ≡ m.1) × AreOfOne m.0.seen m.0.told
+
+-- ---- the end
+
+-- what was seen, if anything, begins the last history, or is of an earlier opening
+abbrev pub BeginsLast : History → Option History → Type 0
+BeginsLast last None = Unit {0}
+BeginsLast last (Some x) = Begins last x ⊎ (x.opening.period < last.opening.period)
+
+abbrev pub AllBegin : History → List (Option History) → Type 0
+AllBegin last [] = Unit {0}
+AllBegin last (x ∷ xs) = BeginsLast last x × AllBegin last xs
