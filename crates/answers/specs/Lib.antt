@@ -1,4 +1,6 @@
 pub mod Texts
+pub mod Writing
+pub mod Members
 pub mod Entries
 pub mod Pages
 pub mod Responses

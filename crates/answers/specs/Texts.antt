@@ -1,7 +1,7 @@
 -- What services answer, as JSON values with their keys in ascending byte order, and the HTTP status of a reply (RFC 9110, section 15).
 use Rattle.std.specs.Prelude.{ℕ, List, [], ◌∷◌, Option, Some, None, negsuc, codes}
 use Rattle.bpf_profile.specs.declared.layout.Layout.TheVariants as layout
-use Rattle.serde_json.specs.Data.{Data, number, unsigned, negative, string, object, Members, no_members, member}
+use Rattle.serde_json.specs.Data.{Num, Data, number, unsigned, negative, string, object, Members, no_members, member}
 use Rattle.refusals.specs.declared.RefusalNumber.{RefusalNumber}
 use Rattle.refusals.specs.Table.{number_of, name_of, status_of}
 use Rattle.verifier.specs.declared.refusal.Refusal.{Refusal}
@@ -36,9 +36,12 @@ abbrev pub count : ℕ → Data
 count n = number (unsigned n)
 
 -- whole percent, or -1 where there is no rate
+abbrev pub rate_number : Option ℕ → Num
+rate_number None = negative (negsuc 0)
+rate_number (Some percent) = unsigned percent
+
 abbrev pub rate : Option ℕ → Data
-rate None = number (negative (negsuc 0))
-rate (Some percent) = count percent
+rate percent = number (rate_number percent)
 
 -- a key with its value
 abbrev pub Field : Type 0

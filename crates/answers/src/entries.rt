@@ -1,61 +1,60 @@
-//! The entries of the journal. Every error is want of memory.
-ghost use Rattle.std.specs.Prelude.{◌≡◌, ◌∷◌, [], IfOk, codes};
-ghost use Rattle.serde_json.specs.Data.{string};
-ghost use Rattle.serde_json.specs.View.{view};
-ghost use Rattle.answers.specs.Entries.{entry_object, entry_data};
-ghost use Rattle.answers.specs.Texts.{count, state_name};
+//! The entries of the journal. Every error is want of memory, and leaves a part of what was to be written.
+ghost use Rattle.std.specs.Prelude.{◌≡◌, OnOk};
+ghost use Rattle.book.specs.Seen.{seen};
+ghost use Rattle.answers.specs.Entries.{entry_data, event_name, named};
+ghost use Rattle.answers.specs.Writing.{Adds, tokens_of, last_tokens};
 
+use crate::members::{Member, put_members};
 use crate::names::state_name;
-use crate::values;
-use book::{Entry, Event, State};
-use serde_json::{Value, json};
-use std::alloc::{AllocError, Global};
+use crate::values::reply;
+use book::{Entry, Event};
+use json::Writer;
+use std::alloc::AllocError;
 
-/// An entry of an event that names nothing else.
-fn plain(alloc: Global, entry: &Entry, event: &str) -> Result<Value, AllocError>
-    ensures { IfOk result (λ value. view value ≡ entry_object event.now [] entry.now) }
+/// The word for what happened.
+fn event_name(event: &Event) -> &'static str
+    ensures { result.now ≡ event_name (seen event.now) }
 {
-    let moment = entry.moment();
-    let number = entry.number();
-    let seat = entry.seat();
-    let reply = values::reply(alloc, entry.reply())?;
-    json!(in alloc; {"event": event, "moment": moment, "number": number, "reply": reply, "seat": seat})
+    match event {
+        Event::Acquire => "acquire",
+        Event::Finish(..) => "report",
+        Event::Release(_) => "release",
+        Event::Install(_) => "install",
+        Event::Move(_) => "transition",
+        Event::Reset => "reset",
+    }
 }
 
-/// An entry of an event that names a ticket.
-fn ticketed(alloc: Global, entry: &Entry, event: &str, ticket: u64) -> Result<Value, AllocError>
-    ensures { IfOk result (λ value. view value ≡ entry_object event.now ((codes "ticket", count ticket) ∷ []) entry.now) }
+/// Writes the ticket or the state that an event names, and ends the entry.
+fn end_entry(out: &mut Writer, event: &Event) -> Result<(), AllocError>
+    ensures { OnOk result (Adds (last_tokens (named (seen event.now))) out.old out.new) }
 {
-    let moment = entry.moment();
-    let number = entry.number();
-    let seat = entry.seat();
-    let reply = values::reply(alloc, entry.reply())?;
-    json!(in alloc; {"event": event, "moment": moment, "number": number, "reply": reply, "seat": seat, "ticket": ticket})
-}
-
-/// An entry of an event that names a state.
-fn transition(alloc: Global, entry: &Entry, to: State) -> Result<Value, AllocError>
-    ensures { IfOk result (λ value. view value ≡ entry_object (codes "transition") ((codes "to", string (state_name to)) ∷ []) entry.now) }
-{
-    let moment = entry.moment();
-    let number = entry.number();
-    let seat = entry.seat();
-    let reply = values::reply(alloc, entry.reply())?;
-    let to = state_name(to);
-    json!(in alloc; {"event": "transition", "moment": moment, "number": number, "reply": reply, "seat": seat, "to": to})
+    match event {
+        Event::Finish(_, ticket) | Event::Release(ticket) => {
+            put_members(out, &[Member::Count("ticket", *ticket)])?;
+        }
+        Event::Move(to) => put_members(out, &[Member::Text("to", state_name(*to))])?,
+        Event::Acquire | Event::Install(_) | Event::Reset => {}
+    }
+    out.end_object()
 }
 
 /// An entry of the journal: what happened, at which moment in milliseconds, the entry's number, the body of what was
 /// answered, who made the event, and the ticket or the state that it names.
-pub(crate) fn entry(alloc: Global, entry: &Entry) -> Result<Value, AllocError>
-    ensures { IfOk result (λ value. view value ≡ entry_data entry.now) }
+pub(crate) fn entry(out: &mut Writer, entry: &Entry) -> Result<(), AllocError>
+    ensures { OnOk result (Adds (tokens_of (entry_data entry.now)) out.old out.new) }
 {
-    match entry.event() {
-        Event::Acquire => plain(alloc, entry, "acquire"),
-        Event::Finish(_, ticket) => ticketed(alloc, entry, "report", *ticket),
-        Event::Release(ticket) => ticketed(alloc, entry, "release", *ticket),
-        Event::Install(_) => plain(alloc, entry, "install"),
-        Event::Move(to) => transition(alloc, entry, *to),
-        Event::Reset => plain(alloc, entry, "reset"),
-    }
+    out.begin_object()?;
+    put_members(
+        out,
+        &[
+            Member::Text("event", event_name(entry.event())),
+            Member::Count("moment", entry.moment()),
+            Member::Count("number", entry.number()),
+        ],
+    )?;
+    out.key("reply")?;
+    reply(out, entry.reply())?;
+    put_members(out, &[Member::Count("seat", u64::from(entry.seat()))])?;
+    end_entry(out, entry.event())
 }

@@ -4,6 +4,7 @@
 
 mod entries;
 pub mod laws;
+mod members;
 mod names;
 mod pages;
 mod responses;

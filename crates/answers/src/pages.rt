@@ -1,13 +1,17 @@
-//! Pages of the journal. Every error is want of memory.
-ghost use Rattle.std.specs.Prelude.{◌≡◌, map, IfOk};
-ghost use Rattle.serde_json.specs.View.{view};
+//! Pages of the journal. Every error is want of memory, and leaves a part of what was to be written.
+ghost use Rattle.std.specs.Prelude.{◌≡◌, ◌∷◌, map, OnOk};
+ghost use Rattle.json.specs.Token.{begin_array};
+ghost use Rattle.serde_json.specs.Data.{array};
+ghost use Rattle.serde_json.specs.View.{items_of};
 ghost use Rattle.answers.specs.Entries.{entry_data};
 ghost use Rattle.answers.specs.Pages.{next_number, page_data};
+ghost use Rattle.answers.specs.Writing.{Adds, tokens_of};
 
 use crate::entries::entry;
+use crate::members::{Member, put_members};
 use book::Entry;
-use serde_json::{Value, json};
-use std::alloc::{AllocError, Global};
+use json::Writer;
+use std::alloc::AllocError;
 
 /// The number from which the next page goes on.
 fn next_number(lines: &[Entry], from: u64) -> u64
@@ -19,23 +23,25 @@ fn next_number(lines: &[Entry], from: u64) -> u64
     }
 }
 
-/// Each entry as a value, in order.
-fn values(alloc: Global, lines: &[Entry]) -> Result<Vec<Value>, AllocError>
-    ensures { IfOk result (λ values. map view values.items ≡ map entry_data lines.now) }
+/// Writes each entry, in order.
+fn put_entries(out: &mut Writer, lines: &[Entry]) -> Result<(), AllocError>
+    ensures { OnOk result (Adds (tokens_of (array (items_of (map entry_data lines.now)))) out.old out.new) }
 {
-    let mut values = Vec::with_capacity(alloc, lines.len())?;
+    out.begin_array()?;
     for line in lines {
-        values.push(entry(alloc, line)?)?;
+        entry(out, line)?;
     }
-    Ok(values)
+    out.end_array()
 }
 
 /// A page of the journal: its entries, and the number from which the next page goes on, which is one more than that of
 /// the last entry, or `from` where there is no entry.
-pub(crate) fn page(alloc: Global, lines: &[Entry], from: u64) -> Result<Value, AllocError>
-    ensures { IfOk result (λ value. view value ≡ page_data lines.now from) }
+pub(crate) fn page(out: &mut Writer, lines: &[Entry], from: u64) -> Result<(), AllocError>
+    ensures { OnOk result (Adds (tokens_of (page_data lines.now from)) out.old out.new) }
 {
-    let entries = values(alloc, lines)?;
-    let next = next_number(lines, from);
-    json!(in alloc; {"entries": entries, "next": next})
+    out.begin_object()?;
+    out.key("entries")?;
+    put_entries(out, lines)?;
+    put_members(out, &[Member::Count("next", next_number(lines, from))])?;
+    out.end_object()
 }

@@ -1,16 +1,19 @@
 //! The text of a response, and its status.
-ghost use Rattle.std.specs.Prelude.{◌≡◌, IfOk, string_bytes};
-ghost use Rattle.serde_json.specs.View.{view};
+ghost use Rattle.std.specs.Prelude.{◌≡◌, IfOk, OnOk};
 ghost use Rattle.service.specs.Asked.{response_data};
 ghost use Rattle.answers.specs.Texts.{reply_status};
 ghost use Rattle.answers.specs.Responses.{response_json, body, status};
+ghost use Rattle.answers.specs.Writing.{Adds, tokens_of};
 
 use crate::pages::page;
 use crate::values;
 use book::Reply;
-use serde_json::Value;
+use json::Writer;
 use service::Response;
 use std::alloc::{AllocError, Global};
+
+/// For how many bytes of a body memory is taken at first: all but a page and some readings have fewer.
+const ROOM: usize = 192;
 
 fn reply_status(reply: Reply) -> u16
     ensures { result ≡ reply_status reply }
@@ -32,24 +35,26 @@ pub fn status(response: &Response) -> u16
     }
 }
 
-fn value(alloc: Global, response: &Response) -> Result<Value, AllocError>
-    ensures { IfOk result (λ value. view value ≡ response_json (response_data response.now)) }
+/// Writes a response as a JSON value.
+fn put_response(out: &mut Writer, response: &Response) -> Result<(), AllocError>
+    ensures { OnOk result (Adds (tokens_of (response_json (response_data response.now))) out.old out.new) }
 {
     match response {
-        Response::Reply(reply) => values::reply(alloc, *reply),
-        Response::Reading(reading) => values::reading(alloc, reading),
-        Response::Page { from, entries } => page(alloc, entries, *from),
-        Response::HandedOut(entries) => values::handed_out(alloc, entries.len() as u64),
-        Response::ProgramRefused(refusal) => values::program_refusal(alloc, *refusal),
+        Response::Reply(reply) => values::reply(out, *reply),
+        Response::Reading(reading) => values::reading(out, reading),
+        Response::Page { from, entries } => page(out, entries, *from),
+        Response::HandedOut(entries) => values::handed_out(out, entries.len() as u64),
+        Response::ProgramRefused(refusal) => values::program_refusal(out, *refusal),
     }
 }
 
 /// The body of a response: compact JSON (RFC 8259) with its keys in ascending byte order. A page has its entries,
 /// with what happened, when, and what was answered, and the number from which the next page goes on; of what a cut or a roll
 /// hands out the count is told. The only error is want of memory.
-#[tactic(auto, using(crate::proofs::NoFloats::response_has_none))]
-pub fn body(alloc: Global, response: &Response) -> Result<String, AllocError>
-    ensures { IfOk result (λ text. string_bytes text ≡ body (response_data response.now)) }
+pub fn body(alloc: Global, response: &Response) -> Result<Vec<u8>, AllocError>
+    ensures { IfOk result (λ text. text.items ≡ body (response_data response.now)) }
 {
-    value(alloc, response)?.to_string(alloc)
+    let mut out = Writer::new(Vec::with_capacity(alloc, ROOM)?);
+    put_response(&mut out, response)?;
+    Ok(out.into_inner())
 }

@@ -1,142 +1,178 @@
-//! Answers as JSON values. Every error is want of memory.
-ghost use Rattle.std.specs.Prelude.{◌≡◌, IfOk};
-ghost use Rattle.serde_json.specs.View.{view};
+//! Answers as JSON values. Every error is want of memory, and leaves a part of what was to be written.
+ghost use Rattle.std.specs.Prelude.{◌≡◌, OnOk};
 ghost use Rattle.service_profile.specs.declared.replies.Reply.TheVariants as replied;
-ghost use Rattle.answers.specs.Texts.{rate, refusal_data, program_refusal_data, handed_out_data, reply_data, reading_data};
+ghost use Rattle.answers.specs.Texts.{refusal_data, program_refusal_data, handed_out_data, reply_data, reading_data};
+ghost use Rattle.answers.specs.Writing.{Adds, tokens_of};
 
+use crate::members::{Member, put_object};
 use crate::names::{fate_name, state_name};
 use book::{Fate, Reading, Reply, State};
 use bpf_profile::{Layout, Verdict};
+use json::Writer;
 use refusals::RefusalNumber;
-use serde_json::{Value, json};
-use std::alloc::{AllocError, Global};
+use std::alloc::AllocError;
 use texts::verdict_name;
 use verifier::Refusal;
 
-fn rate(percent: Option<u64>) -> Value
-    ensures { view result ≡ rate percent }
+fn refusal(out: &mut Writer, number: RefusalNumber) -> Result<(), AllocError>
+    ensures { OnOk result (Adds (tokens_of (refusal_data number)) out.old out.new) }
 {
-    match percent {
-        Some(percent) => Value::from(percent),
-        None => Value::from(-1i64),
-    }
+    put_object(
+        out,
+        &[
+            Member::Count("error", u64::from(number.number())),
+            Member::Text("name", number.name()),
+        ],
+    )
 }
 
-fn refusal(alloc: Global, number: RefusalNumber) -> Result<Value, AllocError>
-    ensures { IfOk result (λ value. view value ≡ refusal_data number) }
+pub(crate) fn program_refusal(out: &mut Writer, refusal: Refusal) -> Result<(), AllocError>
+    ensures { OnOk result (Adds (tokens_of (program_refusal_data refusal)) out.old out.new) }
 {
-    let name = number.name();
-    let number = number.number();
-    json!(in alloc; {"error": number, "name": name})
+    put_object(
+        out,
+        &[
+            Member::Count("error", u64::from(refusal.number.number())),
+            Member::Text("name", refusal.number.name()),
+            Member::Count("slot", u64::from(refusal.slot)),
+        ],
+    )
 }
 
-pub(crate) fn program_refusal(alloc: Global, refusal: Refusal) -> Result<Value, AllocError>
-    ensures { IfOk result (λ value. view value ≡ program_refusal_data refusal) }
+pub(crate) fn handed_out(out: &mut Writer, count: u64) -> Result<(), AllocError>
+    ensures { OnOk result (Adds (tokens_of (handed_out_data count)) out.old out.new) }
 {
-    let name = refusal.number.name();
-    let number = refusal.number.number();
-    let slot = refusal.slot;
-    json!(in alloc; {"error": number, "name": name, "slot": slot})
+    put_object(out, &[Member::Count("entries", count)])
 }
 
-pub(crate) fn handed_out(alloc: Global, count: u64) -> Result<Value, AllocError>
-    ensures { IfOk result (λ value. view value ≡ handed_out_data count) }
+fn permitted(out: &mut Writer, ticket: u64, version: u64, state: State) -> Result<(), AllocError>
+    ensures { OnOk result (Adds (tokens_of (reply_data (replied.Permitted ticket version state))) out.old out.new) }
 {
-    json!(in alloc; {"entries": count})
-}
-
-fn permitted(alloc: Global, ticket: u64, version: u64, state: State) -> Result<Value, AllocError>
-    ensures { IfOk result (λ value. view value ≡ reply_data (replied.Permitted ticket version state)) }
-{
-    let state = state_name(state);
-    json!(in alloc; {"state": state, "ticket": ticket, "version": version})
+    put_object(
+        out,
+        &[
+            Member::Text("state", state_name(state)),
+            Member::Count("ticket", ticket),
+            Member::Count("version", version),
+        ],
+    )
 }
 
 fn finished(
-    alloc: Global,
+    out: &mut Writer,
     fate: Fate,
     verdict: Verdict,
     steps: u32,
     version: u64,
     state: State,
-) -> Result<Value, AllocError>
-    ensures { IfOk result (λ value. view value ≡ reply_data (replied.Finished fate verdict steps version state)) }
+) -> Result<(), AllocError>
+    ensures { OnOk result (Adds (tokens_of (reply_data (replied.Finished fate verdict steps version state))) out.old out.new) }
 {
-    let fate = fate_name(fate);
-    let verdict = verdict_name(verdict);
-    let state = state_name(state);
-    json!(in alloc; {"fate": fate, "state": state, "steps": steps, "verdict": verdict, "version": version})
+    put_object(
+        out,
+        &[
+            Member::Text("fate", fate_name(fate)),
+            Member::Text("state", state_name(state)),
+            Member::Count("steps", u64::from(steps)),
+            Member::Text("verdict", verdict_name(verdict)),
+            Member::Count("version", version),
+        ],
+    )
 }
 
-fn released(alloc: Global, state: State) -> Result<Value, AllocError>
-    ensures { IfOk result (λ value. view value ≡ reply_data (replied.Released state)) }
+fn released(out: &mut Writer, state: State) -> Result<(), AllocError>
+    ensures { OnOk result (Adds (tokens_of (reply_data (replied.Released state))) out.old out.new) }
 {
-    let state = state_name(state);
-    json!(in alloc; {"fate": "released", "state": state})
+    put_object(
+        out,
+        &[
+            Member::Text("fate", "released"),
+            Member::Text("state", state_name(state)),
+        ],
+    )
 }
 
-fn installed(alloc: Global, version: u64, budget: u32, layout: Layout) -> Result<Value, AllocError>
-    ensures { IfOk result (λ value. view value ≡ reply_data (replied.Installed version budget layout)) }
+fn installed(out: &mut Writer, version: u64, budget: u32, layout: Layout) -> Result<(), AllocError>
+    ensures { OnOk result (Adds (tokens_of (reply_data (replied.Installed version budget layout))) out.old out.new) }
 {
+    let budget = u64::from(budget);
     match layout {
-        Layout::One => json!(in alloc; {"budget": budget, "version": version}),
-        Layout::Two => json!(in alloc; {"budget": budget, "layout": 2, "version": version}),
+        Layout::One => put_object(
+            out,
+            &[
+                Member::Count("budget", budget),
+                Member::Count("version", version),
+            ],
+        ),
+        Layout::Two => put_object(
+            out,
+            &[
+                Member::Count("budget", budget),
+                Member::Count("layout", 2),
+                Member::Count("version", version),
+            ],
+        ),
     }
 }
 
-fn moved(alloc: Global, state: State, period: u64) -> Result<Value, AllocError>
-    ensures { IfOk result (λ value. view value ≡ reply_data (replied.Moved state period)) }
+fn moved(out: &mut Writer, state: State, period: u64) -> Result<(), AllocError>
+    ensures { OnOk result (Adds (tokens_of (reply_data (replied.Moved state period))) out.old out.new) }
 {
-    let state = state_name(state);
-    json!(in alloc; {"period": period, "state": state})
+    put_object(
+        out,
+        &[
+            Member::Count("period", period),
+            Member::Text("state", state_name(state)),
+        ],
+    )
 }
 
-pub(crate) fn reply(alloc: Global, reply: Reply) -> Result<Value, AllocError>
-    ensures { IfOk result (λ value. view value ≡ reply_data reply) }
+pub(crate) fn reply(out: &mut Writer, reply: Reply) -> Result<(), AllocError>
+    ensures { OnOk result (Adds (tokens_of (reply_data reply)) out.old out.new) }
 {
     match reply {
-        Reply::Refused(number) => refusal(alloc, number),
+        Reply::Refused(number) => refusal(out, number),
         Reply::Permitted {
             ticket,
             version,
             state,
-        } => permitted(alloc, ticket, version, state),
+        } => permitted(out, ticket, version, state),
         Reply::Finished {
             fate,
             verdict,
             steps,
             version,
             state,
-        } => finished(alloc, fate, verdict, steps, version, state),
-        Reply::Released { state } => released(alloc, state),
+        } => finished(out, fate, verdict, steps, version, state),
+        Reply::Released { state } => released(out, state),
         Reply::Installed {
             version,
             budget,
             layout,
-        } => installed(alloc, version, budget, layout),
-        Reply::Moved { state, period } => moved(alloc, state, period),
+        } => installed(out, version, budget, layout),
+        Reply::Moved { state, period } => moved(out, state, period),
     }
 }
 
-pub(crate) fn reading(alloc: Global, reading: &Reading) -> Result<Value, AllocError>
-    ensures { IfOk result (λ value. view value ≡ reading_data reading.now) }
+pub(crate) fn reading(out: &mut Writer, reading: &Reading) -> Result<(), AllocError>
+    ensures { OnOk result (Adds (tokens_of (reading_data reading.now)) out.old out.new) }
 {
-    let state = state_name(reading.state);
-    let failure_rate = rate(reading.failure_rate);
-    let slow_rate = rate(reading.slow_rate);
-    json!(in alloc; {
-        "budget": reading.budget,
-        "entries": reading.entries,
-        "failed": reading.failed,
-        "failureRate": failure_rate,
-        "free": reading.free,
-        "notPermitted": reading.not_permitted,
-        "open": reading.open_tickets,
-        "period": reading.period,
-        "slow": reading.slow,
-        "slowRate": slow_rate,
-        "state": state,
-        "total": reading.total,
-        "version": reading.version
-    })
+    put_object(
+        out,
+        &[
+            Member::Count("budget", u64::from(reading.budget)),
+            Member::Count("entries", reading.entries),
+            Member::Count("failed", reading.failed),
+            Member::Rate("failureRate", reading.failure_rate),
+            Member::Count("free", reading.free),
+            Member::Count("notPermitted", reading.not_permitted),
+            Member::Count("open", reading.open_tickets),
+            Member::Count("period", reading.period),
+            Member::Count("slow", reading.slow),
+            Member::Rate("slowRate", reading.slow_rate),
+            Member::Text("state", state_name(reading.state)),
+            Member::Count("total", reading.total),
+            Member::Count("version", reading.version),
+        ],
+    )
 }

@@ -7,6 +7,7 @@ use Rattle.bpf_profile.specs.Layouts.{context_size}
 use Rattle.bpf_profile.specs.Meaning.{Judges}
 use Rattle.bpf_profile.specs.Outcomes.{Outcome}
 use Rattle.bpf_profile.specs.Safety.{IsSafe}
+use Rattle.bpf_profile.specs.Spelling.{Fault}
 use Rattle.helpers.specs.Json.{outcome_of}
 use Rattle.texts.specs.JsonText.{json_of}
 use Rattle.bpf_profile.specs.Programs.{VerifiedProgram}
@@ -33,6 +34,10 @@ IsTextRefused layout text fault =
     (fault.number ≡ ProgramOutOfMemory)
     ⊎ ((fault.number ≡ BadHex) × (hex_of text ≡ None))
     ⊎ ((bytes : List ℕ) × (hex_of text ≡ Some bytes) × IsRefused layout bytes (record { slot = fault.place; number = fault.number }))
+
+-- the text is hexadecimal of bytes that are refused on records of the layout, for their first fault
+abbrev pub IsFaulty : Layout → List ℕ → Type 0
+IsFaulty layout text = (bytes : List ℕ) × (hex_of text ≡ Some bytes) × (fault : Fault) × IsRefused layout bytes fault
 
 -- what `verify` answers
 abbrev pub IsVerifyAnswer : Layout → List ℕ → Answer → Type 0

@@ -13,7 +13,7 @@ use Rattle.classifier_commands.specs.declared.commands.Request.{Request}
 use Rattle.classifier_commands.specs.declared.commands.Request.TheVariants as request
 use Rattle.classifier_commands.specs.declared.commands.Status.{Status}
 use Rattle.classifier_commands.specs.declared.commands.Status.TheVariants as status
-use Rattle.classifier_commands.specs.Answers.{IsAllOf, IsAccepted, IsVerifyAnswer, IsJudgeAnswer}
+use Rattle.classifier_commands.specs.Answers.{IsAllOf, IsAccepted, IsFaulty, IsVerifyAnswer, IsJudgeAnswer}
 use Rattle.classifier_commands.specs.Assembling.{IsAssembled, IsAssemblyRefused, IsDisassembled, IsDisassemblyRefused}
 use Rattle.classifier_commands.specs.Text.{answer_text}
 
@@ -66,6 +66,17 @@ WantsInput (request.Judge program layout) = IsAccepted layout program.now
 WantsInput (request.Verify program layout) = ⊥
 WantsInput request.Assemble = ⊤
 WantsInput (request.Disassemble program) = ⊥
+
+-- the words are those of `judge` or `verify` with a program that is refused on records of its layout
+abbrev pub NamesFaulty : Words → Type 0
+NamesFaulty words = (layout : Layout) × (NamesFor words (codes "judge") layout ⊎ NamesFor words (codes "verify") layout) × IsFaulty layout (word words 1)
+
+-- the request is one to verify a program, which is refused
+abbrev pub HasFault : Request → Type 0
+HasFault (request.Judge program layout) = IsFaulty layout program.now
+HasFault (request.Verify program layout) = IsFaulty layout program.now
+HasFault request.Assemble = ⊥
+HasFault (request.Disassemble program) = ⊥
 
 -- the line that wrong words are answered with
 abbrev pub usage : List ℕ

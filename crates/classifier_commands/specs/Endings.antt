@@ -40,3 +40,9 @@ abbrev pub IsCut : {W : Type 0} → CommandError → W → W → Type 0 → Type
 IsCut error.ReadFailed before after written = after ≡ before
 IsCut error.WriteFailed before after written = written
 IsCut error.OutOfMemory before after written = after ≡ before
+
+-- ---- standard error
+
+-- what standard error may have behind a refused program, for people: nothing, or a text, or a beginning of it
+abbrev pub IsExplained : Option (List ℕ) → Option (List ℕ) → Type 0
+IsExplained before after = (after ≡ before) ⊎ ((text : List ℕ) × AppendsPart before after text)

@@ -1,15 +1,16 @@
 //! The commands that the program's words name.
-ghost use Rattle.std.specs.Prelude.{◌≡◌, IsNone, IfOk, IfErr, IfSome};
+ghost use Rattle.std.specs.Prelude.{◌≡◌, Ok, IsNone, IfOk, IfErr, IfSome};
 ghost use Rattle.std.specs.Io.KnownBytes.{Appends};
 ghost use Rattle.counted_io.specs.Counting.{AtMostOneMore};
 ghost use Rattle.classifier_commands.specs.Causes.{IsCommandCause, IsWriteCause};
 ghost use Rattle.classifier_commands.specs.Answers.{IsAccepted};
-ghost use Rattle.classifier_commands.specs.Commands.{NamesNone, AsksForInput, WantsInput, IsRequest, IsDone, HasJudged, HasAssembled, HasDisassembled, usage, code_of, status_of_error, IsSettled, HasAnswered};
-ghost use Rattle.classifier_commands.specs.Endings.{IsUsageShown, IsCommandEnd, IsUnanswered, IsInPart, IsAnsweredInPart, IsCut};
+ghost use Rattle.classifier_commands.specs.Commands.{NamesNone, NamesFaulty, AsksForInput, WantsInput, HasFault, IsRequest, IsDone, HasJudged, HasAssembled, HasDisassembled, usage, code_of, status_of_error, IsSettled, HasAnswered};
+ghost use Rattle.classifier_commands.specs.Endings.{IsUsageShown, IsCommandEnd, IsUnanswered, IsInPart, IsAnsweredInPart, IsCut, IsExplained};
 
 use crate::answer::Answer;
 use crate::assembling::{assembled, disassembled};
 use crate::error::CommandError;
+use crate::explaining::notify_reason;
 use crate::input::read_all;
 use crate::judging::{judge, verify};
 use crate::printing::{print, print_line, print_lines};
@@ -84,6 +85,43 @@ impl<'a> Request<'a> {
             Request::Assemble => assemble_text(alloc, reader, out),
             Request::Disassemble(program) => disassemble_program(alloc, program, out),
         }
+    }
+
+    /// Writes on `err` why the program is refused, where it is one to be verified.
+    fn explain<E: Write>(&self, alloc: Global, err: &mut Counted<E>)
+        ensures explained { IsExplained (E.contents err.old.inner) (E.contents err.new.inner) }
+        ensures quiet { (HasFault self.now → ⊥) → err.new ≡ err.old }
+    {
+        match self {
+            Request::Judge { program, layout } | Request::Verify { program, layout } => {
+                notify_reason(alloc, program, *layout, err);
+            }
+            Request::Assemble | Request::Disassemble(_) => {}
+        }
+    }
+
+    /// Does what is asked for, and where that is refused, writes on `err` why the program is.
+    fn fulfil_aloud<R: Read, O: Write, E: Write>(
+        &self,
+        alloc: Global,
+        reader: &mut Counted<R>,
+        out: &mut Counted<O>,
+        err: &mut Counted<E>,
+    ) -> Result<Status, CommandError>
+        ensures done { IfOk result (λ status. IsDone self.now (R.remaining reader.old.inner) status (O.contents out.old.inner) (O.contents out.new.inner)) }
+        ensures settled { IfOk result IsSettled }
+        ensures part { IfErr result (λ error. IsCut error out.old out.new (IsInPart (IsDone self.now (R.remaining reader.old.inner)) (O.contents out.old.inner) (O.contents out.new.inner))) }
+        ensures unread { (WantsInput self.now → ⊥) → reader.new ≡ reader.old }
+        ensures explained { IsExplained (E.contents err.old.inner) (E.contents err.new.inner) }
+        ensures quiet { (HasFault self.now × (result ≡ Ok Status.Refused) → ⊥) → err.new ≡ err.old }
+        ensures cause { IsCommandCause result reader.old.failures reader.new.failures out.old.failures out.new.failures }
+        ensures ends { AtMostOneMore reader.old.ends reader.new.ends }
+    {
+        let ended = self.fulfil(alloc, reader, out)?;
+        if ended == Status::Refused {
+            self.explain(alloc, err);
+        }
+        Ok(ended)
     }
 }
 
@@ -220,7 +258,8 @@ fn show_usage<E: Write>(err: &mut Counted<E>) -> Status
 /// Does what the words ask for of a classifier, `judge`, `verify`, `asm` or `dis`, and answers how that ended.
 ///
 /// An answer, also a refusal, is one line on `out`; for wrong words there is a line on `err` and
-/// nothing on `out`. Where the reader or the writer fails, or memory runs out with no answer that
+/// nothing on `out`. Behind the refusal of the program of `judge` or `verify` there are lines on `err` too, which say
+/// why it is refused, for people. Where the reader or the writer fails, or memory runs out with no answer that
 /// says so, nothing more is written. One failed read or write ends the command, also one that was
 /// interrupted. Input is read byte by byte: give it a reader that is buffered. Behind the program of `judge` and of
 /// `verify` may stand the number of the layout of records that it is for, `1` or `2`; without it, it is for layout 1.
@@ -247,8 +286,10 @@ pub fn command<R: Read, O: Write, E: Write>(
     // Words that name no command print nothing on `out`, and the usage on `err`, or a beginning of it where a write failed.
     ensures silent { NamesNone words.now → out.new ≡ out.old }
     ensures usage { NamesNone words.now → IsUsageShown result (E.contents err.old.inner) (E.contents err.new.inner) err.old.failures err.new.failures }
-    // Words that name a command write nothing on `err`.
-    ensures quiet { (NamesNone words.now → ⊥) → err.new ≡ err.old }
+    // Words that name a command write nothing on `err`, but where the program of `judge` or `verify` is refused; a text is
+    // then written there, or a part of it, or nothing.
+    ensures quiet { (NamesNone words.now → ⊥) → (NamesFaulty words.now × (result ≡ Status.Refused) → ⊥) → err.new ≡ err.old }
+    ensures explained { (NamesNone words.now → ⊥) → IsExplained (E.contents err.old.inner) (E.contents err.new.inner) }
     // A failed read or write is answered where that count went up by one, and in no other case.
     ensures cause { IsCommandEnd result reader.old.failures reader.new.failures out.old.failures out.new.failures }
     // The end of the input is met once at most: no read is made behind it.
@@ -257,7 +298,7 @@ pub fn command<R: Read, O: Write, E: Write>(
     let Some(request) = Request::from_words(words) else {
         return show_usage(err);
     };
-    match request.fulfil(alloc, reader, out) {
+    match request.fulfil_aloud(alloc, reader, out, err) {
         Ok(status) => status,
         Err(error) => Status::of_error(error),
     }

@@ -5,6 +5,7 @@ mod answer;
 mod assembling;
 mod commands;
 mod error;
+mod explaining;
 mod hexadecimal;
 mod input;
 mod judging;

@@ -8,19 +8,22 @@ use std::net::SocketAddr;
 /// How many workers a file has at most.
 const MOST_WORKERS: u64 = 64;
 
+/// How many open connections a file allows at most.
+const MOST_OPEN: u64 = 65_536;
+
 /// Returns the first key of an object that no file has.
 fn unknown_key(alloc: Global, members: &Map<String, Value>) -> Result<Option<String>, AllocError> {
     for key in members.keys() {
         let key = key.as_str();
         if !matches!(
             key,
-            "listen" | "workers" | "keeper" | "connections" | "services"
+            "listen" | "workers" | "keeper" | "connections" | "open" | "services"
         ) {
             let place = Place { path: "", key };
             return unknown(
                 alloc,
                 place,
-                "listen, workers, keeper, connections and services",
+                "listen, workers, keeper, connections, open and services",
             );
         }
     }
@@ -103,6 +106,11 @@ fn mistake_in(alloc: Global, value: &Value) -> Result<Option<String>, AllocError
         return Ok(Some(mistake));
     }
     if let Some(mistake) = count_mistake(alloc, value, "connections", 0, u64::MAX)? {
+        return Ok(Some(mistake));
+    }
+    if value.get("open").is_some()
+        && let Some(mistake) = count_mistake(alloc, value, "open", 1, MOST_OPEN)?
+    {
         return Ok(Some(mistake));
     }
     services_mistake(alloc, value)

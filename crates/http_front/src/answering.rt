@@ -26,7 +26,7 @@ pub(crate) fn write_fault(alloc: Global, text: &mut Vec<u8>, fault: Fault) -> Re
         text,
         &AnswerMessage {
             status: status(&refusal),
-            body: body.as_str(),
+            body: &body,
             allow: None,
             closes: true,
             head_only: fault.to_head,
@@ -52,7 +52,7 @@ pub(crate) fn write_response(
         text,
         &AnswerMessage {
             status: status(response),
-            body: body.as_str(),
+            body: &body,
             allow,
             closes: request.closes,
             head_only: is_head_method(request.method),

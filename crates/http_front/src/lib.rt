@@ -17,4 +17,5 @@ pub use bodies::body_asks;
 pub use books::{Books, NamedBook};
 pub use http_serving::{Clock, Ended};
 pub use message::{AnswerMessage, write_answer};
+pub use responder::HttpResponder;
 pub use serving::serve;

@@ -14,7 +14,7 @@ pub struct AnswerMessage<'a> {
     /// The status code (RFC 9110, section 15).
     pub status: u16,
     /// The body.
-    pub body: &'a str,
+    pub body: &'a [u8],
     /// Where a route was asked with another method: the route whose method is allowed.
     pub allow: Option<Route>,
     /// Whether the connection ends after this answer.
@@ -23,12 +23,21 @@ pub struct AnswerMessage<'a> {
     pub head_only: bool,
 }
 
-/// The status line (RFC 9112, section 4).
+/// For how many bytes of a head memory is taken at first: few heads have more.
+const ROOM: usize = 160;
+
+/// The status line (RFC 9112, section 4), with room for the fields.
 fn status_line(alloc: Global, status: u16) -> Result<String, AllocError>
     ensures { IfOk result (λ text. string_bytes text ≡ status_line status) }
 {
-    let phrase = phrase_of(status);
-    format!(in alloc; "HTTP/1.1 {status} {phrase}\r\n")
+    let mut digits = Buffer::new();
+    let mut head = String::with_capacity(alloc, ROOM)?;
+    head.push_str("HTTP/1.1 ")?;
+    head.push_str(digits.format(status))?;
+    head.push_str(" ")?;
+    head.push_str(phrase_of(status))?;
+    head.push_str("\r\n")?;
+    Ok(head)
 }
 
 /// Adds a field's line.
@@ -80,10 +89,10 @@ fn head_of(alloc: Global, answer: &AnswerMessage<'_>) -> Result<String, AllocErr
 }
 
 /// What follows the head.
-fn body_of<'a>(answer: &AnswerMessage<'a>) -> &'a str
+fn body_of<'a>(answer: &AnswerMessage<'a>) -> &'a [u8]
     ensures { result.now ≡ body_of (answer_data answer.now) }
 {
-    if answer.head_only { "" } else { answer.body }
+    if answer.head_only { b"" } else { answer.body }
 }
 
 /// Writes an answer behind the text that is there (RFC 9112, section 4). The error is want of memory; then
@@ -100,5 +109,5 @@ pub fn write_answer(
     let body = body_of(answer);
     text.reserve(head.len() + body.len())?;
     text.extend_from_slice(head.as_bytes())?;
-    text.extend_from_slice(body.as_bytes())
+    text.extend_from_slice(body)
 }

@@ -12,16 +12,17 @@ use http_serving::{HttpRequest, Responder};
 use service::Response;
 use std::alloc::{AllocError, Global};
 
-/// What answering needs beside the answerer, made once.
+/// Answers messages by what an answerer responds to what they ask. It has what answering needs beside the answerer,
+/// and is made once for many connections.
 #[derive(Drop)]
-pub(crate) struct HttpResponder {
+pub struct HttpResponder {
     alloc: Global,
     routes: Routes,
 }
 
 impl HttpResponder {
     /// Makes the routes. The error is want of memory.
-    pub(crate) fn new(alloc: Global) -> Result<HttpResponder, AllocError> {
+    pub fn new(alloc: Global) -> Result<HttpResponder, AllocError> {
         let routes = Routes::new(alloc)?;
         Ok(HttpResponder { alloc, routes })
     }

@@ -1,3 +1,1 @@
-pub mod Failing
-pub mod Chains
-pub mod EachWorker
+mod EachWorker

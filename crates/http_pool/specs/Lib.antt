@@ -1,3 +1,2 @@
-pub mod Failures
 pub mod Connections
 pub mod Workers

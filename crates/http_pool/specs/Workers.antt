@@ -1,22 +1,15 @@
 -- What becomes of workers, each of which serves connections beside the others.
-use Rattle.std.specs.Prelude.{◌≡◌, ◌==◌, ◌||◌, nat_lt, ℕ, List, [], ◌∷◌, Bool, false, Option, None, IfSome, ⊤}
+use Rattle.std.specs.Prelude.{◌≡◌, ℕ, List, [], ◌∷◌, Option, None, IfSome, ⊤}
 use Rattle.std.specs.List.{AllByRecursion}
 use Rattle.service.specs.Asked.{RequestData, ResponseData}
 use Rattle.http_pool.specs.declared.workers.Worker.{Worker}
-use Rattle.http_pool.specs.Failures.{IsOfListener}
+use Rattle.event_loop.specs.Failures.{IsOfListener}
+use Rattle.event_loop.specs.Numbers.{ends}
 use Rattle.http_pool.specs.Connections.{HasServed}
 
 -- how many workers serve at most
 abbrev pub most_workers : ℕ
 most_workers = 64
-
--- whether the connection of this number, from 0 on, is one of so many; 0 sets no limit
-abbrev pub is_left : ℕ → ℕ → Bool
-is_left connections number = (connections == 0) || nat_lt number connections
-
--- some number is not left: there is a limit
-abbrev pub ends : ℕ → Type 0
-ends connections = (number : ℕ) × (is_left connections number ≡ false)
 
 -- a worker met a failure of the listener, or ended by itself
 abbrev pub HasEnded : {S C : Type 0} → ℕ → Worker S C → Type 0

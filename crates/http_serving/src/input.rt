@@ -15,7 +15,7 @@ const PIECE: usize = 4_096;
 
 /// What stands at the front of the unread bytes.
 #[derive(Clone, Copy, Debug)]
-pub(crate) enum Found {
+pub enum Found {
     /// A whole message.
     Whole(Head),
     /// A message that is refused.
@@ -48,7 +48,7 @@ fn fill<R: Read>(reader: &mut Counted<R>, unread: &mut Vec<u8>) -> Result<bool, 
 }
 
 /// Drops the first bytes.
-pub(crate) fn drop_front(unread: &mut Vec<u8>, count: usize)
+pub fn drop_front(unread: &mut Vec<u8>, count: usize)
     requires within { count ≤ length unread.old.items }
     ensures { unread.new.items ≡ drop count unread.old.items }
 {

@@ -10,5 +10,6 @@ mod serving;
 
 pub use clock::Clock;
 pub use ended::Ended;
+pub use input::{Found, drop_front};
 pub use responder::{HttpRequest, Responder};
-pub use serving::serve;
+pub use serving::{request_at, serve};

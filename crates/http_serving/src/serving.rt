@@ -21,7 +21,7 @@ use std::io::{Read, Write};
 use std::sync::Wait;
 
 /// The request at the front of the unread bytes.
-fn request_at<'a>(unread: &'a [u8], head: &Head) -> HttpRequest<'a>
+pub fn request_at<'a>(unread: &'a [u8], head: &Head) -> HttpRequest<'a>
     requires whole { IsFound unread.now (Found.Whole head.now) }
     ensures { (h : RequestHead) → IsHeadAt unread.now head.now h → http_request_data result ≡ request_of (message_of unread.now head.now h) }
 {

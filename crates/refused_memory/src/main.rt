@@ -1,4 +1,4 @@
-//! Calls that may want memory: of a book, over HTTP, by a seat at a slot, and of the assembler and the verifier. What is refused
+//! Calls that may want memory: of a book, over HTTP, in turns, by a seat at a slot, and of the assembler and the verifier. What is refused
 //! for want of memory must change nothing, and is tried again. So what is printed is the same whichever
 //! single request for memory is refused, but for the last line, which counts the refusals that were met.
 //!
@@ -12,6 +12,7 @@ mod counting;
 mod messages;
 mod programs;
 mod seats;
+mod turns;
 
 use calls::ask_a_book;
 use counting::{Refusals, number, take_and_give};
@@ -20,6 +21,7 @@ use programs::verify_programs;
 use seats::ask_by_a_seat;
 use std::io;
 use std::io::Write;
+use turns::ask_in_turns;
 
 fn main(rt: HostRuntime) -> io::Result<()> {
     let alloc = rt.alloc();
@@ -29,6 +31,7 @@ fn main(rt: HostRuntime) -> io::Result<()> {
     take_and_give(&mut refusals, alloc, times);
     ask_a_book(&mut refusals, alloc, &mut out)?;
     ask_over_http(&rt, &mut refusals, alloc, &mut out)?;
+    ask_in_turns(&mut refusals, alloc, &mut out)?;
     ask_by_a_seat(&rt, &mut refusals, alloc, &mut out)?;
     verify_programs(&mut refusals, alloc, &mut out)?;
     writeln!(out, "refused {}", refusals.0)

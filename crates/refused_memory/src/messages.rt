@@ -13,7 +13,7 @@ use std::sync::Wait;
 use verifier::default_classifier;
 
 /// More bytes than all messages have, and more than all answers.
-const ROOM: usize = 4_096;
+pub(crate) const ROOM: usize = 4_096;
 
 /// A message, its answer where memory is ample, and how many entries the journal has then.
 #[derive(Clone, Copy, Debug)]
@@ -62,7 +62,7 @@ const NO_MEMORY_FOR_A_SERVICE: &[u8] =
 
 /// A clock that stands at 7.
 #[derive(Drop)]
-struct Still;
+pub(crate) struct Still;
 
 impl Clock for Still {
     ghost use Rattle.std.specs.Prelude.{◌≡◌};
@@ -84,7 +84,7 @@ fn opening(alloc: Global, config: Config) -> Option<Books> {
     Some(Books::new(alloc, services))
 }
 
-fn opened(refusals: &mut Refusals, alloc: Global) -> io::Result<Books> {
+pub(crate) fn opened(refusals: &mut Refusals, alloc: Global) -> io::Result<Books> {
     if let Ok(config) = Config::new(ConfigParts::DEFAULT) {
         for _ in 0..TRIES {
             if let Some(books) = opening(alloc, config) {
@@ -124,7 +124,7 @@ fn served(
     (ended, size.saturating_sub(writer.inner().len()))
 }
 
-fn begins_with_refusal(text: &[u8]) -> bool {
+pub(crate) fn begins_with_refusal(text: &[u8]) -> bool {
     text.starts_with(NO_MEMORY_FOR_A_PROGRAM) || text.starts_with(NO_MEMORY_FOR_A_SERVICE)
 }
 
@@ -178,7 +178,7 @@ fn are_answered_apart(rt: &impl Wait, refusals: &mut Refusals, alloc: Global) ->
 
 /// Whether a text is all answers; or the first ones, and then a refusal in place of the next one, or the
 /// end for want of memory.
-fn are_answers(refusals: &mut Refusals, ended: Ended, text: &[u8]) -> bool {
+pub(crate) fn are_answers(refusals: &mut Refusals, ended: Ended, text: &[u8]) -> bool {
     let mut rest = text;
     for message in &MESSAGES {
         match rest.strip_prefix(message.answer) {
@@ -196,6 +196,16 @@ fn are_answers(refusals: &mut Refusals, ended: Ended, text: &[u8]) -> bool {
     ended == Ended::Closed && rest.is_empty()
 }
 
+/// Writes all messages one behind another, and answers how many bytes they have.
+pub(crate) fn all_requests(input: &mut [u8]) -> io::Result<usize> {
+    let room = input.len();
+    let mut left = input;
+    for message in &MESSAGES {
+        left.write_all(message.request)?;
+    }
+    Ok(room.saturating_sub(left.len()))
+}
+
 /// Whether all messages are answered on one connection.
 fn are_answered_together(
     rt: &impl Wait,
@@ -204,11 +214,7 @@ fn are_answered_together(
 ) -> io::Result<bool> {
     let mut books = opened(refusals, alloc)?;
     let mut input = [0; ROOM];
-    let mut left = input.as_mut_slice();
-    for message in &MESSAGES {
-        left.write_all(message.request)?;
-    }
-    let size = ROOM.saturating_sub(left.len());
+    let size = all_requests(&mut input)?;
     let mut room = [0; ROOM];
     let input = input.get(..size).unwrap_or(&[]);
     let (ended, written) = served(rt, alloc, &mut books, input, &mut room);
@@ -216,7 +222,7 @@ fn are_answered_together(
     Ok(are_answers(refusals, ended, text))
 }
 
-fn right(is: bool) -> &'static str {
+pub(crate) fn right(is: bool) -> &'static str {
     if is { "right" } else { "wrong" }
 }
 

@@ -1,5 +1,5 @@
 //! What lines are answered with.
-ghost use Rattle.std.specs.Prelude.{◌≡◌, IfOk, OnOk, string_bytes};
+ghost use Rattle.std.specs.Prelude.{◌≡◌, IfOk, OnOk};
 ghost use Rattle.service_profile.specs.Answers.{map_ok};
 ghost use Rattle.service.specs.Asked.{response_data};
 ghost use Rattle.replay.specs.Answering.{IsAnswered, answer_line};
@@ -35,12 +35,15 @@ fn answer(alloc: Global, book: &mut Book, asked: Result<Asked, RefusalNumber>) -
 }
 
 /// The line of an answer: status, blank and body.
-fn answer_line(alloc: Global, answer: &Response) -> Result<String, AllocError>
-    ensures { IfOk result (λ line. string_bytes line ≡ answer_line (response_data answer.now)) }
+fn answer_line(alloc: Global, answer: &Response) -> Result<Vec<u8>, AllocError>
+    ensures { IfOk result (λ line. line.items ≡ answer_line (response_data answer.now)) }
 {
     let status = status(answer);
     let body = body(alloc, answer)?;
-    format!(in alloc; "{status} {body}\n")
+    let mut line = format!(in alloc; "{status} ")?.into_bytes();
+    line.extend_from_slice(&body)?;
+    line.push(b'\n')?;
+    Ok(line)
 }
 
 /// Answers a line.
@@ -57,7 +60,7 @@ pub(crate) fn answer_to<W: Write>(
     let asked = asked_on(alloc, line)?;
     let answer = answer(alloc, book, asked);
     let text = answer_line(alloc, &answer)?;
-    if out.send(text.as_bytes()).is_err() {
+    if out.send(text.as_slice()).is_err() {
         return Err(ReplayError::WriteFailed);
     }
     Ok(())

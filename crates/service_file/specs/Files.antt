@@ -23,12 +23,13 @@ pub record ServiceData : Type 0 where
   pub program : Option (List ℕ)
   pub layout : Layout
 
--- the whole file: the text of the address, how many workers, how the books are kept between their calls, after how many connections serving ends, and the services
+-- the whole file: the text of the address, how many workers, how the books are kept between their calls, after how many connections serving ends, how many are open at once at most, and the services
 pub record FileData : Type 0 where
   pub listen : List ℕ
   pub workers : ℕ
   pub keeper : Keeper
   pub connections : ℕ
+  pub most_open : ℕ
   pub services : List ServiceData
 
 -- ---- keys
@@ -48,7 +49,7 @@ has_known_keys is_known d = has_known_members is_known (as_object d)
 
 unfoldable pub is_file_key : List ℕ → Bool
 is_file_key key =
-    bytes_eq key (codes "listen") || (bytes_eq key (codes "workers") || (bytes_eq key (codes "connections") || (bytes_eq key (codes "services") || bytes_eq key (codes "keeper"))))
+    bytes_eq key (codes "listen") || (bytes_eq key (codes "workers") || (bytes_eq key (codes "connections") || (bytes_eq key (codes "services") || (bytes_eq key (codes "keeper") || bytes_eq key (codes "open")))))
 
 unfoldable pub is_service_key : List ℕ → Bool
 is_service_key key = bytes_eq key (codes "name") || (bytes_eq key (codes "config") || (bytes_eq key (codes "program") || bytes_eq key (codes "layout")))
@@ -139,7 +140,15 @@ keeper_named name =
 abbrev pub keeper_at : Data → Option Keeper
 keeper_at d = if_there Lock (λ v. option_and_then keeper_named (as_str v)) (get (codes "keeper") d)
 
--- None where the value is no object, lacks a key other than the keeper, has one of another name, or a value that can't be used
+-- from 1 to 65,536
+abbrev pub is_open_limit : ℕ → Bool
+is_open_limit n = nat_le 1 n && nat_le n 65536
+
+-- how many connections are open at once at most: 1,024 where the key is missing; None where another value than such a number stands there
+abbrev pub open_at : Data → Option ℕ
+open_at d = if_there 1024 (λ v. option_and_then (kept_if is_open_limit) (number_at (codes "open") d)) (get (codes "open") d)
+
+-- None where the value is no object, lacks a key other than the keeper and the limit of open connections, has one of another name, or a value that can't be used
 unfoldable pub file_of : Data → Option FileData
 file_of d =
     if has_known_keys is_file_key d then (do
@@ -147,8 +156,9 @@ file_of d =
       workers ← workers_at d
       keeper ← keeper_at d
       connections ← number_at (codes "connections") d
+      most_open ← open_at d
       services ← services_at d
-      Some (record { listen = listen; workers = workers; keeper = keeper; connections = connections; services = services }))
+      Some (record { listen = listen; workers = workers; keeper = keeper; connections = connections; most_open = most_open; services = services }))
     else None
 
 -- the same of JSON text

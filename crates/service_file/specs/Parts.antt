@@ -13,5 +13,6 @@ file_data part = record {
   workers = part.workers;
   keeper = part.keeper;
   connections = part.connections;
+  most_open = part.most_open;
   services = map service_data part.services.items;
 }

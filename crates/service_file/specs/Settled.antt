@@ -38,6 +38,7 @@ pub record AreSettings (settings : Settings) (file : FileData) : Type 0 where
   pub threads : settings.workers ≡ file.workers
   pub kept : settings.keeper ≡ file.keeper
   pub ends : settings.connections ≡ file.connections
+  pub limited : settings.most_open ≡ file.most_open
   pub served : AreServices settings.services.items file.services
 
 -- the text is no address, or some program is refused

@@ -6,6 +6,7 @@ ghost use Rattle.service_file.specs.Parts.{file_data};
 
 use crate::keepers::{Keeper, keeper_at};
 use crate::keys::has_file_keys;
+use crate::limits::open_at;
 use crate::names::is_count;
 use crate::services::{ServicePart, services_at};
 use requests::{number_at, text_at};
@@ -21,6 +22,7 @@ pub(crate) struct FilePart {
     pub workers: u64,
     pub keeper: Keeper,
     pub connections: u64,
+    pub most_open: u64,
     pub services: Vec<ServicePart>,
 }
 
@@ -56,6 +58,9 @@ fn file(alloc: Global, value: &Value) -> Result<Option<FilePart>, AllocError>
     let Some(connections) = number_at(value, "connections") else {
         return Ok(None);
     };
+    let Some(most_open) = open_at(value) else {
+        return Ok(None);
+    };
     let Some(services) = services_at(alloc, value)? else {
         return Ok(None);
     };
@@ -65,6 +70,7 @@ fn file(alloc: Global, value: &Value) -> Result<Option<FilePart>, AllocError>
         workers,
         keeper,
         connections,
+        most_open,
         services,
     }))
 }

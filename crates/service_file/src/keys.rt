@@ -13,7 +13,7 @@ fn is_file_key(key: &str) -> bool
 {
     matches!(
         key,
-        "listen" | "workers" | "connections" | "services" | "keeper"
+        "listen" | "workers" | "connections" | "services" | "keeper" | "open"
     )
 }
 

@@ -5,6 +5,7 @@
 mod file;
 mod keepers;
 mod keys;
+mod limits;
 mod names;
 mod services;
 mod settings;

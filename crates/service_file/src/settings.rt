@@ -31,12 +31,14 @@ pub struct ServiceSettings {
 pub struct Settings {
     /// The address to listen on.
     pub listen: SocketAddr,
-    /// How many connections are served at once, 1 to 64.
+    /// How many threads serve connections, 1 to 64.
     pub workers: u64,
     /// How the books are kept between the workers' calls.
     pub keeper: Keeper,
     /// After how many connections serving ends; 0 for never.
     pub connections: u64,
+    /// How many connections are open at once at most, 1 to 65,536.
+    pub most_open: u64,
     /// 1 to 64 services, no two of one name.
     pub services: Vec<ServiceSettings>,
 }
@@ -134,6 +136,7 @@ fn settled(alloc: Global, part: FilePart) -> Result<Option<Settings>, AllocError
         workers: part.workers,
         keeper: part.keeper,
         connections: part.connections,
+        most_open: part.most_open,
         services,
     }))
 }
@@ -141,7 +144,8 @@ fn settled(alloc: Global, part: FilePart) -> Result<Option<Settings>, AllocError
 /// The settings that a file's text gives.
 ///
 /// The text is a JSON object: `listen` is an IP address with its port, as text; `workers`, 1 to 64; `keeper`, `lock` or
-/// `slot`, the lock where it is missing; `connections`, below 2^64, after how many connections serving ends, or 0 for never; and `services`, an
+/// `slot`, the lock where it is missing; `connections`, below 2^64, after how many connections serving ends, or 0 for never; `open`, 1 to 65,536,
+/// how many connections are open at once at most, 1,024 where it is missing; and `services`, an
 /// array of 1 to 64 objects with `name` (1 to 64 small letters, digits, hyphens and underscores, each name
 /// once), `config` (as `requests::config` reads it; the defaults where it is missing), `program`
 /// (hexadecimal, in which blanks don't count; the default classifier where it is missing) and `layout` (the

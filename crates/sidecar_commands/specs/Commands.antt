@@ -7,7 +7,7 @@ use Rattle.classifier_commands.specs.declared.commands.Status.{Status}
 use Rattle.classifier_commands.specs.declared.commands.Status.TheVariants as status
 use Rattle.classifier_commands.specs.declared.error.CommandError.{CommandError}
 use Rattle.classifier_commands.specs.declared.error.CommandError.TheVariants as command_error
-use Rattle.classifier_commands.specs.Commands.{Words, NamesAlone, IsPrinted}
+use Rattle.classifier_commands.specs.Commands.{Words, NamesAlone, NamesFaulty, IsPrinted}
 use Rattle.classifier_commands.specs.Commands.{NamesNone as names_no_classifier_command, AsksForInput as classifier_asks_for_input, HasAnswered as has_answered_of_classifier}
 use Rattle.replay.specs.declared.ReplayEnded.{ReplayEnded}
 use Rattle.replay.specs.declared.ReplayEnded.TheVariants as ended
@@ -27,6 +27,10 @@ NamesNone words = names_no_classifier_command words × (¬ (NamesReplay words))
 -- input is asked for: by a command on a classifier that does, and by a replay
 abbrev pub AsksForInput : Words → Type 0
 AsksForInput words = classifier_asks_for_input words ⊎ NamesReplay words
+
+-- a refusal of what the words ask for is explained on standard error: that of the program of `judge` or `verify`, and that of a replay's configuration
+abbrev pub NamesExplained : Words → Type 0
+NamesExplained words = NamesFaulty words ⊎ NamesReplay words
 
 -- ---- replays
 

@@ -3,11 +3,11 @@ ghost use Rattle.std.specs.Prelude.{◌≡◌, ◌++◌, [], ◌∷◌, Ok, Deci
 ghost use Rattle.std.specs.Io.KnownBytes.{Appends};
 ghost use Rattle.counted_io.specs.Counting.{AppendsPart, AtMostOneMore};
 ghost use Rattle.classifier_commands.specs.Commands.{IsPrinted, IsSettled, usage};
-ghost use Rattle.classifier_commands.specs.Endings.{IsUsageShown};
+ghost use Rattle.classifier_commands.specs.Endings.{IsExplained, IsUsageShown};
 ghost use Rattle.classifier_commands.specs.Text.{answer_text};
 ghost use Rattle.replay.specs.Causes.{IsReplayCause, IsWriteCause};
 ghost use Rattle.replay.specs.Parts.{IsReplayedPart};
-ghost use Rattle.sidecar_commands.specs.Commands.{NamesReplay, NamesNone, AsksForInput, HasReplayed, HasAnswered, status_of_error, replay_error_of, bad_config};
+ghost use Rattle.sidecar_commands.specs.Commands.{NamesReplay, NamesNone, NamesExplained, AsksForInput, HasReplayed, HasAnswered, status_of_error, replay_error_of, bad_config};
 ghost use Rattle.sidecar_commands.specs.Endings.{IsSidecarEnd, IsUnanswered, IsAnsweredInPart, IsCut, IsReplayCut};
 
 use classifier_commands::{Answer, CommandError, CommandRefusal, Status, print};
@@ -71,6 +71,7 @@ fn refuse_line<O: Write, E: Write>(
     ensures settled { IfOk result IsSettled }
     ensures part { IfErr result (λ error. IsCut error out.old out.new (AppendsPart (O.contents out.old.inner) (O.contents out.new.inner) (answer_text bad_config ++ 10 ∷ []))) }
     ensures quiet { (result ≡ Ok Status.Refused → ⊥) → err.new ≡ err.old }
+    ensures explained { IsExplained (E.contents err.old.inner) (E.contents err.new.inner) }
     ensures cause { IsWriteCause result out.old.failures out.new.failures }
 {
     let status = refuse(alloc, out)?;
@@ -83,7 +84,9 @@ fn refuse_line<O: Write, E: Write>(
 /// Writes what is wrong with the first line of a replay, for people. It is the first line that isn't blank, and empty
 /// where all are: `replay_with` ensures that of a replay whose configuration is refused. Where the line on `err` can't be
 /// made or written, nothing else changes.
-fn notify_mistake<E: Write>(alloc: Global, first: &[u8], err: &mut Counted<E>) {
+fn notify_mistake<E: Write>(alloc: Global, first: &[u8], err: &mut Counted<E>)
+    ensures { IsExplained (E.contents err.old.inner) (E.contents err.new.inner) }
+{
     if first.is_empty() {
         let _sent = err.send(
             b"the input has no first line: the configuration stands there, as {}\n",
@@ -108,6 +111,7 @@ fn replay_events<R: Read, O: Write, E: Write>(
     ensures settled { IfOk result IsSettled }
     ensures part { IfErr result (λ error. IsReplayCut error (R.remaining reader.old.inner) (O.contents out.old.inner) (O.contents out.new.inner)) }
     ensures quiet { (result ≡ Ok Status.Refused → ⊥) → err.new ≡ err.old }
+    ensures explained { IsExplained (E.contents err.old.inner) (E.contents err.new.inner) }
     ensures cause { IsReplayCause result reader.old.failures reader.new.failures out.old.failures out.new.failures (R.remaining reader.old.inner) }
     ensures ends { AtMostOneMore reader.old.ends reader.new.ends }
 {
@@ -128,8 +132,8 @@ fn is_replay(words: &[&str]) -> bool
 /// Does what the words ask for, and answers how that ended.
 ///
 /// An answer, also a refusal, is one line on `out`; for wrong words there is a line on `err` and
-/// nothing on `out`. Behind the refusal of a replay's configuration there is a line on `err` too, which says
-/// what is wrong with it, for people. Where the reader or the writer fails, or memory runs out with no answer that
+/// nothing on `out`. Behind the refusal of a replay's configuration, and of the program of `judge` or `verify`, there are lines
+/// on `err` too, which say what is wrong with it, for people. Where the reader or the writer fails, or memory runs out with no answer that
 /// says so, nothing more is written. One failed read or write ends the command, also one that was
 /// interrupted. Input is read byte by byte: give it a reader that is buffered.
 pub fn command<R: Read, O: Write, E: Write>(
@@ -157,8 +161,10 @@ pub fn command<R: Read, O: Write, E: Write>(
     // Words that name no command print nothing on `out`, and the usage on `err`, or a beginning of it where a write failed.
     ensures silent { NamesNone words.now → out.new ≡ out.old }
     ensures usage { NamesNone words.now → IsUsageShown result (E.contents err.old.inner) (E.contents err.new.inner) err.old.failures err.new.failures }
-    // Words that name a command write nothing on `err`, but for a replay whose configuration was refused.
-    ensures quiet { (NamesNone words.now → ⊥) → (NamesReplay words.now × (result ≡ Status.Refused) → ⊥) → err.new ≡ err.old }
+    // Words that name a command write nothing on `err`, but where a replay's configuration is refused, or the program of
+    // `judge` or `verify`; a text is then written there, or a part of it, or nothing.
+    ensures quiet { (NamesNone words.now → ⊥) → (NamesExplained words.now × (result ≡ Status.Refused) → ⊥) → err.new ≡ err.old }
+    ensures explained { (NamesNone words.now → ⊥) → IsExplained (E.contents err.old.inner) (E.contents err.new.inner) }
     // A failed read or write is answered where that count went up by one, and in no other case.
     ensures cause { IsSidecarEnd result reader.old.failures reader.new.failures out.old.failures out.new.failures (R.remaining reader.old.inner) }
     // The end of the input is met once at most: no read is made behind it.

@@ -1,14 +1,11 @@
 -- What a server has written that was cut short.
-use Rattle.std.proofs.Common.{◌≡◌, refl, sym, subst, ℕ, List, Option, inl, inr}
-use Rattle.std.specs.Bool.{⊤}
+use Rattle.std.proofs.Common.{◌≡◌, sym, subst, ℕ, List, Option, inl, inr}
 use Rattle.std.specs.Io.KnownBytes.{Appends}
-use Rattle.std.specs.declared.net.socket_addr.SocketAddr.{SocketAddr}
-use Rattle.counted_io.specs.Counting.{AppendsProperPart}
 use Rattle.refusals.specs.declared.RefusalNumber.{RefusalNumber}
 use Rattle.refusals.specs.declared.RefusalNumber.TheVariants as refusal
 use Rattle.sidecar_server.specs.declared.serving.ServerStatus.{ServerStatus}
 use Rattle.sidecar_server.specs.declared.serving.ServerStatus.TheVariants as status
-use Rattle.sidecar_server.specs.Server.{listening_line, refused_line, IsUsable, IsFileRefused, IsServerRefusal, IsLineCut, IsRefused, IsUnheard, IsCutShort, IsServerOutput}
+use Rattle.sidecar_server.specs.Server.{refused_line, IsUsable, IsFileRefused, IsServerRefusal, IsRefused, IsCutShort, IsServerOutput}
 
 -- ---- a server that serves a file
 
@@ -23,6 +20,11 @@ ended_short status.FlushFailed text before after usable (inl whole) = inl (usabl
 ended_short status.FlushFailed text before after usable (inr (number, is, whole)) = inr (number, subst (λ n. IsFileRefused text n) (sym is) usable, whole)
 ended_short status.OutOfMemory text before after usable (inl none) = inl none
 ended_short status.OutOfMemory text before after usable (inr whole) = inr (usable, whole.1)
+
+pub refused_file : (s : ServerStatus) (text : List ℕ) (before after : Option (List ℕ)) → IsUsable text → IsServerOutput s before after → (number : RefusalNumber) → s ≡ status.Refused number → IsFileRefused text number × Appends before after (refused_line number)
+refused_file s text before after usable ended number is =
+    let refused : IsServerOutput (status.Refused number) before after = subst (λ t. IsServerOutput t before after) is ended in
+    (subst (λ n. IsFileRefused text n) (sym refused.0) usable, refused.1)
 
 -- whose refusal was to be printed
 pub refused_short : (Usable : Type 0) (Refused : RefusalNumber → Type 0) (s : ServerStatus) (number : RefusalNumber) (before after : Option (List ℕ)) → Refused number → IsRefused s number before after → IsCutShort Usable Refused s before after

@@ -1,9 +1,12 @@
--- A server that has served has told its address.
-use Rattle.std.proofs.Common.{ℕ, List, Option}
+-- How a server ends that has served.
+use Rattle.std.proofs.Common.{◌≡◌, refl, sym, subst, ℕ, List, Option, Some, None}
+use Rattle.event_loop.specs.Numbers.{ends}
+use Rattle.event_loop.specs.declared.failure.ListenerFailed.{ListenerFailed}
 use Rattle.sidecar_server.specs.declared.serving.ServerStatus.{ServerStatus}
 use Rattle.sidecar_server.specs.declared.serving.ServerStatus.TheVariants as status
-use Rattle.sidecar_server.specs.Server.{IsServing, IsServerOutput, IsListening}
+use Rattle.sidecar_server.specs.Server.{IsServing, IsServerOutput, IsListening, IsOver, ended_by}
 
+-- it has told its address
 pub served_listens : (s : ServerStatus) (before after : Option (List ℕ)) → IsServing s → IsServerOutput s before after → IsListening before after
 served_listens status.Done before after serving ended = ended
 served_listens status.ListenerFailed before after serving ended = ended
@@ -11,3 +14,8 @@ served_listens (status.Refused number) before after serving ended = absurd servi
 served_listens status.WriteFailed before after serving ended = absurd serving
 served_listens status.FlushFailed before after serving ended = absurd serving
 served_listens status.OutOfMemory before after serving ended = absurd serving
+
+-- where its listener didn't fail, there was a number of connections
+pub over_by : (failure : Option ListenerFailed) (s : ServerStatus) (connections : ℕ) → s ≡ ended_by failure → (failure ≡ None → ends connections) → IsOver s connections
+over_by None s connections is over = subst (λ t. IsOver t connections) (sym is) (over refl)
+over_by (Some failure) s connections is over = subst (λ t. IsOver t connections) (sym is) tt

@@ -1,6 +1,6 @@
 pub mod Cutting
 pub mod Openings
-pub mod Returning
+pub mod Crews
 pub mod Seating
 pub mod Silence
 pub mod Endings

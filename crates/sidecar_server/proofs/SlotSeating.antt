@@ -1,29 +1,26 @@
 -- Seats of a desk whose books lie in slots, one after another, the workers who have them, what they bring back, and how they end.
-use Rattle.std.proofs.Common.{◌≡◌, ◌∙◌, ◌≤◌, ◌<◌, ◌+◌, ℕ, zero, suc, List, [], ◌∷◌, ◌++◌, map, length, Option, Some, None, ap, refl, sym, subst, String, Global, arith, string_bytes, true}
-use Rattle.std.proofs.lemmas.List.{length-map, map-append}
+use Rattle.std.proofs.Common.{◌≡◌, ◌∙◌, ◌+◌, ℕ, zero, suc, List, [], ◌∷◌, ◌++◌, map, length, Option, None, ap, refl, sym, subst, String, Global, arith, string_bytes}
+use Rattle.std.proofs.lemmas.List.{map-append}
 use Rattle.std.specs.List.{AllByRecursion}
-use Rattle.std.specs.Option.{option_or}
 use Rattle.atomic_table.specs.Seated.{TableId}
 use Rattle.service.specs.Asked.{RequestData, ResponseData}
 use Rattle.service_profile.specs.Events.{History}
 use Rattle.service_profile.specs.declared.configuration.Config.{Config}
 use Rattle.verifier.specs.declared.verified.Verified.{Verified}
 use Rattle.slot_desk.specs.Calls.{service_seat}
+use Rattle.slot_table.specs.Rules.{Course}
 use Rattle.slot_desk.specs.Closing.{SeatBegins}
 use Rattle.slot_desk.specs.Desks.{DeskData, name_of, first_of}
 use Rattle.slot_desk.specs.Seats.{SeatData, new_seat, IsSeatOf}
 use Rattle.slot_desk.proofs.Backwards.{served_keeps}
 use Rattle.http_slots.specs.Asked.{place_at, IsAskedAt}
 use Rattle.http_slots.specs.Seated.{SeatedData, seated}
-use Rattle.http_pool.specs.declared.failure.ListenerFailed.{ListenerFailed}
 use Rattle.http_pool.specs.declared.workers.Worker.{Worker}
-use Rattle.http_pool.specs.Workers.{HaveWorked, HaveEnded, ends}
+use Rattle.http_pool.specs.Workers.{HaveWorked}
 use Rattle.service_file.specs.declared.settings.ServiceSettings.{ServiceSettings}
-use Rattle.service_file.specs.Files.{is_count}
 use Rattle.sidecar_server.specs.Served.{opening_of}
-use Rattle.sidecar_server.specs.Slotted.{names_of, origins_of, slot_seats_of, slot_workers_with, slot_seats_with, slot_counts_of, HaveNoSlotFailure, IsAskedWithin}
+use Rattle.sidecar_server.specs.Slotted.{names_of, origins_of, slot_seats_of, workers_of, slot_seats_with, IsAskedWithin}
 use Rattle.sidecar_server.proofs.Along.{worker}
-use Rattle.sidecar_server.proofs.Seating.{counted}
 
 -- ---- seats
 
@@ -41,7 +38,7 @@ next_seat tables origins count given seats seat before same is =
     let m : count + 1 ≡ suc count = omega arith in
     ap (λ s. s ++ seat ∷ []) before ∙ (ap (λ s. slot_seats_of tables origins 1 count ++ s ∷ []) (is ∙ ap (λ k. new_seat k tables origins) n) ∙ (sym (seats_more tables origins 1 count) ∙ ap (λ c. slot_seats_of tables origins 1 c) (sym m)))
 
-as_many_seats : (tables : List TableId) (origins : List (Option History)) (number count : ℕ) → length (slot_seats_of tables origins number count) ≡ count
+pub as_many_seats : (tables : List TableId) (origins : List (Option History)) (number count : ℕ) → length (slot_seats_of tables origins number count) ≡ count
 as_many_seats tables origins number zero = refl
 as_many_seats tables origins number (suc count) = ap suc (as_many_seats tables origins (suc number) count)
 
@@ -55,42 +52,12 @@ all_here desk count seats are = subst (AllByRecursion (IsSeatOf desk)) (sym are)
 
 -- ---- workers
 
--- a worker that has met no failure is its answerer and its clock
-pub new_worker : {C : Type 0} (w : Worker SeatedData C) (answerer : SeatedData) (clock : C) → w.answerer ≡ answerer → w.clock ≡ clock → w.failure ≡ None → ◌≡◌ {A = Worker SeatedData C} w (record { answerer = answerer; clock = clock; failure = None })
-new_worker w answerer clock first second third = λ i. record { answerer = first i; clock = second i; failure = third i }
-
--- one worker more, with the next seat
-pub next_worker : {C : Type 0} (desk : DeskData) (clock : C) (done : List SeatData) (seat : SeatData) (workers : List (Worker SeatedData C)) (answerer : SeatedData) → workers ≡ slot_workers_with desk clock done → answerer ≡ seated desk seat
-    → workers ++ record { answerer = answerer; clock = clock; failure = None } ∷ [] ≡ slot_workers_with desk clock (done ++ seat ∷ [])
-next_worker {C} desk clock done seat workers answerer before is =
-    let made : SeatedData → Worker SeatedData C = λ a. record { answerer = a; clock = clock; failure = None } in
-    ap (λ ws. ws ++ made answerer ∷ []) before ∙ (ap (λ a. slot_workers_with desk clock done ++ made a ∷ []) is ∙ sym (map-append (λ s. made (seated desk s)) done (seat ∷ [])))
-
-pub as_many_workers : {C : Type 0} (desk : DeskData) (clock : C) (count : ℕ) → length (slot_workers_with desk clock (slot_seats_of desk.tables desk.origins 1 count)) ≡ count
-as_many_workers {C} desk clock count =
-    let made : SeatData → Worker SeatedData C = λ seat. record { answerer = seated desk seat; clock = clock; failure = None } in
-    length-map (slot_seats_of desk.tables desk.origins 1 count) made ∙ as_many_seats desk.tables desk.origins 1 count
-
 -- what is known of the seats, of the workers
-pub all_seated : {C : Type 0} (desk : DeskData) (clock : C) (seats : List SeatData) (count : ℕ) (workers : List (Worker SeatedData C)) → workers ≡ slot_workers_with desk clock seats → seats ≡ slot_seats_of desk.tables desk.origins 1 count
-    → workers ≡ slot_workers_with desk clock (slot_seats_of desk.tables desk.origins 1 count)
-all_seated desk clock seats count workers are given = are ∙ ap (λ s. slot_workers_with desk clock s) given
-
-pub how_many : {C : Type 0} (desk : DeskData) (clock : C) (count : ℕ) (workers : List (Worker SeatedData C)) → workers ≡ slot_workers_with desk clock (slot_seats_of desk.tables desk.origins 1 count) → is_count count ≡ true → (0 < length workers) × (length workers ≤ 64)
-how_many desk clock count workers are few =
-    let many : length workers ≡ count = ap length are ∙ as_many_workers desk clock count in
-    let within : (1 ≤ count) × (count ≤ 64) = counted count few in
-    (omega (arith, many, within.0), omega (arith, many, within.1))
+pub all_seated : {C : Type 0} (desk : DeskData) (clock : C) (seats : List SeatData) (count : ℕ) (workers : List (Worker SeatedData C)) → workers ≡ workers_of clock (map (seated desk) seats) → seats ≡ slot_seats_of desk.tables desk.origins 1 count
+    → workers ≡ workers_of clock (map (seated desk) (slot_seats_of desk.tables desk.origins 1 count))
+all_seated desk clock seats count workers are given = are ∙ ap (λ s. workers_of clock (map (seated desk) s)) given
 
 -- ---- what they bring back
-
-none_more : {C : Type 0} (done : List (Worker SeatedData C)) (w : Worker SeatedData C) → HaveNoSlotFailure done → w.failure ≡ None → HaveNoSlotFailure (done ++ w ∷ [])
-none_more [] w all is = (is, tt)
-none_more (v ∷ done) w all is = (all.0, none_more done w all.1 is)
-
-pub none_met : {C : Type 0} (done : List (Worker SeatedData C)) (w : Worker SeatedData C) (before : Option ListenerFailed) → (before ≡ None → HaveNoSlotFailure done) → option_or before w.failure ≡ None → HaveNoSlotFailure (done ++ w ∷ [])
-none_met done w None all is = none_more done w (all refl) is
-none_met done w (Some failure) all is = let bad : ◌≡◌ {A = Option ListenerFailed} (Some failure) None = is in cc
 
 abbrev pub AreHeld : {C : Type 0} → List (Worker SeatedData C) → Type 0
 AreHeld workers = AllByRecursion (λ w. IsSeatOf w.answerer.desk w.answerer.seat) workers
@@ -99,13 +66,9 @@ pub held_more : {C : Type 0} (done : List (Worker SeatedData C)) (w : Worker Sea
 held_more [] w all is = (is, tt)
 held_more (v ∷ done) w all is = (all.0, held_more done w all.1 is)
 
--- one seat more, and its count
+-- one seat more
 pub seats_more_with : {C : Type 0} (done : List (Worker SeatedData C)) (w : Worker SeatedData C) (seats : List SeatData) → seats ≡ slot_seats_with done → seats ++ w.answerer.seat ∷ [] ≡ slot_seats_with (done ++ w ∷ [])
 seats_more_with done w seats before = ap (λ ss. ss ++ w.answerer.seat ∷ []) before ∙ sym (map-append (λ v. v.answerer.seat) done (w ∷ []))
-
-pub counts_more_with : {C : Type 0} (done : List (Worker SeatedData C)) (w : Worker SeatedData C) (counts : List ℕ) → counts ≡ slot_counts_of (slot_seats_with done) → counts ++ w.answerer.seat.count ∷ [] ≡ slot_counts_of (slot_seats_with (done ++ w ∷ []))
-counts_more_with done w counts before =
-    ap (λ ns. ns ++ w.answerer.seat.count ∷ []) before ∙ (sym (map-append (λ (s : SeatData). s.count) (slot_seats_with done) (w.answerer.seat ∷ [])) ∙ ap slot_counts_of (seats_more_with done w (slot_seats_with done) refl))
 
 -- ---- the desk that they ask stays the same
 
@@ -117,7 +80,7 @@ module _ {C : Type 0} (ticks : C → ℕ → C → Type 0) where
   asks_one_desk before after worked =
       (worker place_at IsAskedAt IsAskedAt ticks (λ s. after.answerer.desk ≡ s.desk) (same_desk after.answerer.desk) before.answerer before.clock after.answerer after.clock worked.0 refl).0
 
-  ask_one_desk : (desk : DeskData) (clock : C) (seats : List SeatData) (later : List (Worker SeatedData C)) → HaveWorked place_at IsAskedAt ticks (slot_workers_with desk clock seats) later → AllByRecursion (λ w. w.answerer.desk ≡ desk) later
+  ask_one_desk : (desk : DeskData) (clock : C) (seats : List SeatData) (later : List (Worker SeatedData C)) → HaveWorked place_at IsAskedAt ticks (workers_of clock (map (seated desk) seats)) later → AllByRecursion (λ w. w.answerer.desk ≡ desk) later
   ask_one_desk desk clock [] [] worked = tt
   ask_one_desk desk clock [] (w ∷ later) worked = absurd worked
   ask_one_desk desk clock (seat ∷ seats) [] worked = absurd worked
@@ -128,35 +91,23 @@ module _ {C : Type 0} (ticks : C → ℕ → C → Type 0) where
   held_here desk (w ∷ later) same held = (subst (λ d. IsSeatOf d w.answerer.seat) same.0 held.0, held_here desk later same.1 held.1)
 
   -- so the seats that come back are seats of the desk
-  pub back_here : (desk : DeskData) (clock : C) (seats : List SeatData) (workers later : List (Worker SeatedData C)) → workers ≡ slot_workers_with desk clock seats → HaveWorked place_at IsAskedAt ticks workers later → AreHeld later → AllByRecursion (IsSeatOf desk) (slot_seats_with later)
+  pub back_here : (desk : DeskData) (clock : C) (seats : List SeatData) (workers later : List (Worker SeatedData C)) → workers ≡ workers_of clock (map (seated desk) seats) → HaveWorked place_at IsAskedAt ticks workers later → AreHeld later → AllByRecursion (IsSeatOf desk) (slot_seats_with later)
   back_here desk clock seats workers later are worked held =
       held_here desk later (ask_one_desk desk clock seats later (subst (λ ws. HaveWorked place_at IsAskedAt ticks ws later) are worked)) held
 
-  -- as many come back
-  pub as_many_back : (workers later : List (Worker SeatedData C)) → HaveWorked place_at IsAskedAt ticks workers later → length later ≡ length workers
-  as_many_back [] [] each = refl
-  as_many_back [] (v ∷ later) each = absurd each
-  as_many_back (w ∷ workers) [] each = absurd each
-  as_many_back (w ∷ workers) (v ∷ later) each = ap suc (as_many_back workers later each.1)
+  -- ---- each answer was given within the histories of the services' openings
 
-  -- ---- each answer was given within the histories of the books that are left
-
-  answered_within : (books : List History) (s : SeatedData) (place moment : ℕ) (wanted : RequestData) (given : ResponseData) (t : SeatedData) → IsAskedAt s place moment wanted given t → SeatBegins books t.seat → SeatBegins books s.seat × IsAskedWithin books s place moment wanted given t
-  answered_within books s place moment wanted given t is begins =
+  answered_within : (courses : List Course) (s : SeatedData) (place moment : ℕ) (wanted : RequestData) (given : ResponseData) (t : SeatedData) → IsAskedAt s place moment wanted given t → SeatBegins courses t.seat → SeatBegins courses s.seat × IsAskedWithin courses s place moment wanted given t
+  answered_within courses s place moment wanted given t is begins =
       let keeps = served_keeps (service_seat place s.seat) moment wanted given (service_seat place t.seat) is.1 in
-      (keeps.begins books begins, (is, begins))
+      (keeps.begins courses begins, (is, begins))
 
-  pub worked_within : (books : List History) (workers later : List (Worker SeatedData C)) → HaveWorked place_at IsAskedAt ticks workers later → AllByRecursion (SeatBegins books) (slot_seats_with later) → HaveWorked place_at (IsAskedWithin books) ticks workers later
-  worked_within books [] [] worked begin = tt
-  worked_within books [] (v ∷ later) worked begin = absurd worked
-  worked_within books (w ∷ workers) [] worked begin = absurd worked
-  worked_within books (w ∷ workers) (v ∷ later) worked begin =
-      ((worker place_at IsAskedAt (IsAskedWithin books) ticks (λ s. SeatBegins books s.seat) (answered_within books) w.answerer w.clock v.answerer v.clock worked.0 begin.0).1, worked_within books workers later worked.1 begin.1)
-
--- where none met a failure, there was a number of connections
-pub over : {C : Type 0} (connections : ℕ) (workers : List (Worker SeatedData C)) → 0 < length workers → HaveEnded connections workers → HaveNoSlotFailure workers → ends connections
-over connections [] some ended none = absurd (omega (arith, some))
-over connections (w ∷ workers) some ended none = ended.0 none.0
+  pub worked_within : (courses : List Course) (workers later : List (Worker SeatedData C)) → HaveWorked place_at IsAskedAt ticks workers later → AllByRecursion (SeatBegins courses) (slot_seats_with later) → HaveWorked place_at (IsAskedWithin courses) ticks workers later
+  worked_within courses [] [] worked begin = tt
+  worked_within courses [] (v ∷ later) worked begin = absurd worked
+  worked_within courses (w ∷ workers) [] worked begin = absurd worked
+  worked_within courses (w ∷ workers) (v ∷ later) worked begin =
+      ((worker place_at IsAskedAt (IsAskedWithin courses) ticks (λ s. SeatBegins courses s.seat) (answered_within courses) w.answerer w.clock v.answerer v.clock worked.0 begin.0).1, worked_within courses workers later worked.1 begin.1)
 
 -- the desk has the names of the settings' services
 pub named_as : (services : List ServiceSettings) (openings : List (String Global × Config × Verified)) → openings ≡ map opening_of services → map name_of openings ≡ names_of services

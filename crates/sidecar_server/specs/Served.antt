@@ -1,5 +1,5 @@
 -- What becomes of services that are served by one worker, or by many.
-use Rattle.std.specs.Prelude.{◌≡◌, ◌<◌, ◌⊎◌, ℕ, zero, suc, List, [], ◌∷◌, map, length, sum, None, String}
+use Rattle.std.specs.Prelude.{◌≡◌, ◌<◌, ◌⊎◌, ℕ, zero, suc, List, [], ◌∷◌, map, length, sum, String}
 use Rattle.std.specs.List.{AllByRecursion}
 use Rattle.std.specs.Global.{Global}
 use Rattle.service_profile.specs.declared.configuration.Config.{Config}
@@ -21,13 +21,13 @@ use Rattle.service_file.specs.declared.settings.ServiceSettings.{ServiceSettings
 use Rattle.service_file.specs.declared.settings.Settings.{Settings}
 use Rattle.service_file.specs.declared.keepers.Keeper.TheVariants as keeper
 use Rattle.sidecar_server.specs.Opened.{AreOpened}
-use Rattle.sidecar_server.specs.Slotted.{HasServedAtSlots}
+use Rattle.sidecar_server.specs.Slotted.{workers_of, HasServedAtSlots}
 
 -- the books of services, in their order
 abbrev pub books_of : List NamedBook → List History
 books_of services = map (λ service. service.book) services
 
--- one worker, who has the books to itself: the services opened, and connections were served from there on, one after another, which left these books
+-- one worker, who has the books to itself: the services opened, and connections were served from there on, side by side, which left these books
 abbrev pub HasServedAlone : {C : Type 0} → (C → ℕ → C → Type 0) → Settings → C → C → List History → Type 0
 HasServedAlone ticks settings clock later books =
     (opened : Books) × (served : Books)
@@ -48,20 +48,12 @@ abbrev pub seats_of : ℕ → ℕ → List SeatData
 seats_of number zero = []
 seats_of number (suc count) = seat_of number 0 0 ∷ seats_of (suc number) count
 
--- workers with these seats at a desk that has these services, each with this clock
-abbrev pub workers_with : {C : Type 0} → List ServiceData → C → List SeatData → List (Worker SeatedData C)
-workers_with services clock seats = map (λ seat. record { answerer = seated services seat; clock = clock; failure = None }) seats
-
 -- the seats that workers have, and how many entries each of them counts
 abbrev pub seats_with : {C : Type 0} → List (Worker SeatedData C) → List SeatData
 seats_with workers = map (λ worker. worker.answerer.seat) workers
 
 abbrev pub counts_of : List SeatData → List ℕ
 counts_of seats = map (λ seat. seat.count) seats
-
--- no worker met a failure of the listener
-abbrev pub HaveNoFailure : {C : Type 0} → List (Worker SeatedData C) → Type 0
-HaveNoFailure workers = AllByRecursion (λ worker. worker.failure ≡ None) workers
 
 -- a desk with these services was closed with these seats. It handed out these books: each has a legal and sound history, of one of the services, after so many cuts; the numbers of their last entries add up to the entries that the seats count, and their cuts to the cuts that the seats count
 pub record AreClosed (services : List ServiceData) (books : List History) (seats : List SeatData) : Type 0 where
@@ -70,11 +62,11 @@ pub record AreClosed (services : List ServiceData) (books : List History) (seats
   pub entries_agree : sum (map last_number books) ≡ sum (counts_of seats)
   pub cuts_agree : (cuts : List ℕ) × AreOfSome services cuts books × (sum cuts ≡ sum (map (λ seat. seat.cuts) seats))
 
--- many workers: as many as the settings say sat down at a desk with the services, and each served connections, one after another, by its seat. The seats that they brought back have these counts, and the desk that was closed with them left these books
+-- many workers: as many as the settings say sat down at a desk with the services, and each served connections, side by side, by its seat. The seats that they brought back have these counts, and the desk that was closed with them left these books
 abbrev pub HasServedAtDesk : {C : Type 0} → (C → ℕ → C → Type 0) → Settings → C → List History → List ℕ → Type 0
 HasServedAtDesk {C} ticks settings clock books counts =
     (later : List (Worker SeatedData C))
-    × HaveWorked place_at (λ old place moment wanted response new. IsAskedAt old moment wanted response new) ticks (workers_with (services_of settings.services.items) clock (seats_of 1 settings.workers)) later
+    × HaveWorked place_at (λ old place moment wanted response new. IsAskedAt old moment wanted response new) ticks (workers_of clock (map (seated (services_of settings.services.items)) (seats_of 1 settings.workers))) later
     × (counts ≡ counts_of (seats_with later))
     × AreClosed (services_of settings.services.items) books (seats_with later)
 

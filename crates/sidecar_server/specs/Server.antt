@@ -8,9 +8,11 @@ use Rattle.refusals.specs.declared.RefusalNumber.{RefusalNumber}
 use Rattle.refusals.specs.declared.RefusalNumber.TheVariants as refusal
 use Rattle.refusals.specs.Texts.{refusal_text}
 use Rattle.service_profile.specs.Events.{History}
-use Rattle.http_pool.specs.Workers.{ends}
+use Rattle.event_loop.specs.Numbers.{ends}
+use Rattle.event_loop.specs.declared.failure.ListenerFailed.{ListenerFailed}
 use Rattle.service_file.specs.declared.settings.Settings.{Settings}
 use Rattle.service_file.specs.Settled.{IsRead}
+use Rattle.sidecar_server.specs.declared.serving.ServerEnd.{ServerEnd}
 use Rattle.sidecar_server.specs.declared.serving.ServerStatus.{ServerStatus}
 use Rattle.sidecar_server.specs.declared.serving.ServerStatus.TheVariants as status
 use Rattle.sidecar_server.specs.Served.{HasServedBy}
@@ -75,6 +77,16 @@ abbrev pub IsRefused : ServerStatus → RefusalNumber → Option (List ℕ) → 
 IsRefused (status.Refused refused) number before after = (refused ≡ number) × Appends before after (refused_line number)
 IsRefused status.OutOfMemory number before after = after ≡ before
 IsRefused other number before after = IsLineCut other (refused_line number) before after
+
+-- how a server ended that has served connections: its listener failed, or it is done
+abbrev pub ended_by : Option ListenerFailed → ServerStatus
+ended_by None = status.Done
+ended_by (Some failure) = status.ListenerFailed
+
+-- how serving ended, where it may have failed before its end
+abbrev pub end_of : Result ServerEnd ServerStatus → ServerStatus
+end_of (Ok end) = end.status
+end_of (Err failed) = failed
 
 abbrev pub status_of : {A : Type 0} → Result A ServerStatus → ServerStatus
 status_of (Ok a) = status.Done

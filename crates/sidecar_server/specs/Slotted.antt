@@ -1,13 +1,13 @@
 -- What becomes of services whose books lie in slots, and that are served by many workers.
 use Rattle.std.specs.Prelude.{◌≡◌, ℕ, zero, suc, List, [], ◌∷◌, map, length, Option, Some, None, string_bytes}
-use Rattle.std.specs.List.{AllByRecursion}
 use Rattle.atomic_table.specs.Seated.{TableId}
 use Rattle.service.specs.Asked.{RequestData, ResponseData}
 use Rattle.service_profile.specs.Events.{History, history_of}
 use Rattle.service_profile.specs.Openings.{first_opening}
-use Rattle.slot_desk.specs.Closing.{SeatBegins, AreOf}
+use Rattle.slot_desk.specs.Closing.{SeatBegins, AreOf, HaveCourses}
 use Rattle.slot_desk.specs.Desks.{DeskData}
 use Rattle.slot_desk.specs.Seats.{SeatData, new_seat}
+use Rattle.slot_table.specs.Rules.{Course}
 use Rattle.http_slots.specs.Asked.{place_at, IsAskedAt}
 use Rattle.http_slots.specs.Seated.{SeatedData, seated}
 use Rattle.http_pool.specs.declared.workers.Worker.{Worker}
@@ -27,9 +27,9 @@ abbrev pub slot_seats_of : List TableId → List (Option History) → ℕ → �
 slot_seats_of tables origins number zero = []
 slot_seats_of tables origins number (suc count) = new_seat number tables origins ∷ slot_seats_of tables origins (suc number) count
 
--- workers with these seats of a desk, each with this clock
-abbrev pub slot_workers_with : {C : Type 0} → DeskData → C → List SeatData → List (Worker SeatedData C)
-slot_workers_with desk clock seats = map (λ seat. record { answerer = seated desk seat; clock = clock; failure = None }) seats
+-- workers with these answerers, each with this clock
+abbrev pub workers_of : {S C : Type 0} → C → List S → List (Worker S C)
+workers_of clock answerers = map (λ answerer. record { answerer = answerer; clock = clock; failure = None }) answerers
 
 -- the seats that workers have, and how many entries each of them counts
 abbrev pub slot_seats_with : {C : Type 0} → List (Worker SeatedData C) → List SeatData
@@ -38,26 +38,22 @@ slot_seats_with workers = map (λ worker. worker.answerer.seat) workers
 abbrev pub slot_counts_of : List SeatData → List ℕ
 slot_counts_of seats = map (λ seat. seat.count) seats
 
--- no worker met a failure of the listener
-abbrev pub HaveNoSlotFailure : {C : Type 0} → List (Worker SeatedData C) → Type 0
-HaveNoSlotFailure workers = AllByRecursion (λ worker. worker.failure ≡ None) workers
-
--- a desk was closed with these seats, and handed out these books, in the order of the services: each has a legal and sound history, of the book that its service opened with, or with one that came of it by cuts; and what each seat had seen of a service begins the history of its book, or is of an earlier opening
+-- a desk was closed with these seats, and handed out these books, in the order of the services: each has a legal and sound history, of the book that its service opened with, or with one that came of it by cuts; and of each service there is one such history of each opening, the last one that of its book, and all that any of the seats has seen of the service begins the history of its opening
 pub record AreClosedSlots (desk : DeskData) (books : List History) (seats : List SeatData) : Type 0 where
   pub all_books : length books ≡ length desk.tables
   pub good : AreOf desk.origins books
-  pub begun : AllByRecursion (SeatBegins books) seats
+  pub begun : HaveCourses desk.origins books seats
 
--- a request was answered by calls of the answerer's seat, each of which found what the seat had seen and left what it then has seen; and what the seat has seen after it begins the histories of the books that are left in the end, or is of earlier openings
-abbrev pub IsAskedWithin : List History → SeatedData → ℕ → ℕ → RequestData → ResponseData → SeatedData → Type 0
-IsAskedWithin books old place moment wanted given new = IsAskedAt old place moment wanted given new × SeatBegins books new.seat
+-- a request was answered by calls of the answerer's seat, each of which found one history and left another, both of which the seat has then seen; and all that the seat has seen after it begins the histories of the services' openings
+abbrev pub IsAskedWithin : List Course → SeatedData → ℕ → ℕ → RequestData → ResponseData → SeatedData → Type 0
+IsAskedWithin courses old place moment wanted given new = IsAskedAt old place moment wanted given new × SeatBegins courses new.seat
 
--- as many workers as the settings say sat down at a desk with the services, each with its name, its configuration and its first program, and each worker served connections, one after another, by its seat. The seats that they brought back have these counts, and the desk that was closed with them left these books. Each answer that any of them gave was given within the histories of these books: so of each service there is one legal history, that of its book, and all answers of its last opening were given at points of it, those of one worker in their order
+-- as many workers as the settings say sat down at a desk with the services, each with its name, its configuration and its first program, and each worker served connections, side by side, by its seat. The seats that they brought back have these counts, and the desk that was closed with them left these books. Of each service there is one legal history of each opening, the last one that of its book, and each answer that any of the workers gave is the documented machine's at a point of the history of its opening: what its calls found and left begins it, and goes on from what the same worker had seen before, or is of a later opening
 abbrev pub HasServedAtSlots : {C : Type 0} → (C → ℕ → C → Type 0) → Settings → C → List History → List ℕ → Type 0
 HasServedAtSlots {C} ticks settings clock books counts =
     (desk : DeskData) × (later : List (Worker SeatedData C))
+    × (closed : AreClosedSlots desk books (slot_seats_with later))
     × (desk.names ≡ names_of settings.services.items)
     × (desk.origins ≡ origins_of settings.services.items)
-    × HaveWorked place_at (IsAskedWithin books) ticks (slot_workers_with desk clock (slot_seats_of desk.tables desk.origins 1 settings.workers)) later
+    × HaveWorked place_at (IsAskedWithin closed.begun.courses) ticks (workers_of clock (map (seated desk) (slot_seats_of desk.tables desk.origins 1 settings.workers))) later
     × (counts ≡ slot_counts_of (slot_seats_with later))
-    × AreClosedSlots desk books (slot_seats_with later)

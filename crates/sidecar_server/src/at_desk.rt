@@ -1,21 +1,23 @@
-//! Serving by many workers, each with a seat of one desk.
-ghost use Rattle.std.specs.Prelude.{◌≡◌, ◌≤◌, ◌<◌, None, map, vec_len, IfOk};
-ghost use Rattle.http_pool.specs.Workers.{HaveWorked, HaveEnded, most_workers};
+//! Serving by many workers, each with a seat of one desk, whose books lie behind locks.
+ghost use Rattle.std.specs.Prelude.{◌≡◌, ◌≤◌, map, vec_len, IfOk, IfErr};
 ghost use Rattle.service_file.specs.Settled.{HasCounts};
-ghost use Rattle.sidecar_server.specs.Server.{IsServerOutput, IsServerCause, IsServing, IsOver, IsQuiet, IsNotice};
-ghost use Rattle.sidecar_server.specs.Served.{opening_of, seats_of, services_of, workers_with, seats_with, counts_of, HaveNoFailure, AreClosed, HasServedAtDesk};
+ghost use Rattle.sidecar_server.specs.Server.{IsServerOutput, IsServerCause, IsServing, IsOver, IsQuiet, end_of};
+ghost use Rattle.http_desk.specs.Seated.{seated};
+ghost use Rattle.sidecar_server.specs.Slotted.{workers_of};
+ghost use Rattle.sidecar_server.specs.Served.{seats_of, services_of, seats_with, counts_of, AreClosed, HasServedAtDesk};
 
-use crate::notices::{notify_failure, notify_workers};
-use crate::serving::{ServerEnd, ServerStatus, listen};
-use book::{Book, Config};
+use crate::opening::opened_by;
+use crate::pooling::serve_by_pool;
+use crate::serving::{ServerEnd, ServerStatus, limits_of};
+use book::Book;
 use counted_io::Counted;
 use desk::{Desk, Offered, Seat};
 use http_desk::SeatedAnswerer;
-use http_front::{Answerer, Clock};
-use http_pool::{ListenerFailed, Worker, pool};
+use http_front::Clock;
+use http_pool::Worker;
 use refusals::RefusalNumber;
 use service::OpenGate;
-use service_file::{ServiceSettings, Settings};
+use service_file::Settings;
 use std::alloc::{AllocError, Global};
 use std::io::Write;
 use std::net::{Net, TcpListener, TcpStream};
@@ -23,21 +25,6 @@ use std::sync::Wait;
 use std::sync::ledger::{Blank, Ledger};
 use std::thread::Threads;
 use std::time;
-use verifier::Verified;
-
-/// What a desk opens its services by: the name, the configuration and the first program of each.
-pub(crate) fn opened_by(
-    alloc: Global,
-    services: Vec<ServiceSettings>,
-) -> Result<Vec<(String, Config, Verified)>, AllocError>
-    ensures { IfOk result (λ opened. opened.items ≡ map opening_of services.items) }
-{
-    let mut opened = Vec::new(alloc);
-    for service in services {
-        opened.push((service.name, service.config, service.program))?;
-    }
-    Ok(opened)
-}
 
 /// So many seats of a desk that has given none.
 fn seats<L: Ledger, M: Ledger + Offered>(
@@ -70,98 +57,45 @@ fn workers<'a, L: Ledger, M: Ledger + Offered, R: Wait, C: Clock + Copy>(
     gate: &'a OpenGate,
     clock: C,
 ) -> Result<Vec<Worker<SeatedAnswerer<'a, L, M, OpenGate, R>, C>>, AllocError>
-    ensures { IfOk result (λ workers. workers.items ≡ workers_with desk.now.services clock seats.items) }
+    ensures { IfOk result (λ workers. workers.items ≡ workers_of clock (map (seated desk.now.services) seats.items)) }
 {
     let mut workers = Vec::new(alloc);
     for seat in seats {
         let answerer = SeatedAnswerer::new(rt, alloc, desk, seat, gate);
-        let worker = Worker::new(answerer, clock);
-        workers.push(worker)?;
+        workers.push(Worker::new(answerer, clock))?;
     }
     Ok(workers)
 }
 
-/// Serves the connections of a listener by workers, who come back. Where the system runs fewer workers at once, it
-/// says so first. The error is want of memory.
-pub(crate) fn serve_by_pool<
-    R: Threads + Wait + time::Clock + Sync,
-    A: Answerer + Send + Drop,
-    C: Clock + Send + Drop,
-    E: Write,
->(
-    rt: &R,
-    alloc: Global,
-    listener: &TcpListener,
-    connections: u64,
-    workers: Vec<Worker<A, C>>,
-    err: &mut Counted<E>,
-) -> Result<Vec<Worker<A, C>>, AllocError>
-    requires some { 0 < vec_len workers }
-    requires few { vec_len workers ≤ most_workers }
-    ensures worked { IfOk result (λ later. HaveWorked A.place_of A.answers C.ticks workers.items later.items) }
-    ensures ended { IfOk result (λ later. HaveEnded connections later.items) }
-    ensures notice { IsNotice (E.contents err.old.inner) (E.contents err.new.inner) }
-{
-    notify_workers(rt, alloc, workers.len() as u64, err)?;
-    pool(rt, alloc, listener, connections, workers)
-}
-
-/// What workers bring back: their seats, in the workers' order, how many entries each seat has counted, and the first
-/// failure of the listener that one of them met.
-#[derive(Drop)]
-struct Back<L: Ledger, M: Ledger> {
-    seats: Vec<Seat<L, M>>,
-    counts: Vec<u64>,
-    failure: Option<ListenerFailed>,
-}
-
-/// Takes what workers bring back. The error is want of memory.
-fn taken_back<'a, L: Ledger, M: Ledger + Offered, R: Wait, C: Clock + Copy>(
+/// The seats that workers bring back. The error is want of memory.
+fn seats_back<'a, L: Ledger, M: Ledger + Offered, R: Wait, C: Clock + Copy>(
     alloc: Global,
     workers: Vec<Worker<SeatedAnswerer<'a, L, M, OpenGate, R>, C>>,
-) -> Result<Back<L, M>, AllocError>
-    ensures seats { IfOk result (λ back. back.seats.items ≡ seats_with workers.entry.items) }
-    ensures counts { IfOk result (λ back. back.counts.items ≡ counts_of (seats_with workers.entry.items)) }
-    ensures failure { IfOk result (λ back. back.failure ≡ None → HaveNoFailure workers.entry.items) }
+) -> Result<Vec<Seat<L, M>>, AllocError>
+    ensures { IfOk result (λ seats. seats.items ≡ seats_with workers.entry.items) }
 {
-    let mut seats = Vec::new(alloc);
-    let mut counts = Vec::new(alloc);
-    let mut failure = None;
-    for worker in workers {
-        let Worker {
-            answerer,
-            failure: met,
-            ..
-        } = worker;
-        let seat = answerer.into_seat();
-        counts.push(seat.count())?;
-        seats.push(seat)?;
-        failure = failure.or(met);
-    }
-    Ok(Back {
-        seats,
-        counts,
-        failure,
-    })
+    workers
+        .into_iter()
+        .map(|worker| worker.answerer.into_seat())
+        .collect(alloc)
 }
 
-/// Closes a desk to which all its seats came back, and hands out its books. The error is want of memory.
+/// Closes a desk to which all its seats came back, and hands out its books, and how many entries each seat has counted.
+/// The error is want of memory.
 fn closed<L: Ledger, M: Ledger + Offered>(
     alloc: Global,
     desk: Desk<L, M>,
     seats: Vec<Seat<L, M>>,
-) -> Result<Vec<Book>, AllocError>
+) -> Result<(Vec<Book>, Vec<u64>), AllocError>
     requires all { vec_len seats ≡ desk.seats }
-    ensures { IfOk result (λ books. AreClosed desk.services books.items seats.items) }
+    ensures books { IfOk result (λ left. AreClosed desk.services left.0.items seats.items) }
+    ensures counts { IfOk result (λ left. left.1.items ≡ counts_of seats.items) }
 {
+    let counts = seats.iter().map(|seat| seat.count()).collect(alloc)?;
     match desk.close(alloc, seats) {
-        Ok(books) => Ok(books),
-        Err(unclosed) => {
-            if unclosed.number == RefusalNumber::SeatsMissing {
-                unreachable!()
-            }
-            Err(AllocError)
-        }
+        Ok(books) => Ok((books, counts)),
+        Err(unclosed) if unclosed.number == RefusalNumber::SeatsMissing => unreachable!(),
+        Err(_) => Err(AllocError),
     }
 }
 
@@ -183,61 +117,28 @@ pub(crate) fn serve_at_desk<
     out: &mut Counted<O>,
     err: &mut Counted<E>,
     clock: C,
-) -> ServerEnd
+) -> Result<ServerEnd, ServerStatus>
     requires entries_name { entry_parts.name ≡ L.name }
     requires entries_parts { (entry_parts.parts ≡ L.parts) × (L.parts ≡ 193) }
     requires cuts_name { cut_parts.name ≡ M.name }
     requires cuts_parts { (cut_parts.parts ≡ M.parts) × (M.parts ≡ 193) }
     requires offered { M.services ≡ services_of settings.services.items }
     requires counts { HasCounts settings }
-    ensures served { IsServing result.status → HasServedAtDesk C.ticks settings clock result.books.items result.counts.items }
-    ensures over { IsOver result.status settings.connections }
-    ensures ended { IsServerOutput result.status (O.contents out.old.inner) (O.contents out.new.inner) }
-    ensures quiet { IsQuiet result.status (E.contents err.old.inner) (E.contents err.new.inner) }
-    ensures cause { IsServerCause result.status out.old.failures out.new.failures }
+    ensures served { IfOk result (λ end. HasServedAtDesk C.ticks settings clock end.books.items end.counts.items) }
+    ensures unserved { IfErr result (λ status. IsServing status → ⊥) }
+    ensures over { IsOver (end_of result) settings.connections }
+    ensures ended { IsServerOutput (end_of result) (O.contents out.old.inner) (O.contents out.new.inner) }
+    ensures quiet { IsQuiet (end_of result) (E.contents err.old.inner) (E.contents err.new.inner) }
+    ensures cause { IsServerCause (end_of result) out.old.failures out.new.failures }
 {
-    let Ok(opened) = opened_by(alloc, settings.services) else {
-        return ServerEnd::without(alloc, ServerStatus::OutOfMemory);
-    };
-    let Ok(mut desk) = Desk::<L, M>::open(alloc, entry_parts, cut_parts, opened) else {
-        return ServerEnd::without(alloc, ServerStatus::OutOfMemory);
-    };
-    let Ok(seats) = seats(alloc, &mut desk, settings.workers) else {
-        return ServerEnd::without(alloc, ServerStatus::OutOfMemory);
-    };
+    let limits = limits_of(&settings);
+    let opened = opened_by(alloc, settings.services)?;
+    let mut desk = Desk::<L, M>::open(alloc, entry_parts, cut_parts, opened)?;
+    let seats = seats(alloc, &mut desk, settings.workers)?;
     let gate = OpenGate;
-    let Ok(workers) = workers(rt, alloc, &desk, seats, &gate, clock) else {
-        return ServerEnd::without(alloc, ServerStatus::OutOfMemory);
-    };
-    let listener = match listen(rt, alloc, settings.listen, out, err) {
-        Ok(listener) => listener,
-        Err(status) => return ServerEnd::without(alloc, status),
-    };
-    let Ok(workers) = serve_by_pool(rt, alloc, &listener, settings.connections, workers, err) else {
-        return ServerEnd::without(alloc, ServerStatus::OutOfMemory);
-    };
-    let Ok(back) = taken_back(alloc, workers) else {
-        return ServerEnd::without(alloc, ServerStatus::OutOfMemory);
-    };
-    let Back {
-        seats,
-        counts,
-        failure,
-    } = back;
-    let Ok(books) = closed(alloc, desk, seats) else {
-        return ServerEnd::without(alloc, ServerStatus::OutOfMemory);
-    };
-    if let Some(failure) = failure {
-        notify_failure(alloc, failure, err);
-        return ServerEnd {
-            status: ServerStatus::ListenerFailed,
-            books,
-            counts,
-        };
-    }
-    ServerEnd {
-        status: ServerStatus::Done,
-        books,
-        counts,
-    }
+    let workers = workers(rt, alloc, &desk, seats, &gate, clock)?;
+    let (workers, failure) = serve_by_pool(rt, alloc, settings.listen, limits, workers, out, err)?;
+    let seats = seats_back(alloc, workers)?;
+    let (books, counts) = closed(alloc, desk, seats)?;
+    Ok(ServerEnd::served(alloc, books, counts, failure, err))
 }

@@ -1,20 +1,19 @@
 //! Serving by many workers, each with a seat of one desk whose books lie in slots.
-ghost use Rattle.std.specs.Prelude.{◌≡◌, ◌≤◌, ◌<◌, None, map, length, vec_len, IfOk};
+ghost use Rattle.std.specs.Prelude.{◌≡◌, ◌≤◌, map, vec_len, IfOk, IfErr};
 ghost use Rattle.std.specs.List.{AllByRecursion};
-ghost use Rattle.http_pool.specs.Workers.{HaveWorked};
-ghost use Rattle.http_slots.specs.Seated.{SeatedData};
 ghost use Rattle.service_file.specs.Settled.{HasCounts};
 ghost use Rattle.slot_desk.specs.Seats.{IsSeatOf};
-ghost use Rattle.sidecar_server.specs.Server.{IsServerOutput, IsServerCause, IsServing, IsOver, IsQuiet};
-ghost use Rattle.sidecar_server.specs.Slotted.{slot_seats_of, slot_workers_with, slot_seats_with, slot_counts_of, HaveNoSlotFailure, AreClosedSlots, HasServedAtSlots};
+ghost use Rattle.http_slots.specs.Seated.{seated};
+ghost use Rattle.sidecar_server.specs.Server.{IsServerOutput, IsServerCause, IsServing, IsOver, IsQuiet, end_of};
+ghost use Rattle.sidecar_server.specs.Slotted.{slot_seats_of, workers_of, slot_seats_with, slot_counts_of, AreClosedSlots, HasServedAtSlots};
 
-use crate::at_desk::{opened_by, serve_by_pool};
-use crate::notices::notify_failure;
-use crate::serving::{ServerEnd, ServerStatus, listen};
+use crate::opening::opened_by;
+use crate::pooling::serve_by_pool;
+use crate::serving::{ServerEnd, ServerStatus, limits_of};
 use book::Book;
 use counted_io::Counted;
 use http_front::Clock;
-use http_pool::{ListenerFailed, Worker};
+use http_pool::Worker;
 use http_slots::SlotAnswerer;
 use refusals::RefusalNumber;
 use service::OpenGate;
@@ -39,12 +38,8 @@ fn seats(alloc: Global, desk: &mut Desk, count: u64) -> Result<Vec<Seat>, AllocE
     for _ in 0..count {
         match desk.sit(alloc) {
             Ok(seat) => seats.push(seat)?,
-            Err(number) => {
-                if number == RefusalNumber::SeatsFull {
-                    unreachable!()
-                }
-                return Err(AllocError);
-            }
+            Err(RefusalNumber::SeatsFull) => unreachable!(),
+            Err(_) => return Err(AllocError),
         }
     }
     Ok(seats)
@@ -60,71 +55,44 @@ fn workers<'a, R: Wait, C: Clock + Copy>(
     clock: C,
 ) -> Result<Vec<Worker<SlotAnswerer<'a, OpenGate, R>, C>>, AllocError>
     requires here { AllByRecursion (IsSeatOf desk.now) seats.items }
-    ensures { IfOk result (λ workers. workers.items ≡ slot_workers_with desk.now clock seats.items) }
+    ensures { IfOk result (λ workers. workers.items ≡ workers_of clock (map (seated desk.now) seats.items)) }
 {
     let mut workers = Vec::new(alloc);
     for seat in seats {
         let answerer = SlotAnswerer::new(rt, alloc, desk, seat, gate);
-        let worker = Worker::new(answerer, clock);
-        workers.push(worker)?;
+        workers.push(Worker::new(answerer, clock))?;
     }
     Ok(workers)
 }
 
-/// What workers bring back: their seats, in the workers' order, how many entries each seat has counted, and the first
-/// failure of the listener that one of them met.
-#[derive(Drop)]
-struct Back {
-    seats: Vec<Seat>,
-    counts: Vec<u64>,
-    failure: Option<ListenerFailed>,
-}
-
-/// Takes what workers bring back. The error is want of memory.
-fn taken_back<'a, R: Wait, C: Clock + Copy>(
+/// The seats that workers bring back, each still one of its desk's. The error is want of memory.
+fn seats_back<'a, R: Wait, C: Clock + Copy>(
     alloc: Global,
     workers: Vec<Worker<SlotAnswerer<'a, OpenGate, R>, C>>,
-) -> Result<Back, AllocError>
-    ensures seats { IfOk result (λ back. back.seats.items ≡ slot_seats_with workers.entry.items) }
-    ensures counts { IfOk result (λ back. back.counts.items ≡ slot_counts_of (slot_seats_with workers.entry.items)) }
-    ensures failure { IfOk result (λ back. back.failure ≡ None → HaveNoSlotFailure workers.entry.items) }
-    ensures held { IfOk result (λ back. AllByRecursion (λ worker. IsSeatOf worker.answerer.desk worker.answerer.seat) workers.entry.items) }
+) -> Result<Vec<Seat>, AllocError>
+    ensures seats { IfOk result (λ seats. seats.items ≡ slot_seats_with workers.entry.items) }
+    ensures held { IfOk result (λ seats. AllByRecursion (λ worker. IsSeatOf worker.answerer.desk worker.answerer.seat) workers.entry.items) }
 {
     let mut seats = Vec::new(alloc);
-    let mut counts = Vec::new(alloc);
-    let mut failure = None;
     for worker in workers {
-        let Worker {
-            answerer,
-            failure: met,
-            ..
-        } = worker;
-        let seat = answerer.into_seat();
-        counts.push(seat.count())?;
-        seats.push(seat)?;
-        failure = failure.or(met);
+        seats.push(worker.answerer.into_seat())?;
     }
-    Ok(Back {
-        seats,
-        counts,
-        failure,
-    })
+    Ok(seats)
 }
 
-/// Closes a desk to which all its seats came back, and hands out its books. The error is want of memory.
-fn closed(alloc: Global, desk: Desk, seats: Vec<Seat>) -> Result<Vec<Book>, AllocError>
+/// Closes a desk to which all its seats came back, and hands out its books, and how many entries each seat has counted.
+/// The error is want of memory.
+fn closed(alloc: Global, desk: Desk, seats: Vec<Seat>) -> Result<(Vec<Book>, Vec<u64>), AllocError>
     requires here { AllByRecursion (IsSeatOf desk) seats.items }
     requires all { vec_len seats ≡ desk.seats }
-    ensures { IfOk result (λ books. AreClosedSlots desk books.items seats.items) }
+    ensures books { IfOk result (λ left. AreClosedSlots desk left.0.items seats.items) }
+    ensures counts { IfOk result (λ left. left.1.items ≡ slot_counts_of seats.items) }
 {
+    let counts = seats.iter().map(|seat| seat.count()).collect(alloc)?;
     match desk.close(alloc, seats) {
-        Ok(books) => Ok(books),
-        Err(unclosed) => {
-            if unclosed.number == RefusalNumber::SeatsMissing {
-                unreachable!()
-            }
-            Err(AllocError)
-        }
+        Ok(books) => Ok((books, counts)),
+        Err(unclosed) if unclosed.number == RefusalNumber::SeatsMissing => unreachable!(),
+        Err(_) => Err(AllocError),
     }
 }
 
@@ -142,56 +110,23 @@ pub(crate) fn serve_at_slots<
     out: &mut Counted<O>,
     err: &mut Counted<E>,
     clock: C,
-) -> ServerEnd
+) -> Result<ServerEnd, ServerStatus>
     requires counts { HasCounts settings }
-    ensures served { IsServing result.status → HasServedAtSlots C.ticks settings clock result.books.items result.counts.items }
-    ensures over { IsOver result.status settings.connections }
-    ensures ended { IsServerOutput result.status (O.contents out.old.inner) (O.contents out.new.inner) }
-    ensures quiet { IsQuiet result.status (E.contents err.old.inner) (E.contents err.new.inner) }
-    ensures cause { IsServerCause result.status out.old.failures out.new.failures }
+    ensures served { IfOk result (λ end. HasServedAtSlots C.ticks settings clock end.books.items end.counts.items) }
+    ensures unserved { IfErr result (λ status. IsServing status → ⊥) }
+    ensures over { IsOver (end_of result) settings.connections }
+    ensures ended { IsServerOutput (end_of result) (O.contents out.old.inner) (O.contents out.new.inner) }
+    ensures quiet { IsQuiet (end_of result) (E.contents err.old.inner) (E.contents err.new.inner) }
+    ensures cause { IsServerCause (end_of result) out.old.failures out.new.failures }
 {
-    let Ok(opened) = opened_by(alloc, settings.services) else {
-        return ServerEnd::without(alloc, ServerStatus::OutOfMemory);
-    };
-    let Ok(mut desk) = Desk::open(alloc, opened) else {
-        return ServerEnd::without(alloc, ServerStatus::OutOfMemory);
-    };
-    let Ok(seats) = seats(alloc, &mut desk, settings.workers) else {
-        return ServerEnd::without(alloc, ServerStatus::OutOfMemory);
-    };
+    let limits = limits_of(&settings);
+    let opened = opened_by(alloc, settings.services)?;
+    let mut desk = Desk::open(alloc, opened)?;
+    let seats = seats(alloc, &mut desk, settings.workers)?;
     let gate = OpenGate;
-    let Ok(workers) = workers(rt, alloc, &desk, seats, &gate, clock) else {
-        return ServerEnd::without(alloc, ServerStatus::OutOfMemory);
-    };
-    let listener = match listen(rt, alloc, settings.listen, out, err) {
-        Ok(listener) => listener,
-        Err(status) => return ServerEnd::without(alloc, status),
-    };
-    let Ok(workers) = serve_by_pool(rt, alloc, &listener, settings.connections, workers, err) else {
-        return ServerEnd::without(alloc, ServerStatus::OutOfMemory);
-    };
-    let Ok(back) = taken_back(alloc, workers) else {
-        return ServerEnd::without(alloc, ServerStatus::OutOfMemory);
-    };
-    let Back {
-        seats,
-        counts,
-        failure,
-    } = back;
-    let Ok(books) = closed(alloc, desk, seats) else {
-        return ServerEnd::without(alloc, ServerStatus::OutOfMemory);
-    };
-    if let Some(failure) = failure {
-        notify_failure(alloc, failure, err);
-        return ServerEnd {
-            status: ServerStatus::ListenerFailed,
-            books,
-            counts,
-        };
-    }
-    ServerEnd {
-        status: ServerStatus::Done,
-        books,
-        counts,
-    }
+    let workers = workers(rt, alloc, &desk, seats, &gate, clock)?;
+    let (workers, failure) = serve_by_pool(rt, alloc, settings.listen, limits, workers, out, err)?;
+    let seats = seats_back(alloc, workers)?;
+    let (books, counts) = closed(alloc, desk, seats)?;
+    Ok(ServerEnd::served(alloc, books, counts, failure, err))
 }

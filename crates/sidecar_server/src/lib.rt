@@ -7,6 +7,7 @@ mod at_slots;
 mod clock;
 mod notices;
 mod opening;
+mod pooling;
 mod serving;
 
 pub use clock::SystemClock;

@@ -6,7 +6,7 @@ ghost use Rattle.sidecar_server.specs.Server.{IsNotice};
 
 use config_mistakes::file_mistake;
 use counted_io::Counted;
-use http_pool::{ListenerFailed, threads_at_once};
+use http_pool::threads_at_once;
 use std::alloc::{AllocError, Global};
 use std::io::Write;
 use std::thread::Threads;
@@ -29,17 +29,6 @@ pub(crate) fn notify_error<E: Write>(
     err: &mut Counted<E>,
 ) {
     if let Ok(line) = format!(in alloc; "{name}: {error}\n") {
-        let _sent = err.send(line.as_bytes());
-    }
-}
-
-/// Writes why the listener accepts no more connections.
-pub(crate) fn notify_failure<E: Write>(
-    alloc: Global,
-    failure: ListenerFailed,
-    err: &mut Counted<E>,
-) {
-    if let Ok(line) = format!(in alloc; "{failure}\n") {
         let _sent = err.send(line.as_bytes());
     }
 }

@@ -1,12 +1,13 @@
 //! Opening the services, and taking their books.
-ghost use Rattle.std.specs.Prelude.{◌≡◌, IfOk};
+ghost use Rattle.std.specs.Prelude.{◌≡◌, map, IfOk};
 ghost use Rattle.sidecar_server.specs.Opened.{IsOpened, AreOpened};
-ghost use Rattle.sidecar_server.specs.Served.{books_of};
+ghost use Rattle.sidecar_server.specs.Served.{books_of, opening_of};
 
-use book::Book;
+use book::{Book, Config};
 use http_front::{Books, NamedBook};
 use service_file::ServiceSettings;
 use std::alloc::{AllocError, Global};
+use verifier::Verified;
 
 /// Opens a service.
 fn opened(alloc: Global, service: ServiceSettings) -> Result<NamedBook, AllocError>
@@ -30,13 +31,25 @@ pub(crate) fn open(alloc: Global, services: Vec<ServiceSettings>) -> Result<Book
     Ok(Books::new(alloc, named))
 }
 
+/// What a desk opens its services by: the name, the configuration and the first program of each.
+pub(crate) fn opened_by(
+    alloc: Global,
+    services: Vec<ServiceSettings>,
+) -> Result<Vec<(String, Config, Verified)>, AllocError>
+    ensures { IfOk result (λ opened. opened.items ≡ map opening_of services.items) }
+{
+    services
+        .into_iter()
+        .map(|service| (service.name, service.config, service.program))
+        .collect(alloc)
+}
+
 /// The books of services, in their order. The error is want of memory.
 pub(crate) fn books_of(alloc: Global, services: Vec<NamedBook>) -> Result<Vec<Book>, AllocError>
     ensures { IfOk result (λ books. books.items ≡ books_of services.items) }
 {
-    let mut books = Vec::new(alloc);
-    for service in services {
-        books.push(service.book)?;
-    }
-    Ok(books)
+    services
+        .into_iter()
+        .map(|service| service.book)
+        .collect(alloc)
 }

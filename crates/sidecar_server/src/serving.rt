@@ -1,22 +1,22 @@
 //! The command `serve`.
-ghost use Rattle.std.specs.Prelude.{◌≡◌, ℕ, List, [], IfErr, OnOk, ⊤};
+ghost use Rattle.std.specs.Prelude.{◌≡◌, ℕ, List, [], None, IfOk, IfErr, OnOk, ⊤};
 ghost use Rattle.std.specs.Io.KnownBytes.{Appends};
 ghost use Rattle.refusals.specs.declared.RefusalNumber.TheVariants.{BadConfig, Listen};
 ghost use Rattle.service_file.specs.Settled.{HasCounts};
-ghost use Rattle.sidecar_server.specs.Server.{refused_line, IsListening, IsUsable, IsFileRefused, IsServerRefusal, IsLineCut, IsCutShort, IsRefused, IsUnheard, IsServerCause, IsServerOutput, IsServing, IsOver, IsQuiet, HasServedFile, status_of, code_of};
+ghost use Rattle.sidecar_server.specs.Server.{refused_line, IsListening, IsUsable, IsFileRefused, IsServerRefusal, IsLineCut, IsCutShort, IsRefused, IsUnheard, IsServerCause, IsServerOutput, IsServing, IsOver, IsQuiet, HasServedFile, status_of, ended_by, end_of, code_of};
 ghost use Rattle.sidecar_server.specs.Served.{HasServedAlone, HasServedBy};
 
 use crate::at_desk::serve_at_desk;
 use crate::at_slots::serve_at_slots;
-use crate::notices::{notify_error, notify_failure, notify_mistake};
+use crate::notices::{notify_error, notify_mistake};
 use crate::opening::{books_of, open};
 use book::Book;
 use counted_io::Counted;
 use http_front::Clock;
-use http_pool::serve_connections;
+use http_pool::{Limits, ListenerFailed, serve_connections};
 use refusals::{RefusalNumber, RefusalText};
 use service_file::{Keeper, Settings, read_settings};
-use std::alloc::Global;
+use std::alloc::{AllocError, Global};
 use std::fs::{File, Files};
 use std::io::{ErrorKind, Read, Write};
 use std::marker::Brand;
@@ -60,6 +60,17 @@ impl ServerStatus {
     }
 }
 
+impl From<AllocError> for ServerStatus {
+    ghost use Rattle.std.specs.Prelude.{◌≡◌};
+    ghost use Rattle.sidecar_server.specs.declared.serving.ServerStatus.TheVariants.{OutOfMemory};
+
+    ghost from_gives = { λ _ status. status ≡ OutOfMemory };
+
+    fn from(_error: AllocError) -> ServerStatus {
+        ServerStatus::OutOfMemory
+    }
+}
+
 /// How a server ended, and what it leaves.
 #[derive(Drop)]
 pub struct ServerEnd {
@@ -80,6 +91,42 @@ impl ServerEnd {
             books: Vec::new(alloc),
             counts: Vec::new(alloc),
         }
+    }
+
+    /// The end of a server that has served connections, and what it leaves. Where its listener failed, it writes why.
+    pub(crate) fn served<E: Write>(
+        alloc: Global,
+        books: Vec<Book>,
+        counts: Vec<u64>,
+        failure: Option<ListenerFailed>,
+        err: &mut Counted<E>,
+    ) -> ServerEnd
+        ensures status { result.status ≡ ended_by failure }
+        ensures left { (result.books ≡ books) × (result.counts ≡ counts) }
+        ensures quiet { failure ≡ None → err.new ≡ err.old }
+    {
+        let mut status = ServerStatus::Done;
+        if let Some(failure) = failure {
+            if let Ok(line) = format!(in alloc; "{failure}\n") {
+                let _sent = err.send(line.as_bytes());
+            }
+            status = ServerStatus::ListenerFailed;
+        }
+        ServerEnd {
+            status,
+            books,
+            counts,
+        }
+    }
+}
+
+/// How many connections a server serves, and how many it has open at once at most.
+pub(crate) fn limits_of(settings: &Settings) -> Limits
+    ensures { (result.connections ≡ settings.now.connections) × (result.most_open ≡ settings.now.most_open) }
+{
+    Limits {
+        connections: settings.connections,
+        most_open: settings.most_open,
     }
 }
 
@@ -183,47 +230,23 @@ fn serve_alone<R, O: Write, E: Write, C: Clock>(
     out: &mut Counted<O>,
     err: &mut Counted<E>,
     clock: &mut C,
-) -> ServerEnd
+) -> Result<ServerEnd, ServerStatus>
 where
     R: Wait + time::Clock + Net<Listener = TcpListener, Stream = TcpStream>,
-    ensures served { IsServing result.status → HasServedAlone C.ticks settings clock.old clock.new result.books.items × (result.counts.items ≡ []) }
-    ensures over { IsOver result.status settings.connections }
-    ensures ended { IsServerOutput result.status (O.contents out.old.inner) (O.contents out.new.inner) }
-    ensures quiet { IsQuiet result.status (E.contents err.old.inner) (E.contents err.new.inner) }
-    ensures cause { IsServerCause result.status out.old.failures out.new.failures }
+    ensures served { IfOk result (λ end. HasServedAlone C.ticks settings clock.old clock.new end.books.items × (end.counts.items ≡ [])) }
+    ensures unserved { IfErr result (λ status. IsServing status → ⊥) }
+    ensures over { IsOver (end_of result) settings.connections }
+    ensures ended { IsServerOutput (end_of result) (O.contents out.old.inner) (O.contents out.new.inner) }
+    ensures quiet { IsQuiet (end_of result) (E.contents err.old.inner) (E.contents err.new.inner) }
+    ensures cause { IsServerCause (end_of result) out.old.failures out.new.failures }
 {
-    let Ok(mut books) = open(alloc, settings.services) else {
-        return ServerEnd::without(alloc, ServerStatus::OutOfMemory);
-    };
-    let listener = match listen(rt, alloc, settings.listen, out, err) {
-        Ok(listener) => listener,
-        Err(status) => return ServerEnd::without(alloc, status),
-    };
-    let ended = serve_connections(
-        rt,
-        alloc,
-        &listener,
-        settings.connections,
-        &mut books,
-        clock,
-    );
-    let Ok(books) = books_of(alloc, books.services) else {
-        return ServerEnd::without(alloc, ServerStatus::OutOfMemory);
-    };
+    let limits = limits_of(&settings);
+    let mut books = open(alloc, settings.services)?;
+    let listener = listen(rt, alloc, settings.listen, out, err)?;
+    let ended = serve_connections(rt, alloc, &listener, limits, &mut books, clock);
+    let books = books_of(alloc, books.services)?;
     let counts = Vec::new(alloc);
-    if let Err(failure) = ended {
-        notify_failure(alloc, failure, err);
-        return ServerEnd {
-            status: ServerStatus::ListenerFailed,
-            books,
-            counts,
-        };
-    }
-    ServerEnd {
-        status: ServerStatus::Done,
-        books,
-        counts,
-    }
+    Ok(ServerEnd::served(alloc, books, counts, ended.err(), err))
 }
 
 /// Opens the services, listens and serves, by one worker or by many, who keep the books as the settings say.
@@ -234,15 +257,16 @@ fn serve_settings<R, O: Write, E: Write, C: Clock + Copy + Send>(
     out: &mut Counted<O>,
     err: &mut Counted<E>,
     clock: &mut C,
-) -> ServerEnd
+) -> Result<ServerEnd, ServerStatus>
 where
     R: Threads + Wait + time::Clock + Sync + Net<Listener = TcpListener, Stream = TcpStream>,
     requires counts { HasCounts settings }
-    ensures served { IsServing result.status → HasServedBy C.ticks settings clock.old clock.new result.books.items result.counts.items }
-    ensures over { IsOver result.status settings.connections }
-    ensures ended { IsServerOutput result.status (O.contents out.old.inner) (O.contents out.new.inner) }
-    ensures quiet { IsQuiet result.status (E.contents err.old.inner) (E.contents err.new.inner) }
-    ensures cause { IsServerCause result.status out.old.failures out.new.failures }
+    ensures served { IfOk result (λ end. HasServedBy C.ticks settings clock.old clock.new end.books.items end.counts.items) }
+    ensures unserved { IfErr result (λ status. IsServing status → ⊥) }
+    ensures over { IsOver (end_of result) settings.connections }
+    ensures ended { IsServerOutput (end_of result) (O.contents out.old.inner) (O.contents out.new.inner) }
+    ensures quiet { IsQuiet (end_of result) (E.contents err.old.inner) (E.contents err.new.inner) }
+    ensures cause { IsServerCause (end_of result) out.old.failures out.new.failures }
 {
     if settings.workers == 1 {
         return serve_alone(rt, alloc, settings, out, err, clock);
@@ -282,8 +306,8 @@ fn refuse_text<O: Write, E: Write>(
 }
 
 /// Serves as the text of a file says, which `service_file::read_settings` reads: it opens the services, listens,
-/// prints the line `listening ADDRESS`, which it flushes, and serves connections: one after another by one worker, or
-/// as many at once as the file has workers, each with a copy of the clock and a thread of its own. Where the text
+/// prints the line `listening ADDRESS`, which it flushes, and serves connections side by side, by one worker, or by as
+/// many as the file has, each with a copy of the clock and a thread of its own. Where the text
 /// can't be used or the address can't be bound it prints the refusal as a line, and a line on `err` that says why, for
 /// people. There is also a line on `err` where the system runs fewer workers at once than the file says, and where the
 /// listener accepts no more connections.
@@ -320,7 +344,10 @@ where
     ensures cause { IsServerCause result.status out.old.failures out.new.failures }
 {
     match read_settings(alloc, text) {
-        Ok(Some(settings)) => serve_settings(rt, alloc, settings, out, err, clock),
+        Ok(Some(settings)) => match serve_settings(rt, alloc, settings, out, err, clock) {
+            Ok(end) => end,
+            Err(status) => ServerEnd::without(alloc, status),
+        },
         Ok(None) => ServerEnd::without(alloc, refuse_text(alloc, text, out, err)),
         Err(_) => ServerEnd::without(alloc, ServerStatus::OutOfMemory),
     }

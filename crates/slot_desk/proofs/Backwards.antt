@@ -1,7 +1,7 @@
--- What a seat had seen before a request begins the histories of the books, or is of earlier openings, where that holds of what it has seen after it.
-use Rattle.std.proofs.Common.{◌≡◌, ℕ, zero, suc, List, [], ◌∷◌, Option, Some, None, Result, Ok, Err, map, refl, sym, ap, ◌∙◌, subst, inl, inr}
+-- All that a seat had seen before a request begins the histories of its openings, where that holds of all that it has seen after it.
+use Rattle.std.proofs.Common.{◌≡◌, ℕ, zero, suc, List, [], ◌∷◌, Option, Some, Result, Ok, Err, map, sym, ap, ◌∙◌, subst, inl, inr}
 use Rattle.std.specs.Prelude.{slice_get, slice_set}
-use Rattle.service.specs.Asked.{RequestData, acquire, report, release, install, move, reset, read, page, cut, roll, ResponseData, replies, refuses_program, shows, pages, hands}
+use Rattle.service.specs.Asked.{RequestData, acquire, report, release, install, move, reset, read, page, cut, roll, ResponseData, replies, refuses_program, shows}
 use Rattle.service.specs.Asking.{IsFinishServed, IsServedBy}
 use Rattle.service.specs.declared.request.Report.{Report}
 use Rattle.bpf_profile.specs.Programs.{VerifiedProgram}
@@ -9,9 +9,9 @@ use Rattle.refusals.specs.declared.RefusalNumber.{RefusalNumber}
 use Rattle.service_profile.specs.declared.replies.Reply.{Reply}
 use Rattle.service_profile.specs.Calls.{CallData, CallAnswer, applies, IsCalled}
 use Rattle.service_profile.specs.Calls as call
-use Rattle.service_profile.specs.Events.{History, acquires, finishes, releases, installs, moves, resets}
+use Rattle.service_profile.specs.Events.{acquires, finishes, releases, installs, moves, resets}
 use Rattle.slot_table.specs.declared.view.View.{View}
-use Rattle.slot_table.specs.Rules.{BeginsLast}
+use Rattle.slot_table.specs.Rules.{Course, AllBegin}
 use Rattle.slot_table.proofs.Backwards.{called_back}
 use Rattle.slot_desk.specs.Calls.{ServiceSeatData, IsAskedAt, IsCalledAt, IsTurnedAway}
 use Rattle.slot_desk.specs.Closing.{RowBegins, SeatBegins}
@@ -20,19 +20,19 @@ use Rattle.slot_desk.specs.Slots.{seen_of}
 
 -- ---- calls
 
-row_back : (books : List History) (views : List View) (service : ℕ) (v w : View) → slice_get views service ≡ Some v → ((last : History) → BeginsLast last w.seen → BeginsLast last v.seen)
-    → RowBegins books (map seen_of (slice_set views service w)) → RowBegins books (map seen_of views)
+row_back : (courses : List Course) (views : List View) (service : ℕ) (v w : View) → slice_get views service ≡ Some v → ((course : Course) → AllBegin course w.all_seen → AllBegin course v.all_seen)
+    → RowBegins courses (map seen_of (slice_set views service w)) → RowBegins courses (map seen_of views)
 row_back [] views service v w is back h = tt
-row_back (b ∷ bs) [] service v w is back h = tt
-row_back (b ∷ bs) (u ∷ us) zero v w is back h =
+row_back (c ∷ cs) [] service v w is back h = tt
+row_back (c ∷ cs) (u ∷ us) zero v w is back h =
     let some : ◌≡◌ {A = Option View} (Some u) (Some v) = is in
     let same : u ≡ v = cc in
-    (subst (λ (x : View). BeginsLast b x.seen) (sym same) (back b h.0), h.1)
-row_back (b ∷ bs) (u ∷ us) (suc service) v w is back h = (h.0, row_back bs us service v w is back h.1)
+    (subst (λ (x : View). AllBegin c x.all_seen) (sym same) (back c h.0), h.1)
+row_back (c ∷ cs) (u ∷ us) (suc service) v w is back h = (h.0, row_back cs us service v w is back h.1)
 
-called_seat_back : (books : List History) (service : ℕ) (seat : SeatData) (c : CallData) (given : CallAnswer) (after : SeatData) → IsCalledAt service seat c given after → SeatBegins books after → SeatBegins books seat
-called_seat_back books service seat c given after (v, w, is, did, left) h =
-    row_back books seat.views service v w is (λ last. called_back last seat.number c given v w did) (subst (SeatBegins books) left h)
+called_seat_back : (courses : List Course) (service : ℕ) (seat : SeatData) (c : CallData) (given : CallAnswer) (after : SeatData) → IsCalledAt service seat c given after → SeatBegins courses after → SeatBegins courses seat
+called_seat_back courses service seat c given after (v, w, is, did, left) h =
+    row_back courses seat.views service v w is (λ course. called_back course (λ before later. IsCalled seat.number before c given later) v w did) (subst (SeatBegins courses) left h)
 
 -- where a seat is turned away nothing changes
 turned : (seat : SeatData) (c : CallData) (given : CallAnswer) (after : SeatData) → IsTurnedAway seat c given after → after ≡ seat
@@ -46,32 +46,32 @@ turned seat (call.pages from) given after is = absurd is
 turned seat call.cuts given after is = absurd is
 turned seat (call.rolls last) given after is = absurd is
 
--- what a step of a seat at a service keeps: its service and its tables, and what it had seen begins the books where what it then has seen does
+-- what a step of a seat at a service keeps: its service and its tables, and all that it had seen begins the histories of its openings where all that it then has seen does
 pub record Keeps (at after : ServiceSeatData) : Type 0 where
   pub service : after.service ≡ at.service
   pub tables : after.seat.tables ≡ at.seat.tables
-  pub begins : (books : List History) → SeatBegins books after.seat → SeatBegins books at.seat
+  pub begins : (courses : List Course) → SeatBegins courses after.seat → SeatBegins courses at.seat
 
 pub keeps_itself : (at after : ServiceSeatData) → after ≡ at → Keeps at after
 keeps_itself at after is = record {
   service = ap (λ (a : ServiceSeatData). a.service) is;
   tables = ap (λ (a : ServiceSeatData). a.seat.tables) is;
-  begins = λ books h. subst (λ (a : ServiceSeatData). SeatBegins books a.seat) is h;
+  begins = λ courses h. subst (λ (a : ServiceSeatData). SeatBegins courses a.seat) is h;
 }
 
 keeps_on : (at between after : ServiceSeatData) → Keeps at between → Keeps between after → Keeps at after
 keeps_on at between after first second = record {
   service = second.service ∙ first.service;
   tables = second.tables ∙ first.tables;
-  begins = λ books h. first.begins books (second.begins books h);
+  begins = λ courses h. first.begins courses (second.begins courses h);
 }
 
 asked_keeps : (at : ServiceSeatData) (c : CallData) (given : CallAnswer) (after : ServiceSeatData) → IsAskedAt at c given after → Keeps at after
 asked_keeps at c given after (stays, inl away) =
     let same = turned at.seat c given after.seat away in
-    record { service = stays; tables = ap (λ (s : SeatData). s.tables) same; begins = λ books h. subst (SeatBegins books) same h }
+    record { service = stays; tables = ap (λ (s : SeatData). s.tables) same; begins = λ courses h. subst (SeatBegins courses) same h }
 asked_keeps at c given after (stays, inr called) =
-    record { service = stays; tables = ap (λ (s : SeatData). s.tables) called.4; begins = λ books h. called_seat_back books at.service at.seat c given after.seat called h }
+    record { service = stays; tables = ap (λ (s : SeatData). s.tables) called.4; begins = λ courses h. called_seat_back courses at.service at.seat c given after.seat called h }
 
 -- ---- requests
 

@@ -18,8 +18,8 @@ dealt_of slot = slot.dealt
 abbrev pub back_of : SlotData → ℕ
 back_of slot = slot.back
 
--- what the places that came back had seen
-abbrev pub known_of : SlotData → List (Option History)
+-- all that each of the places that came back had seen
+abbrev pub known_of : SlotData → List (List History)
 known_of slot = slot.known
 
 abbrev pub table_at : PlaceData → TableId
@@ -31,8 +31,9 @@ number_at place = place.number
 abbrev pub view_at : PlaceData → View
 view_at place = place.view
 
-abbrev pub seen_at : PlaceData → Option History
-seen_at place = place.view.seen
+-- all that it has seen
+abbrev pub seen_at : PlaceData → List History
+seen_at place = place.view.all_seen
 
-abbrev pub seen_of : View → Option History
-seen_of view = view.seen
+abbrev pub seen_of : View → List History
+seen_of view = view.all_seen

@@ -1,8 +1,8 @@
 //! The end of a desk.
 ghost use Rattle.std.specs.Prelude.{◌≡◌, ◌<◌, ◌≤◌, ◌+◌, ◌++◌, List, suc, vec_len, vec_capacity, length, map, reverse, IfOk, IfErr};
 ghost use Rattle.std.specs.List.{AllByRecursion};
-ghost use Rattle.service_profile.specs.Events.{History};
-ghost use Rattle.slot_desk.specs.Closing.{SeatBegins, AreOf, IsUnclosed, added, SeatKnown, KeepsKnown, Finished};
+ghost use Rattle.slot_table.specs.Rules.{Course};
+ghost use Rattle.slot_desk.specs.Closing.{AreOf, HaveCourses, IsUnclosed, last_of, added, SeatKnown, KeepsKnown, Finished};
 ghost use Rattle.slot_desk.specs.Seats.{IsSeatOf};
 ghost use Rattle.slot_desk.specs.Slots.{table_of, origin_of, dealt_of, back_of, known_of, table_at, seen_at};
 
@@ -63,7 +63,7 @@ fn gather(slots: &mut [Slot], mut seats: Vec<Seat>)
 fn finish_all(mut slots: Vec<Slot>, books: &mut Vec<Book>)
     requires all { AllByRecursion (λ slot. slot.back ≡ slot.dealt) (reverse slots.items) }
     requires room { vec_len books.old + vec_len slots ≤ vec_capacity books.old }
-    ensures { (more : List History) × (books.new.items ≡ books.old.items ++ more) × Finished more (reverse slots.items) }
+    ensures { (more : List Course) × (books.new.items ≡ books.old.items ++ map last_of more) × Finished more (reverse slots.items) }
 {
     if let Some(slot) = slots.pop() {
         books.push_reserved(slot.finish());
@@ -80,8 +80,9 @@ impl Desk {
         ensures all_books { IfOk result (λ books. vec_len books ≡ length self.tables) }
         // Each is good, and of the book at its place that opened so.
         ensures good { IfOk result (λ books. AreOf self.origins books.items) }
-        // What each seat had seen of a service begins the history of its book, or is of an earlier opening.
-        ensures begun { IfOk result (λ books. AllByRecursion (SeatBegins books.items) seats.items) }
+        // Of each service there is one history of each opening, the last one that of its book, and all that any seat had seen of the
+        // service begins that of its opening.
+        ensures begun { IfOk result (λ books. HaveCourses self.origins books.items seats.items) }
         ensures unclosed { IfErr result (λ e. IsUnclosed (vec_len seats) self.seats e.number) }
         ensures unchanged { IfErr result (λ e. (e.desk ≡ self) × (e.seats ≡ seats)) }
     {

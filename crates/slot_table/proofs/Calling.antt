@@ -1,5 +1,5 @@
 -- A call between its take and its put.
-use Rattle.std.proofs.Common.{◌≡◌, ℕ, ◌+◌, ◌≤◌, ◌==◌, List, [], ◌∷◌, Bool, true, false, refl, sym, ap, ◌∙◌, subst, arith, Result, Ok, Err, Option, suc}
+use Rattle.std.proofs.Common.{◌≡◌, ℕ, ◌+◌, ◌≤◌, ◌==◌, List, [], ◌∷◌, append_assoc, Bool, true, false, refl, sym, ap, ◌∙◌, subst, arith, Result, Ok, Err, Option, suc}
 use Rattle.std.specs.Prelude.{if◌then◌else◌, MatchBool}
 use Rattle.std.specs.List.{fold}
 use Rattle.std.proofs.lemmas.Bool.{eqb-true, eqb-false}
@@ -150,6 +150,9 @@ module _ (Did : History → History → Type 0) where
       let view : m.0 ≡ taking v history = ap (λ (z : Me History View). z.0) is in
       (d.after, d.holds ∙ ap (λ (u : View). (u, (0, d.after) ∷ [])) view, subst (λ (h : History). Did h d.after) (sym e) d.did, d.good)
 
+abbrev with_seen : View → List History → View
+with_seen v seen = record v { all_seen = seen }
+
 module _ (call : CallData) (given : CallAnswer) (number : ℕ) where
   pub is_called : (v u : View) (held : List (ℕ × History)) (m' : Me History View) (w : View) → Holds (v, []) (u, held)
       → Does (λ before after. IsCalled number before call given after) (u, held) m' → HoldsOne m' (λ after. w ≡ putting m'.0 after) → Called (λ before after. IsCalled number before call given after) v w
@@ -163,7 +166,7 @@ module _ (call : CallData) (given : CallAnswer) (number : ℕ) where
         finds = h.2.1;
         did = from.2;
         of_after = called_of v.origin number h.0 call given from.0 from.2 from.3 h.2.0;
-        view = put.2 ∙ (ap (λ (y : History). putting m'.0 y) after ∙ ap (λ (z : Me History View). putting z.0 from.0) from.1);
+        view = put.2 ∙ (ap (λ (y : History). putting m'.0 y) after ∙ (ap (λ (z : Me History View). putting z.0 from.0) from.1 ∙ ap (with_seen (putting (taking v h.0) from.0)) (append_assoc v.all_seen (h.0 ∷ []) (from.0 ∷ []))));
       }
 
   -- what the book's call left may be put back

@@ -1,5 +1,5 @@
 -- What was seen, when the last history grows or a new opening begins.
-use Rattle.std.proofs.Common.{◌≡◌, ◌≢◌, ℕ, ◌<◌, ◌==◌, Bool, true, false, List, [], ◌∷◌, ◌++◌, refl, sym, ap, ◌∙◌, subst, inl, inr, arith, Option, Some, None}
+use Rattle.std.proofs.Common.{◌≡◌, ◌≢◌, ℕ, ◌<◌, ◌==◌, Bool, true, false, List, [], ◌∷◌, ◌++◌, refl, sym, ap, ◌∙◌, subst, arith, Option, Some, None}
 use Rattle.std.specs.Prelude.{if◌then◌else◌}
 use Rattle.std.proofs.lemmas.Bool.{eq-eqb, ne_eqb, eqb-true, eqb-false}
 use Rattle.service_profile.specs.Events.{EntryData, History}
@@ -7,7 +7,7 @@ use Rattle.service_profile.specs.Answers.{with_line}
 use Rattle.book.specs.Good.{IsGood}
 use Rattle.service_profile.specs.Seats.{lines_of}
 use Rattle.slot_table.proofs.Lines.{other_line, begins_with_itself, begins_with_more}
-use Rattle.slot_table.specs.Rules.{Begins, FoundAfter, at_first, goes_on, later, IsPast, ArePast, Grows, same, hands_out, entry, opens, AreOfOne, BeginsLast, AllBegin}
+use Rattle.slot_table.specs.Rules.{Begins, FoundAfter, at_first, goes_on, later, IsPast, AllPast, ArePast, Grows, same, hands_out, entry, opens, AreOfOne}
 
 abbrev pub period_of : History → ℕ
 period_of history = history.opening.period
@@ -93,16 +93,29 @@ past_grown past by now y current (hands_out o l) (Some x) is = past_on past now 
 past_grown past by now y current (entry l own e) (Some x) is = past_on past now y x current (ap period_of e, λ z b. subst (λ (h : History). Begins h z) (sym e) (begins_more now z l b)) is
 past_grown past by now y current (opens empty up) (Some x) is = past_opening past now y x up is
 
-pub all_grown : (past : ℕ → History) (by : ℕ) (now y : History) → past (period_of now) ≡ now → Grows by now y → (known : List (Option History)) → ArePast past now known → ArePast (renewed past y) y known
+pub seen_grown : (past : ℕ → History) (by : ℕ) (now y : History) → past (period_of now) ≡ now → Grows by now y → (seen : List History) → AllPast past now seen → AllPast (renewed past y) y seen
+seen_grown past by now y current grows [] is = tt
+seen_grown past by now y current grows (x ∷ xs) is = (past_grown past by now y current grows (Some x) is.0, seen_grown past by now y current grows xs is.1)
+
+pub all_grown : (past : ℕ → History) (by : ℕ) (now y : History) → past (period_of now) ≡ now → Grows by now y → (known : List (List History)) → ArePast past now known → ArePast (renewed past y) y known
 all_grown past by now y current grows [] is = tt
-all_grown past by now y current grows (x ∷ xs) is = (past_grown past by now y current grows x is.0, all_grown past by now y current grows xs is.1)
+all_grown past by now y current grows (xs ∷ others) is = (seen_grown past by now y current grows xs is.0, all_grown past by now y current grows others is.1)
 
 pub past_itself : (past : ℕ → History) (now : History) → past (period_of now) ≡ now → IsPast past now (Some now)
 past_itself past now current = (omega arith, subst (λ (h : History). Begins h now) (sym current) (begins_itself now))
 
-pub past_snoc : (past : ℕ → History) (now : History) (known : List (Option History)) (seen : Option History) → ArePast past now known → IsPast past now seen → ArePast past now (known ++ seen ∷ [])
+pub seen_snoc : (past : ℕ → History) (now : History) (seen : List History) (x : History) → AllPast past now seen → IsPast past now (Some x) → AllPast past now (seen ++ x ∷ [])
+seen_snoc past now [] x all is = (is, tt)
+seen_snoc past now (y ∷ ys) x all is = (all.0, seen_snoc past now ys x all.1 is)
+
+pub past_snoc : (past : ℕ → History) (now : History) (known : List (List History)) (seen : List History) → ArePast past now known → AllPast past now seen → ArePast past now (known ++ seen ∷ [])
 past_snoc past now [] seen all is = (is, tt)
-past_snoc past now (x ∷ xs) seen all is = (all.0, past_snoc past now xs seen all.1 is)
+past_snoc past now (xs ∷ others) seen all is = (all.0, past_snoc past now others seen all.1 is)
+
+-- what was seen first, of what was seen
+pub seen_before : (past : ℕ → History) (now : History) (first more : List History) → AllPast past now (first ++ more) → AllPast past now first
+seen_before past now [] more all = tt
+seen_before past now (x ∷ xs) more all = (all.0, seen_before past now xs more all.1)
 
 -- ---- what two have seen
 
@@ -110,21 +123,3 @@ pub begin_one : (past : ℕ → History) (now : History) (one other : Option His
 begin_one past now None other good a b = tt
 begin_one past now (Some x) None good a b = tt
 begin_one past now (Some x) (Some y) good a b = λ e. (past (period_of x), good (period_of x), a.1, subst (λ (n : ℕ). Begins (past n) y) (sym e) b.1)
-
--- ---- at the end
-
-last_or_earlier : (past : ℕ → History) (now : History) (seen : Option History) → past (period_of now) ≡ now → IsPast past now seen → BeginsLast now seen
-last_or_earlier past now None current is = tt
-last_or_earlier past now (Some x) current is = pick (period_of x == period_of now) refl
-  where
-    pick : (b : Bool) → (period_of x == period_of now) ≡ b → BeginsLast now (Some x)
-    pick true e = inl (subst (λ (h : History). Begins h x) (ap past (eqb-true (period_of x) (period_of now) e) ∙ current) is.1)
-    pick false e = let ne : period_of x ≢ period_of now = eqb-false (period_of x) (period_of now) e in inr (omega (arith, ne, is.0))
-
-pub all_begin : (past : ℕ → History) (now : History) (known : List (Option History)) → past (period_of now) ≡ now → ArePast past now known → AllBegin now known
-all_begin past now [] current all = tt
-all_begin past now (x ∷ xs) current all = (last_or_earlier past now x current all.0, all_begin past now xs current all.1)
-
-pub all_after : (last : History) (xs ys : List (Option History)) → AllBegin last (xs ++ ys) → AllBegin last ys
-all_after last [] ys h = h
-all_after last (x ∷ xs) ys h = all_after last xs ys h.1

@@ -12,8 +12,8 @@ use Rattle.slot_table.specs.Origins.{IsOf}
 use Rattle.service_profile.specs.Seats.{lines_of}
 use Rattle.std.specs.Prelude as prelude
 use Rattle.slot_table.specs.declared.view.View.{View}
-use Rattle.slot_table.specs.Rules.{dealer, spent, dealt, dealt_to, gathered, note, informed, taking, missing, putting, Each, OnlyHolder, AtHome, IsOut, AllBegin, Fits, at_first, goes_on, card, Agree, Pairs, Kept, Took, Grows, MayPut, Put, Met}
-use Rattle.slot_table.proofs.Histories.{period_of, begins_itself, found_grown, none_grown, renewed, renewed_last, renewed_good, past_grown, all_grown, past_itself, past_snoc, begin_one, all_begin}
+use Rattle.slot_table.specs.Rules.{dealer, spent, dealt, dealt_to, gathered, note, informed, taking, missing, putting, Each, OnlyHolder, AtHome, IsOut, Course, IsCourseOf, EachBegins, Fits, at_first, goes_on, card, Agree, Pairs, Kept, Took, Grows, MayPut, Put, Met}
+use Rattle.slot_table.proofs.Histories.{period_of, begins_itself, found_grown, none_grown, renewed, renewed_last, renewed_good, past_grown, seen_grown, all_grown, past_itself, seen_snoc, past_snoc, begin_one}
 use Rattle.slot_table.proofs.Views.{off, never, is_false, set_same, same_at, at_end, places_set, each_set, each_more, pairs_set, pairs_more, parts_set, parts_more, parts_both}
 
 abbrev pub held_of : History → List (ℕ × History) → History
@@ -76,7 +76,7 @@ takes_step {origin = origin} st id v sits idle backed s kept one here small = �
                 ((w, set_same s.views id v w here, refl, sits, refl), places_set (λ j u. u.holds ≡ true → j ≡ id) s.views id w (λ j u ne e t. absurd (off u.holds t (h.2 j u e))) (λ _. refl)),
               ),
             );
-            fits = each_set (Fits origin kept.past now) s.views id w kept.fits record { seat = λ _. (goes_on now refl (begins_itself now) refl, past_itself kept.past now kept.current, f.2); told = all.told; known = all.known; source = all.source; fresh = all.fresh; backed = λ _. backed };
+            fits = each_set (Fits origin kept.past now) s.views id w kept.fits record { seat = λ _. (goes_on now refl (begins_itself now) refl, past_itself kept.past now kept.current, f.2, seen_snoc kept.past now v.all_seen now f.3 (past_itself kept.past now kept.current)); told = all.told; known = all.known; source = all.source; fresh = all.fresh; backed = λ _. backed };
             pairs = pairs_set s.views id v w here (inl refl) kept.pairs;
             parts = omega (arith, sum, kept.parts);
           },
@@ -112,7 +112,7 @@ takes_step {origin = origin} st id v sits idle backed s kept one here small = �
 -- what another seat knows stays true of what the holder puts
 fits_grown : {origin : prelude.Option History} (past : ℕ → History) (now y : History) (by : ℕ) (u : View) → past (period_of now) ≡ now → Grows by now y → (u.sits ≡ true → by ≢ u.number) → (u.deals ≡ true → by < u.next) → Fits origin past now u → Fits origin (renewed past y) y u
 fits_grown {origin = origin} past now y by u current grows ne low f = record {
-  seat = λ sits. (found_grown u.seen u.number u.mine by now y (ne sits) grows (f.seat sits).0, past_grown past by now y current grows u.seen (f.seat sits).1, (f.seat sits).2);
+  seat = λ sits. (found_grown u.seen u.number u.mine by now y (ne sits) grows (f.seat sits).0, past_grown past by now y current grows u.seen (f.seat sits).1, (f.seat sits).2, seen_grown past by now y current grows u.all_seen (f.seat sits).3);
   told = past_grown past by now y current grows u.told f.told;
   known = all_grown past by now y current grows u.known f.known;
   source = f.source;
@@ -153,7 +153,7 @@ puts_step {origin = origin} st id v y sits holds may s kept one here small = ⊎
               ap (λ hs. slice_set hs 0 (some y)) h.1,
               places_set (λ j x. x.holds ≡ false) s.views id w (λ j x ne e. is_false x.holds (λ t. ne (only.1 j x e t ∙ sym me))) refl,
             );
-            fits = places_set (λ j x. Fits origin (renewed past y) y x) s.views id w others record { seat = λ _. (goes_on y refl (begins_itself y) refl, past_itself (renewed past y) y last, (all.seat sits).2); told = mine.told; known = mine.known; source = mine.source; fresh = mine.fresh; backed = λ t. absurd (never t) };
+            fits = places_set (λ j x. Fits origin (renewed past y) y x) s.views id w others record { seat = λ _. (goes_on y refl (begins_itself y) refl, past_itself (renewed past y) y last, (all.seat sits).2, seen_snoc (renewed past y) y v.all_seen y (seen_grown past v.number now y kept.current grows v.all_seen (all.seat sits).3) (past_itself (renewed past y) y last)); told = mine.told; known = mine.known; source = mine.source; fresh = mine.fresh; backed = λ t. absurd (never t) };
             pairs = pairs_set s.views id v w here (inl refl) kept.pairs;
             parts = omega (arith, sum, kept.parts);
           },
@@ -211,7 +211,7 @@ deals_step {origin = origin} id v stands idle deals some_left s kept here =
       place = place_more s.words s.homes views now (dealt_to v) refl (place_set s.words s.homes s.views now id v (dealt v) here idle idle kept.place);
       fits = each_more (Fits origin kept.past now) views (dealt_to v)
           (each_set (Fits origin kept.past now) s.views id (dealt v) kept.fits record { seat = all.seat; told = all.told; known = all.known; source = all.source; fresh = λ d n le. all.fresh d n (omega (arith, le)); backed = λ t. absurd (off v.holds t idle) })
-          record { seat = λ _. (at_first refl (all.fresh deals v.next (omega arith)), tt, all.source deals); told = tt; known = tt; source = λ d. absurd (never d); fresh = λ d. absurd (never d); backed = λ t. absurd (never t) };
+          record { seat = λ _. (at_first refl (all.fresh deals v.next (omega arith)), tt, all.source deals, tt); told = tt; known = tt; source = λ d. absurd (never d); fresh = λ d. absurd (never d); backed = λ t. absurd (never t) };
       pairs = λ j k x y ej ek. deal_pick s.views id v (length views) kept.pairs here stands deals j k x y (deal_which s.views id v j x ej) (deal_which s.views id v k y ek);
       parts = omega (arith, sum, more, kept.parts);
     }
@@ -241,7 +241,7 @@ joins_step {origin = origin} id v other w both idle still after same parts fits 
 pub gathers_step : {origin : prelude.Option History} (id : ℕ) (v : View) (other : ℕ) (w : View) → v.holds ≡ false → v.sits ≡ false → w.holds ≡ false → w.sits ≡ true → Joins (Kept origin) id v other w (gathered v w) spent
 gathers_step {origin = origin} id v other w idle stands still sits =
     joins_step id v other w (gathered v w) idle still idle refl refl
-    (λ past now f g. record { seat = λ t. absurd (off v.sits t stands); told = f.told; known = past_snoc past now v.known w.seen f.known (g.seat sits).1; source = f.source; fresh = f.fresh; backed = λ t. absurd (off v.holds t idle) })
+    (λ past now f g. record { seat = λ t. absurd (off v.sits t stands); told = f.told; known = past_snoc past now v.known w.all_seen f.known (g.seat sits).3; source = f.source; fresh = f.fresh; backed = λ t. absurd (off v.holds t idle) })
 
 -- a note of what a seat has seen
 pub notes_step : {origin : prelude.Option History} (id : ℕ) (v : View) → v.sits ≡ true → Splits (Kept origin) id v v (note v)
@@ -294,11 +294,21 @@ meets_step {origin = origin} st id v sits idle s kept one here small =
       (refl, refl, begin_one kept.past now v.seen v.told (λ period. (kept.good period).good) (all.seat sits).1 all.told),
     )
 
+-- the last history is good, as all are
+pub last_good : (origin : prelude.Option History) (course : Course) → IsCourseOf origin course → IsOf origin course.last
+last_good origin course is = subst (IsOf origin) is.current (is.good (period_of course.last))
+
 -- who has all parts knows that the book is at home, where it does not hold it
-pub closes : {origin : prelude.Option History} (s : State History View) (id : ℕ) (v : View) → Kept origin s → get_elem? s.views id ≡ some v → v.holds ≡ false → v.deals ≡ true → v.parts ≡ 129 → (last : History) × IsOf v.origin last × (s.homes ≡ some last ∷ []) × AllBegin last v.known
-closes {origin = origin} s id v kept here idle deals full = ⊎_elim (λ (h : AtHome s kept.now). (kept.now, subst (λ (o : prelude.Option History). IsOf o kept.now) (sym ((kept.fits id v here).source deals)) (good_now s kept), h.1, all_begin kept.past kept.now v.known kept.current (kept.fits id v here).known)) out kept.place
+pub closes : {origin : prelude.Option History} (s : State History View) (id : ℕ) (v : View) → Kept origin s → get_elem? s.views id ≡ some v → v.holds ≡ false → v.deals ≡ true → v.parts ≡ 129 → (course : Course) × IsCourseOf v.origin course × (s.homes ≡ some course.last ∷ []) × EachBegins course v.known
+closes {origin = origin} s id v kept here idle deals full = ⊎_elim home out kept.place
   where
-    out : IsOut s kept.now → (last : History) × IsOf v.origin last × (s.homes ≡ some last ∷ []) × AllBegin last v.known
+    home : AtHome s kept.now → (course : Course) × IsCourseOf v.origin course × (s.homes ≡ some course.last ∷ []) × EachBegins course v.known
+    home h =
+        let course : Course = record { past = kept.past; last = kept.now } in
+        let is : IsCourseOf origin course = record { current = kept.current; good = kept.good } in
+        (course, subst (λ (o : prelude.Option History). IsCourseOf o course) (sym ((kept.fits id v here).source deals)) is, h.1, (kept.fits id v here).known)
+
+    out : IsOut s kept.now → (course : Course) × IsCourseOf v.origin course × (s.homes ≡ some course.last ∷ []) × EachBegins course v.known
     out h =
         let only = h.2.1 in
         let u = only.0.0 in

@@ -1,6 +1,5 @@
 -- One line more, for seats that did not make it, and what a list of lines begins with.
 use Rattle.std.proofs.Common.{◌≡◌, ℕ, ◌==◌, false, List, [], ◌∷◌, ◌++◌, ap, sym, ◌∙◌, append-nil, append_assoc, refl}
-use Rattle.std.specs.List.{filter}
 use Rattle.std.proofs.lemmas.List.Elements.{filter-append}
 use Rattle.service_profile.specs.Events.{EntryData}
 use Rattle.service_profile.specs.Seats.{lines_of, BeginsWith}

@@ -1,5 +1,5 @@
 -- What a seat of the table is between two calls and within one, and what a call does.
-use Rattle.std.specs.Prelude.{◌≡◌, ℕ, ◌+◌, [], ◌∷◌, true, false, Some, None}
+use Rattle.std.specs.Prelude.{◌≡◌, ℕ, ◌+◌, [], ◌∷◌, ◌++◌, true, false, Some, None}
 use Rattle.atomic_table.specs.Table.{Me}
 use Rattle.book.specs.Good.{IsGood}
 use Rattle.slot_table.specs.Origins.{IsOf}
@@ -37,9 +37,9 @@ pub record Does (Did : History → History → Type 0) (m m' : Me History View) 
   pub did : Did before after
   pub good : IsGood after
 
--- the view after a call that left this history: it is what the seat has seen, with its own entries in it, and there is one take more
-abbrev pub called : View → History → View
-called v after = record v { holds = false; seen = Some after; mine = lines_of v.number after.lines; takes = v.takes + 1 }
+-- the view after a call that found and left these histories: it has seen both, last what was left, with its own entries in it, and there is one take more
+abbrev pub called : View → History → History → View
+called v before after = record v { holds = false; seen = Some after; all_seen = v.all_seen ++ before ∷ after ∷ []; mine = lines_of v.number after.lines; takes = v.takes + 1 }
 
 -- a call: the history that its last take found, what the call did to it, and the view after it. Both histories are good, and of the book that opened first in the slot, since its opening or since a cut
 pub record Called (Did : History → History → Type 0) (v w : View) : Type 0 where
@@ -49,7 +49,7 @@ pub record Called (Did : History → History → Type 0) (v w : View) : Type 0 w
   pub finds : Finds v before
   pub did : Did before after
   pub of_after : IsOf v.origin after
-  pub view : w ≡ called v after
+  pub view : w ≡ called v before after
 
 -- the same after some failed tries
 abbrev pub CalledAfterTries : (History → History → Type 0) → View → View → Type 0

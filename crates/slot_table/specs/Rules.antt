@@ -33,9 +33,14 @@ abbrev pub IsPast : (ℕ → History) → History → Option History → Type 0
 IsPast past now None = Unit {0}
 IsPast past now (Some x) = (x.opening.period ≤ now.opening.period) × Begins (past x.opening.period) x
 
-abbrev pub ArePast : (ℕ → History) → History → List (Option History) → Type 0
+-- the same of all that one seat has seen, and of all that several have
+abbrev pub AllPast : (ℕ → History) → History → List History → Type 0
+AllPast past now [] = Unit {0}
+AllPast past now (x ∷ xs) = IsPast past now (Some x) × AllPast past now xs
+
+abbrev pub ArePast : (ℕ → History) → History → List (List History) → Type 0
 ArePast past now [] = Unit {0}
-ArePast past now (x ∷ xs) = IsPast past now x × ArePast past now xs
+ArePast past now (xs ∷ others) = AllPast past now xs × ArePast past now others
 
 -- ---- views
 
@@ -45,13 +50,13 @@ origin_of [] = None
 origin_of (first ∷ others) = Some first
 
 abbrev pub newcomer : Option History → ℕ → View
-newcomer origin n = record { origin = origin; sits = true; number = n; holds = false; seen = None; mine = []; takes = 0; misses = 0; deals = false; next = 0; parts = 1; told = None; known = [] }
+newcomer origin n = record { origin = origin; sits = true; number = n; holds = false; seen = None; all_seen = []; mine = []; takes = 0; misses = 0; deals = false; next = 0; parts = 1; told = None; known = [] }
 
-abbrev pub dealer : Option History → ℕ → ℕ → List (Option History) → View
-dealer origin next parts known = record { origin = origin; sits = false; number = 0; holds = false; seen = None; mine = []; takes = 0; misses = 0; deals = true; next = next; parts = parts; told = None; known = known }
+abbrev pub dealer : Option History → ℕ → ℕ → List (List History) → View
+dealer origin next parts known = record { origin = origin; sits = false; number = 0; holds = false; seen = None; all_seen = []; mine = []; takes = 0; misses = 0; deals = true; next = next; parts = parts; told = None; known = known }
 
 abbrev pub spent : View
-spent = record { origin = None; sits = false; number = 0; holds = false; seen = None; mine = []; takes = 0; misses = 0; deals = false; next = 0; parts = 0; told = None; known = [] }
+spent = record { origin = None; sits = false; number = 0; holds = false; seen = None; all_seen = []; mine = []; takes = 0; misses = 0; deals = false; next = 0; parts = 0; told = None; known = [] }
 
 abbrev pub dealt : View → View
 dealt v = record v { next = v.next + 1; parts = v.parts - 1 }
@@ -60,7 +65,7 @@ abbrev pub dealt_to : View → View
 dealt_to v = newcomer v.origin v.next
 
 abbrev pub gathered : View → View → View
-gathered v w = record v { parts = v.parts + w.parts; known = v.known ++ w.seen ∷ [] }
+gathered v w = record v { parts = v.parts + w.parts; known = v.known ++ w.all_seen ∷ [] }
 
 abbrev pub note : View → View
 note v = record spent { told = v.seen }
@@ -70,7 +75,7 @@ informed v w = record v { told = w.told }
 
 -- it holds the history taken, which is now seen, with its own entries in it
 abbrev pub taking : View → History → View
-taking v history = record v { holds = true; seen = Some history; mine = lines_of v.number history.lines; takes = v.takes + 1 }
+taking v history = record v { holds = true; seen = Some history; all_seen = v.all_seen ++ history ∷ []; mine = lines_of v.number history.lines; takes = v.takes + 1 }
 
 abbrev pub missing : View → View
 missing v = record v { misses = v.misses + 1 }
@@ -80,7 +85,7 @@ missed n v = record v { misses = v.misses + n }
 
 -- seen and own entries are those of the history put
 abbrev pub putting : View → History → View
-putting v history = record v { holds = false; seen = Some history; mine = lines_of v.number history.lines }
+putting v history = record v { holds = false; seen = Some history; all_seen = v.all_seen ++ history ∷ []; mine = lines_of v.number history.lines }
 
 -- ---- the rule
 
@@ -103,7 +108,7 @@ IsOut s history = (s.words ≡ 0 ∷ []) × (s.homes ≡ none ∷ []) × ((who :
 
 -- what a view says is true of the last history and of those of the earlier openings
 pub record Fits (origin : Option History) (past : ℕ → History) (now : History) (v : View) : Type 0 where
-  pub seat : v.sits ≡ true → Finds v now × IsPast past now v.seen × (v.origin ≡ origin)
+  pub seat : v.sits ≡ true → Finds v now × IsPast past now v.seen × (v.origin ≡ origin) × AllPast past now v.all_seen
   pub told : IsPast past now v.told
   pub known : ArePast past now v.known
   pub source : v.deals ≡ true → v.origin ≡ origin
@@ -174,11 +179,20 @@ Met st m found m' = (m'.0 ≡ record m.0 { told = None }) × (m'.1 ≡ m.1) × A
 
 -- ---- the end
 
--- what was seen, if anything, begins the last history, or is of an earlier opening
-abbrev pub BeginsLast : History → Option History → Type 0
-BeginsLast last None = Unit {0}
-BeginsLast last (Some x) = Begins last x ⊎ (x.opening.period < last.opening.period)
+-- what becomes of a book: of each opening the history as far as it went, by its first period, and the last history
+pub record Course : Type 0 where
+  pub past : ℕ → History
+  pub last : History
 
-abbrev pub AllBegin : History → List (Option History) → Type 0
-AllBegin last [] = Unit {0}
-AllBegin last (x ∷ xs) = BeginsLast last x × AllBegin last xs
+-- each of them is good, and of the book that opened first so; and the last history is that of its opening
+pub record IsCourseOf (origin : Option History) (course : Course) : Type 0 where
+  pub current : course.past course.last.opening.period ≡ course.last
+  pub good : (period : ℕ) → IsOf origin (course.past period)
+
+-- each history that was seen begins that of its opening, which is the last one or an earlier one
+abbrev pub AllBegin : Course → List History → Type 0
+AllBegin course xs = AllPast course.past course.last xs
+
+-- the same of all that several seats have seen
+abbrev pub EachBegins : Course → List (List History) → Type 0
+EachBegins course known = ArePast course.past course.last known

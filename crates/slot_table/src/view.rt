@@ -16,6 +16,8 @@ pub struct View {
     pub holds: bool,
     /// The history that it saw last, if it saw one.
     pub seen: Option<Book>,
+    /// All histories that it saw, in their order: those that it took, and those that it put back.
+    pub all_seen: LinkedList<Book>,
     /// Its own entries in that history.
     pub mine: LinkedList<Entry>,
     /// How often it took the book.
@@ -30,11 +32,11 @@ pub struct View {
     pub parts: u64,
     /// What a note says that another seat had seen.
     pub told: Option<Book>,
-    /// What those had seen that were given back.
-    pub known: LinkedList<Option<Book>>,
+    /// All that those had seen that were given back.
+    pub known: LinkedList<LinkedList<Book>>,
 }
 
-/// There is one good history of each opening, the last one in the slot or with one seat. What a seat has seen
+/// There is one good history of each opening, the last one in the slot or with one seat. All that a seat has seen
 /// begins the history of its opening, and each seat knows its own entries in the last one.
 pub struct OneHistory;
 

@@ -15,7 +15,7 @@ use verifier::{Refusal, Verified, default_classifier};
 /// Checks the status and the body of a response.
 fn is_written(rt: &impl Abort, alloc: Global, response: Response, code: u16, text: &str) {
     let found = body(alloc, &response).expect(rt, "ample memory");
-    same(rt, found.as_str(), text);
+    same_at(rt, found.as_slice(), text.as_bytes(), text);
     same_at(rt, status(&response), code, text);
 }
 

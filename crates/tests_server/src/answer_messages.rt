@@ -8,7 +8,7 @@ use std::process::Abort;
 /// The answer to a call that is permitted.
 const PERMITTED: AnswerMessage<'static> = AnswerMessage {
     status: 200,
-    body: "{\"state\":\"CLOSED\",\"ticket\":1,\"version\":1}",
+    body: b"{\"state\":\"CLOSED\",\"ticket\":1,\"version\":1}",
     allow: None,
     closes: false,
     head_only: false,
@@ -17,7 +17,7 @@ const PERMITTED: AnswerMessage<'static> = AnswerMessage {
 /// The answer to a route with another method.
 const WRONG_METHOD: AnswerMessage<'static> = AnswerMessage {
     status: 405,
-    body: "{\"error\":57,\"name\":\"WrongMethod\"}",
+    body: b"{\"error\":57,\"name\":\"WrongMethod\"}",
     allow: Some(Route::Acquire),
     closes: false,
     head_only: false,
@@ -54,14 +54,14 @@ fn answers_are_written(rt: HostRuntime) {
             (
                 AnswerMessage {
                     status: 503,
-                    body: "{\"error\":31,\"name\":\"CallNotPermitted\"}",
+                    body: b"{\"error\":31,\"name\":\"CallNotPermitted\"}",
                     ..PERMITTED
                 },
                 "HTTP/1.1 503 Service Unavailable\r\nContent-Type: application/json\r\nContent-Length: 38\r\n\r\n{\"error\":31,\"name\":\"CallNotPermitted\"}",
             ),
             (
                 AnswerMessage {
-                    body: "{\"budget\":2,\"version\":2}",
+                    body: b"{\"budget\":2,\"version\":2}",
                     ..PERMITTED
                 },
                 "HTTP/1.1 200 OK\r\nContent-Type: application/json\r\nContent-Length: 24\r\n\r\n{\"budget\":2,\"version\":2}",
@@ -69,7 +69,7 @@ fn answers_are_written(rt: HostRuntime) {
             (
                 AnswerMessage {
                     status: 501,
-                    body: "{\"error\":55,\"name\":\"TransferCoding\"}",
+                    body: b"{\"error\":55,\"name\":\"TransferCoding\"}",
                     closes: true,
                     ..PERMITTED
                 },
@@ -77,7 +77,7 @@ fn answers_are_written(rt: HostRuntime) {
             ),
             (
                 AnswerMessage {
-                    body: "",
+                    body: b"",
                     ..PERMITTED
                 },
                 "HTTP/1.1 200 OK\r\nContent-Type: application/json\r\nContent-Length: 0\r\n\r\n",
@@ -115,7 +115,7 @@ fn another_method_is_told(rt: HostRuntime) {
             (
                 AnswerMessage {
                     status: 404,
-                    body: "{\"error\":56,\"name\":\"NoRoute\"}",
+                    body: b"{\"error\":56,\"name\":\"NoRoute\"}",
                     allow: None,
                     closes: true,
                     head_only: true,
@@ -131,7 +131,7 @@ fn answers_follow_one_another(rt: HostRuntime) {
     let alloc = rt.alloc();
     let mut written = Vec::from_slice(alloc, b"before ").expect(&rt, "ample memory");
     let short = AnswerMessage {
-        body: "1",
+        body: b"1",
         ..PERMITTED
     };
     write(&rt, alloc, &mut written, &short);

@@ -1,7 +1,7 @@
 //! That the functions of an answerer for single routes ask what they say.
 ghost use Rattle.std.specs.Prelude.{◌<◌, length};
 
-use crate::checks::{is_true, same};
+use crate::checks::{is_true, same_at};
 use crate::fixtures::pay;
 use answers::body;
 use book::State;
@@ -18,7 +18,7 @@ const IGNORING: [u8; 16] = [0xb7, 0, 0, 0, 2, 0, 0, 0, 0x95, 0, 0, 0, 0, 0, 0, 0
 /// Checks the body of a response.
 fn is_body(rt: &impl Abort, alloc: Global, response: Response, text: &str) {
     let found = body(alloc, &response).expect(rt, "ample memory");
-    same(rt, found.as_str(), text);
+    same_at(rt, found.as_slice(), text.as_bytes(), text);
 }
 
 /// Where the service `pay` stands.

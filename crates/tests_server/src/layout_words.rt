@@ -1,5 +1,5 @@
 //! Commands whose words name a layout of the record.
-use crate::commands::{are_wrong, ends};
+use crate::commands::{are_wrong, ends, ends_telling};
 use std::alloc::Global;
 use std::process::Abort;
 
@@ -35,7 +35,42 @@ fn are_answered(rt: &impl Abort, alloc: Global, rows: &[Answered<'_>]) {
     }
 }
 
+/// Words with a program that is refused, what is printed, and what is said on standard error.
+type Refused<'a> = (&'a [&'a str], &'a str, &'a str);
+
+/// Commands are refused so.
+fn are_refused(rt: &impl Abort, alloc: Global, rows: &[Refused<'_>]) {
+    for row in rows {
+        let (words, printed, told) = *row;
+        ends_telling(rt, alloc, words, b"{}", (1, printed, told));
+    }
+}
+
 const NO_BYTE_64: &str = "refused 21 HelperArgument slot 1\n";
+
+const WHY_NO_BYTE_64: &str =
+    "slot 1: call 2\nr1 is the number 64\nrule: for call 2, r1 is a number of at most 63\n";
+
+#[test]
+fn programs_are_refused_for_a_layout(rt: HostRuntime) {
+    are_refused(
+        &rt,
+        rt.alloc(),
+        &[
+            (&["verify", BY_BYTE_64], NO_BYTE_64, WHY_NO_BYTE_64),
+            (&["verify", BY_BYTE_64, "1"], NO_BYTE_64, WHY_NO_BYTE_64),
+            (&["judge", BY_BYTE_64], NO_BYTE_64, WHY_NO_BYTE_64),
+            (&["judge", BY_BYTE_64, "1"], NO_BYTE_64, WHY_NO_BYTE_64),
+            (
+                &["verify", BY_PLACE],
+                "refused 16 OutOfBounds slot 3\n",
+                "slot 3: ldxdw r0, [r1+64]\n\
+r1 points to the context, at 0 to 120, a multiple of 8\n\
+rule: the context has the bytes 0 to 127, the stack -512 to -1\n",
+            ),
+        ],
+    );
+}
 
 #[test]
 fn programs_are_verified_for_a_layout(rt: HostRuntime) {
@@ -43,19 +78,11 @@ fn programs_are_verified_for_a_layout(rt: HostRuntime) {
         &rt,
         rt.alloc(),
         &[
-            (&["verify", BY_BYTE_64], "", 1, NO_BYTE_64),
-            (&["verify", BY_BYTE_64, "1"], "", 1, NO_BYTE_64),
             (
                 &["verify", BY_BYTE_64, "2"],
                 "",
                 0,
                 "accepted budget=4 slots=4\n",
-            ),
-            (
-                &["verify", BY_PLACE],
-                "",
-                1,
-                "refused 16 OutOfBounds slot 3\n",
             ),
             (
                 &["verify", BY_PLACE, "2"],
@@ -86,8 +113,6 @@ fn outcomes_are_judged_for_a_layout(rt: HostRuntime) {
         &rt,
         rt.alloc(),
         &[
-            (&["judge", BY_BYTE_64], BYTE_64_IS_FF, 1, NO_BYTE_64),
-            (&["judge", BY_BYTE_64, "1"], BYTE_64_IS_FF, 1, NO_BYTE_64),
             (
                 &["judge", BY_BYTE_64, "2"],
                 BYTE_64_IS_FF,

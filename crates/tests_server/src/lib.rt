@@ -13,6 +13,8 @@ mod checks;
 #[cfg(test)]
 mod commands;
 #[cfg(test)]
+mod explained_refusals;
+#[cfg(test)]
 mod failing_connections;
 #[cfg(test)]
 mod file_layouts;
@@ -32,6 +34,8 @@ mod many_workers;
 mod pools;
 #[cfg(test)]
 mod query_layouts;
+#[cfg(test)]
+mod racing_slots;
 #[cfg(test)]
 mod racing_workers;
 #[cfg(test)]

@@ -5,10 +5,13 @@ ghost use Rattle.std.specs.Prelude.{◌≡◌};
 use crate::checks::{is_true_at, same};
 use crate::fixtures::{ACQUIRE, entries, pay};
 use http_front::{Books, Clock};
-use http_pool::{ListenerFailed, Worker, pool, serve_connections, threads_at_once};
+use http_pool::{
+    DEFAULT_OPEN, Limits, ListenerFailed, Worker, pool, serve_connections, threads_at_once,
+};
 use std::alloc::{AllocError, Global};
 use std::io::{Read, Write};
 use std::net::{Net, Shutdown, SocketAddr, TcpListener, TcpStream};
+use std::os::fd::OwnedFd;
 use std::process::Abort;
 use std::sync::Wait;
 use std::test::Fail;
@@ -101,13 +104,24 @@ where
     Ok(streams)
 }
 
-/// How many workers met the failure of a listener that would not wait (EAGAIN).
+/// How many workers met the failure of a listener that doesn't listen (EINVAL).
 fn failures(workers: &[Worker<Books, Readings>]) -> usize {
-    let would_wait = Some(ListenerFailed { code: 11 });
+    let is_deaf = Some(ListenerFailed { code: 22 });
     workers
         .iter()
-        .filter(|worker| worker.failure == would_wait)
+        .filter(|worker| worker.failure == is_deaf)
         .count()
+}
+
+/// A socket that doesn't listen, since it is an end of a connection, and its other end.
+fn deaf_listener<R>(rt: &R) -> io::Result<(TcpListener, TcpStream)>
+where
+    R: Net<Listener = TcpListener, Stream = TcpStream>,
+{
+    let listener = TcpListener::bind(rt, "127.0.0.1:0")?;
+    let one = TcpStream::connect(rt, listener.local_addr()?)?;
+    let (other, _) = listener.accept()?;
+    Ok((TcpListener::from(OwnedFd::from(one)), other))
 }
 
 /// One connection is left to the listener, with all that its client sent, and no other.
@@ -142,8 +156,8 @@ fn workers_share_the_connections(rt: HostRuntime) -> Result<(), Fail> {
     Ok(())
 }
 
-/// A pool of two workers, which is to serve so many connections, of which one is there. Each worker brings back the
-/// failure of the listener, which would not wait for another one.
+/// A pool of two workers, which is to serve so many connections. Each worker brings back the failure of the listener,
+/// and nothing was answered.
 fn a_pool_fails<R>(rt: &R, alloc: Global, connections: u64) -> Result<(), Fail>
 where
     R: Threads
@@ -153,55 +167,51 @@ where
         + time::Clock
         + Net<Listener = TcpListener, Stream = TcpStream>,
 {
-    let listener = TcpListener::bind(rt, "127.0.0.1:0")?;
-    let stream = ask(rt, listener.local_addr()?, ACQUIRE)?;
-    // Where no connection waits, accepting fails.
-    listener.set_nonblocking(true)?;
+    let (listener, _other) = deaf_listener(rt)?;
     let workers = workers(rt, alloc, 2)?;
     assert_eq!(rt; workers.len(), 2);
     let workers = pool(rt, alloc, &listener, connections, workers)?;
     same(rt, workers.len(), 2);
     same(rt, failures(&workers), 2);
-    have_answered(rt, &workers, 1);
-    is_answered(rt, alloc, &stream, "\"version\":1}")?;
+    have_answered(rt, &workers, 0);
     Ok(())
 }
 
 #[test]
-fn a_pool_ends_where_the_listener_would_not_wait(rt: HostRuntime) -> Result<(), Fail> {
+fn a_pool_ends_where_the_listener_fails(rt: HostRuntime) -> Result<(), Fail> {
     a_pool_fails(&rt, rt.alloc(), 0)?;
     // Fewer connections were served than it was to serve.
     a_pool_fails(&rt, rt.alloc(), 5)?;
     Ok(())
 }
 
-/// Serves so many connections, of which one is there. It ends with the failure of the listener, which would not wait
-/// for another one.
+/// Serves so many connections. It ends with the failure of the listener.
 fn serving_fails<R>(rt: &R, alloc: Global, connections: u64) -> Result<(), Fail>
 where
     R: Wait + Abort + time::Clock + Net<Listener = TcpListener, Stream = TcpStream>,
 {
-    let listener = TcpListener::bind(rt, "127.0.0.1:0")?;
-    let stream = ask(rt, listener.local_addr()?, ACQUIRE)?;
-    listener.set_nonblocking(true)?;
+    let (listener, _other) = deaf_listener(rt)?;
     let mut books = pay(rt, alloc);
     let mut clock = Readings { times: 0 };
-    let ended = serve_connections(rt, alloc, &listener, connections, &mut books, &mut clock);
-    same(rt, ended, Err(ListenerFailed { code: 11 }));
-    same(rt, (entries(&books), clock.times), (1, 1));
-    is_answered(rt, alloc, &stream, "\"version\":1}")?;
+    let limits = Limits {
+        connections,
+        most_open: DEFAULT_OPEN,
+    };
+    let ended = serve_connections(rt, alloc, &listener, limits, &mut books, &mut clock);
+    same(rt, ended, Err(ListenerFailed { code: 22 }));
+    same(rt, (entries(&books), clock.times), (0, 0));
     Ok(())
 }
 
 #[test]
-fn serving_ends_where_the_listener_would_not_wait(rt: HostRuntime) -> Result<(), Fail> {
+fn serving_ends_where_the_listener_fails(rt: HostRuntime) -> Result<(), Fail> {
     serving_fails(&rt, rt.alloc(), 0)?;
     serving_fails(&rt, rt.alloc(), 5)?;
     Ok(())
 }
 
 #[test]
-fn connections_are_served_one_after_another(rt: HostRuntime) -> Result<(), Fail> {
+fn connections_are_served_by_one_worker(rt: HostRuntime) -> Result<(), Fail> {
     let alloc = rt.alloc();
     let listener = TcpListener::bind(&rt, "127.0.0.1:0")?;
     let address = listener.local_addr()?;
@@ -211,7 +221,11 @@ fn connections_are_served_one_after_another(rt: HostRuntime) -> Result<(), Fail>
     let last = ask(&rt, address, ACQUIRE)?;
     let mut books = pay(&rt, alloc);
     let mut clock = Readings { times: 0 };
-    let ended = serve_connections(&rt, alloc, &listener, 3, &mut books, &mut clock);
+    let limits = Limits {
+        connections: 3,
+        most_open: DEFAULT_OPEN,
+    };
+    let ended = serve_connections(&rt, alloc, &listener, limits, &mut books, &mut clock);
     same(&rt, ended, Ok(()));
     same(&rt, (entries(&books), clock.times), (2, 2));
     same(&rt, answer(alloc, &cut)?.len(), 0);

@@ -26,16 +26,16 @@ use verifier::Verified;
 /// How often a thread looks whether another one is there yet.
 const MOST_TURNS: u32 = 1_000_000;
 
-const FIRST_REPORT: &str =
+pub(crate) const FIRST_REPORT: &str =
     "POST /v1/services/pay/report HTTP/1.1\r\nContent-Length: 37\r\n\r\n{\"ticket\":1,\"outcome\":{\"status\":500}}";
 
 /// A report, and behind it a message at which the clock is read once more.
-const SECOND_REPORT: &str =
+pub(crate) const SECOND_REPORT: &str =
     "POST /v1/services/pay/report HTTP/1.1\r\nContent-Length: 37\r\n\r\n{\"ticket\":2,\"outcome\":{\"status\":200}}GET /v1/services/pay/state HTTP/1.1\r\n\r\n";
 
 /// Something that one thread says and another waits for.
 #[derive(Drop)]
-struct Flag(AtomicU64);
+pub(crate) struct Flag(AtomicU64);
 
 impl Flag {
     fn new() -> Flag {
@@ -46,7 +46,7 @@ impl Flag {
         self.0.store(1, Ordering::SeqCst);
     }
 
-    fn is_raised(&self) -> bool {
+    pub(crate) fn is_raised(&self) -> bool {
         self.0.load(Ordering::SeqCst) != 0
     }
 
@@ -63,14 +63,14 @@ impl Flag {
 
 /// Holds the report of ticket 1 until that of ticket 2 was answered, and the latter until the former looked.
 #[derive(Drop)]
-struct OvertakingGate {
+pub(crate) struct OvertakingGate {
     first_looked: Flag,
     second_answered: Flag,
-    overtaken: Flag,
+    pub(crate) overtaken: Flag,
 }
 
 impl OvertakingGate {
-    fn new() -> OvertakingGate {
+    pub(crate) fn new() -> OvertakingGate {
         OvertakingGate {
             first_looked: Flag::new(),
             second_answered: Flag::new(),
@@ -95,9 +95,15 @@ impl Gate for OvertakingGate {
 
 /// A worker's clock. It is read once a message, so at its second reading the first message was answered.
 #[derive(Drop)]
-struct Readings<'a> {
+pub(crate) struct Readings<'a> {
     times: u64,
     gate: &'a OvertakingGate,
+}
+
+impl<'a> Readings<'a> {
+    pub(crate) fn new(gate: &'a OvertakingGate) -> Self {
+        Readings { times: 0, gate }
+    }
 }
 
 impl<'a> Clock for Readings<'a> {
@@ -113,7 +119,7 @@ impl<'a> Clock for Readings<'a> {
 }
 
 /// Connects to an address, asks, and sends no more.
-fn ask<R>(rt: &R, address: SocketAddr, input: &str) -> io::Result<TcpStream>
+pub(crate) fn ask<R>(rt: &R, address: SocketAddr, input: &str) -> io::Result<TcpStream>
 where
     R: Net<Listener = TcpListener, Stream = TcpStream>,
 {
@@ -124,7 +130,7 @@ where
 }
 
 /// The other side sent, to its end, that a report was recorded.
-fn is_recorded(rt: &impl Abort, alloc: Global, stream: &TcpStream) -> Result<(), Fail> {
+pub(crate) fn is_recorded(rt: &impl Abort, alloc: Global, stream: &TcpStream) -> Result<(), Fail> {
     let mut text = Vec::new(alloc);
     (&mut &*stream).read_to_end(&mut text)?;
     let Ok(text) = str::from_utf8(&text) else {
@@ -161,17 +167,17 @@ fn workers<'a, L: Ledger, M: Ledger + Offered, R: Wait>(
     let mut workers = Vec::new(alloc);
     workers.push(Worker::new(
         SeatedAnswerer::new(rt, alloc, desk, seats.0, gate),
-        Readings { times: 0, gate },
+        Readings::new(gate),
     ))?;
     workers.push(Worker::new(
         SeatedAnswerer::new(rt, alloc, desk, seats.1, gate),
-        Readings { times: 0, gate },
+        Readings::new(gate),
     ))?;
     Ok(workers)
 }
 
 /// Whether an entry is the finish of a ticket.
-fn finishes(entry: &Entry, ticket: u64) -> bool {
+pub(crate) fn finishes(entry: &Entry, ticket: u64) -> bool {
     match entry.event() {
         Event::Finish(_, finished) => *finished == ticket,
         _ => false,

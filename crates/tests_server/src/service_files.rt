@@ -76,6 +76,34 @@ fn keepers_are_read(rt: HostRuntime) {
     }
 }
 
+/// How many connections a file with this text between its workers and its connections lets be open; none where it can't
+/// be used.
+fn most_open_of(rt: &impl Abort, alloc: Global, part: &str) -> Option<u64> {
+    let text = format!(in alloc;
+        "{{\"listen\":\"127.0.0.1:1\",\"workers\":2,{part}\"connections\":0,\"services\":[{{\"name\":\"pay\"}}]}}"
+    );
+    let text = text.expect(rt, "ample memory");
+    Some(read(rt, alloc, &text)?.most_open)
+}
+
+#[test]
+fn limits_of_open_connections_are_read(rt: HostRuntime) {
+    let alloc = rt.alloc();
+    for row in [
+        ("", Some(1_024)),
+        ("\"open\":1,", Some(1)),
+        ("\"open\":65536,", Some(65_536)),
+        ("\"open\":0,", None),
+        ("\"open\":65537,", None),
+        ("\"open\":1.0,", None),
+        ("\"open\":\"8\",", None),
+        ("\"open\":null,", None),
+    ] {
+        let (part, most) = row;
+        same_at(&rt, most_open_of(&rt, alloc, part), most, part);
+    }
+}
+
 /// A key of a configuration, its least and its greatest value, and what stands before it in the object.
 type Range<'a> = (&'a str, u64, u64, &'a str);
 

@@ -6,7 +6,12 @@ use Rattle.sidecar_commands.proofs.commands.command.Goals as goal
 pub returns-then-not-is_replay-clause-quiet : goal.returns-then-not-is_replay-clause-quiet
 returns-then-not-is_replay-clause-quiet g c =
     let other : NamesReplay c.args.words.now → ⊥ = search rules in
-    λ named refused. c.command.ensures.quiet (λ none. named (none, other))
+    λ named refused. c.command.ensures.quiet (λ none. named (none, other)) (λ verifying. refused (inl verifying.0, verifying.1))
+
+pub returns-then-not-is_replay-clause-explained : goal.returns-then-not-is_replay-clause-explained
+returns-then-not-is_replay-clause-explained g c =
+    let other : NamesReplay c.args.words.now → ⊥ = search rules in
+    λ named. c.command.ensures.explained (λ none. named (none, other))
 
 pub returns-then-not-is_replay-clause-part : goal.returns-then-not-is_replay-clause-part
 returns-then-not-is_replay-clause-part g c =

@@ -1,11 +1,10 @@
-use Rattle.std.proofs.Common.{◌≡◌, ◌∙◌, ap, List, [], ◌∷◌, ◌++◌, None}
+use Rattle.std.proofs.Common.{◌≡◌, ◌∙◌, ap, List, [], ◌∷◌, ◌++◌, map}
 use Rattle.std.specs.Vec.Iter.{into_iter_items}
 use Rattle.desk.specs.Seats.{SeatData}
-use Rattle.http_desk.specs.Seated.{SeatedData}
-use Rattle.http_pool.specs.declared.workers.Worker.{Worker}
-use Rattle.sidecar_server.specs.Served.{workers_with}
+use Rattle.http_desk.specs.Seated.{seated}
+use Rattle.sidecar_server.specs.Slotted.{workers_of}
 use Rattle.sidecar_server.proofs.Openings.{one_more}
-use Rattle.sidecar_server.proofs.Seating.{new_worker, next_worker}
+use Rattle.sidecar_server.proofs.Crews.{next_worker}
 use Rattle.sidecar_server.proofs.at_desk.workers.Goals as goal
 
 pub loop-seat-preserved : goal.loop-seat-preserved
@@ -14,9 +13,6 @@ loop-seat-preserved g c =
     let later : List SeatData = into_iter_items c.next.new.self in
     let seat : SeatData = c.in-Some.seat in
     let whole : c.args.seats.items ≡ done ++ (seat ∷ later) = c.loop-seat.invariant.2.1 ∙ ap (λ rest. done ++ rest) c.in-Some.ensures.steps.0 in
-    let worker : Worker SeatedData g.row.C.Denot = record { answerer = c.new-answerer.result; clock = c.args.clock; failure = None } in
-    let is : c.new-worker.result ≡ worker = new_worker c.new-worker.result c.new-answerer.result c.args.clock c.new-worker.ensures.answerer c.new-worker.ensures.clock c.new-worker.ensures.failure in
-    let pushed : c.push.new.self.items ≡ c.loop-seat.workers.items ++ worker ∷ [] = c.in_ok-push.ensures.items ∙ ap (λ (w : Worker SeatedData g.row.C.Denot). c.loop-seat.workers.items ++ w ∷ []) is in
-    let next : c.loop-seat.workers.items ++ worker ∷ [] ≡ workers_with c.args.desk.now.services c.args.clock (done ++ seat ∷ []) =
-    next_worker c.args.desk.now.services c.args.clock done seat c.loop-seat.workers.items c.new-answerer.result c.loop-seat.invariant.2.2 c.new-answerer.ensures in
-    (tt, tt, (done ++ seat ∷ [], whole ∙ one_more done seat later, pushed ∙ next))
+    let more : c.push.new.self.items ≡ workers_of c.args.clock (map (seated c.args.desk.now.services) (done ++ seat ∷ [])) =
+    c.in_ok-push.ensures.items ∙ next_worker (seated c.args.desk.now.services) c.args.clock done seat c.loop-seat.workers.items c.new.result c.loop-seat.invariant.2.2 (c.new.ensures.answerer ∙ c.new-answerer.ensures) c.new.ensures.clock c.new.ensures.failure in
+    (tt, tt, (done ++ seat ∷ [], whole ∙ one_more done seat later, more))

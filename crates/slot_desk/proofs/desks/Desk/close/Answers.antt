@@ -4,10 +4,10 @@ use Rattle.std.proofs.lemmas.List.{length-map, reverse-reverse}
 use Rattle.service_profile.specs.Events.{History}
 use Rattle.slot_table.specs.Places.{SlotData}
 use Rattle.slot_desk.specs.Desks.{DeskData}
-use Rattle.slot_desk.specs.Slots.{table_of, known_of, back_of, dealt_of, origin_of}
-use Rattle.slot_desk.specs.Closing.{SeatBegins, Finished, AreOf}
+use Rattle.slot_desk.specs.Slots.{table_of, back_of, dealt_of, origin_of}
+use Rattle.slot_desk.specs.Closing.{Finished, AreOf, AreCourses, last_of}
 use Rattle.slot_desk.proofs.Counting.{Leaves, all_leave, all_back, whole, as_long}
-use Rattle.slot_desk.proofs.Known.{all_of, seats_begin, as_many_books}
+use Rattle.slot_desk.proofs.Known.{all_of, courses_of, seats_begin, as_many_books}
 use Rattle.slot_desk.proofs.desks.Desk.close.Goals as goal
 
 pub gather-requires-clause-some : goal.gather-requires-clause-some
@@ -36,7 +36,7 @@ returns-clause-all_books c =
     let dealt : map dealt_of slots ≡ map dealt_of c.self.inside.slots.items = c.gather.ensures.dealt ∙ ap (map dealt_of) c.as_mut_slice.ensures.value in
     let kept : take c.self.inside.slots.len (slots ++ drop (length slots) c.self.inside.slots.items) ≡ slots = whole _ _ _ (as_long dealt_of _ _ dealt) (search rules) in
     let twice : reverse c.reverse.new.self.items ≡ slots = ap reverse (c.reverse.ensures.items ∙ ap reverse kept) ∙ reverse-reverse slots in
-    let books : c.finish_all.new.books.items ≡ f.0 = search rules in
+    let books : c.finish_all.new.books.items ≡ map last_of f.0 = search rules in
     let done : Finished f.0 slots = subst (λ l. Finished f.0 l) twice f.2 in
     let len : vec_len c.finish_all.new.books ≡ length c.finish_all.new.books.items = search rules in
     let of_books : length c.finish_all.new.books.items ≡ length slots = ap length books ∙ as_many_books f.0 slots done in
@@ -51,7 +51,7 @@ returns-clause-good c =
     let dealt : map dealt_of slots ≡ map dealt_of c.self.inside.slots.items = c.gather.ensures.dealt ∙ ap (map dealt_of) c.as_mut_slice.ensures.value in
     let kept : take c.self.inside.slots.len (slots ++ drop (length slots) c.self.inside.slots.items) ≡ slots = whole _ _ _ (as_long dealt_of _ _ dealt) (search rules) in
     let twice : reverse c.reverse.new.self.items ≡ slots = ap reverse (c.reverse.ensures.items ∙ ap reverse kept) ∙ reverse-reverse slots in
-    let books : c.finish_all.new.books.items ≡ f.0 = search rules in
+    let books : c.finish_all.new.books.items ≡ map last_of f.0 = search rules in
     let done : Finished f.0 slots = subst (λ l. Finished f.0 l) twice f.2 in
     let origins : map origin_of slots ≡ c.args.self.origins = c.gather.ensures.origins ∙ (ap (map origin_of) c.as_mut_slice.ensures.value ∙ ap (λ (d : DeskData). d.origins) c.self.view_is) in
     subst (λ (x : List (Option History) × List History). AreOf x.0 x.1) (λ i. (origins i, sym books i)) (all_of f.0 slots done)
@@ -63,6 +63,7 @@ returns-clause-begun c =
     let dealt : map dealt_of slots ≡ map dealt_of c.self.inside.slots.items = c.gather.ensures.dealt ∙ ap (map dealt_of) c.as_mut_slice.ensures.value in
     let kept : take c.self.inside.slots.len (slots ++ drop (length slots) c.self.inside.slots.items) ≡ slots = whole _ _ _ (as_long dealt_of _ _ dealt) (search rules) in
     let twice : reverse c.reverse.new.self.items ≡ slots = ap reverse (c.reverse.ensures.items ∙ ap reverse kept) ∙ reverse-reverse slots in
-    let books : c.finish_all.new.books.items ≡ f.0 = search rules in
+    let books : c.finish_all.new.books.items ≡ map last_of f.0 = search rules in
     let done : Finished f.0 slots = subst (λ l. Finished f.0 l) twice f.2 in
-    subst (λ l. AllByRecursion (SeatBegins l) c.args.seats.items) (sym books) (seats_begin f.0 _ _ done c.gather.ensures.known)
+    let origins : map origin_of slots ≡ c.args.self.origins = c.gather.ensures.origins ∙ (ap (map origin_of) c.as_mut_slice.ensures.value ∙ ap (λ (d : DeskData). d.origins) c.self.view_is) in
+    record { courses = f.0; lasts = sym books; of_books = subst (λ (os : List (Option History)). AreCourses os f.0) origins (courses_of f.0 slots done); begun = seats_begin f.0 _ _ done c.gather.ensures.known }

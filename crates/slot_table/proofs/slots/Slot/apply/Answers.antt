@@ -1,5 +1,5 @@
 use Rattle.slot_table.specs.Rules.{missed}
-use Rattle.service_profile.specs.Calls.{IsCalled, applies, replies}
+use Rattle.service_profile.specs.Calls.{applies, replies}
 use Rattle.book.specs.Seen.{seen}
 use Rattle.slot_table.proofs.Calling.{may_put, is_called, called_by}
 use Rattle.slot_table.proofs.slots.Slot.apply.Goals as goal

@@ -1,10 +1,10 @@
 use Rattle.std.proofs.Common.{rules, ap, subst, ◌≡◌}
 use lib.ListN.{get_elem?}
 use Rattle.slot_table.specs.Origins.{IsOf}
-use Rattle.slot_table.specs.Rules.{AllBegin}
+use Rattle.slot_table.specs.Rules.{IsCourseOf, EachBegins}
 use Rattle.slot_table.specs.Places.{SlotData}
 use Rattle.slot_table.proofs.Views.{same_at}
-use Rattle.slot_table.proofs.Keeps.{closes}
+use Rattle.slot_table.proofs.Keeps.{closes, last_good}
 use Rattle.slot_table.proofs.slots.Slot.finish.Goals as goal
 
 pub returns-clause-good : goal.returns-clause-good
@@ -14,9 +14,9 @@ returns-clause-good c =
     let k = c.self.invariant.3 in
     let full : d.parts ≡ 129 = search rules in
     let done = closes f.0 _ d f.1.0 f.1.1 k.1 k.3 full in
-    let there = f.4 0 done.0 (ap (λ l. get_elem? l 0) done.2) in
-    let same : done.0 ≡ c.take-book.result = same_at _ 0 _ _ there c.take-book.ensures.value in
-    subst (λ h. IsOf c.args.self.origin h) same (subst (λ (s : SlotData). IsOf s.origin done.0) c.self.view_is done.1)
+    let there = f.4 0 done.0.last (ap (λ l. get_elem? l 0) done.2) in
+    let same : done.0.last ≡ c.take-book.result = same_at _ 0 _ _ there c.take-book.ensures.value in
+    subst (λ h. IsOf c.args.self.origin h) same (subst (λ (s : SlotData). IsOf s.origin done.0.last) c.self.view_is (last_good _ done.0 done.1))
 
 pub returns-clause-known : goal.returns-clause-known
 returns-clause-known c =
@@ -25,6 +25,6 @@ returns-clause-known c =
     let k = c.self.invariant.3 in
     let full : d.parts ≡ 129 = search rules in
     let done = closes f.0 _ d f.1.0 f.1.1 k.1 k.3 full in
-    let there = f.4 0 done.0 (ap (λ l. get_elem? l 0) done.2) in
-    let same : done.0 ≡ c.take-book.result = same_at _ 0 _ _ there c.take-book.ensures.value in
-    subst (λ h. AllBegin h c.args.self.known) same (subst (λ (s : SlotData). AllBegin done.0 s.known) c.self.view_is done.3)
+    let there = f.4 0 done.0.last (ap (λ l. get_elem? l 0) done.2) in
+    let same : done.0.last ≡ c.take-book.result = same_at _ 0 _ _ there c.take-book.ensures.value in
+    (done.0, same, subst (λ (s : SlotData). IsCourseOf s.origin done.0) c.self.view_is done.1, subst (λ (s : SlotData). EachBegins done.0 s.known) c.self.view_is done.3)

@@ -1,5 +1,5 @@
 use Rattle.slot_table.specs.Rules.{missed}
-use Rattle.service_profile.specs.Calls.{IsCalled, looks, finds}
+use Rattle.service_profile.specs.Calls.{looks, finds}
 use Rattle.service_profile.specs.Answers.{map_ok}
 use Rattle.std.specs.Arc.{arc_value}
 use Rattle.slot_table.proofs.Calling.{may_put, is_called, called_by}

@@ -1,5 +1,5 @@
 use Rattle.slot_table.specs.Rules.{missed}
-use Rattle.service_profile.specs.Calls.{IsCalled, pages, hands}
+use Rattle.service_profile.specs.Calls.{pages, hands}
 use Rattle.service_profile.specs.Answers.{map_ok}
 use Rattle.slot_table.proofs.Calling.{may_put, is_called, called_by}
 use Rattle.slot_table.proofs.slots.Slot.page.Goals as goal

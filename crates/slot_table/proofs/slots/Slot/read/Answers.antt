@@ -1,5 +1,5 @@
 use Rattle.slot_table.specs.Rules.{missed}
-use Rattle.service_profile.specs.Calls.{IsCalled, reads, shows}
+use Rattle.service_profile.specs.Calls.{reads, shows}
 use Rattle.slot_table.proofs.Calling.{may_put, is_called, called_by}
 use Rattle.slot_table.proofs.slots.Slot.read.Goals as goal
 

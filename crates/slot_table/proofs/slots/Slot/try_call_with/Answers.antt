@@ -1,5 +1,5 @@
 use Rattle.book.specs.Seen.{seen}
-use Rattle.service_profile.specs.Calls.{IsCalled, applies, replies}
+use Rattle.service_profile.specs.Calls.{applies, replies}
 use Rattle.slot_table.proofs.Calling.{may_put, is_called, tried_by}
 use Rattle.slot_table.proofs.slots.Slot.try_call_with.Goals as goal
 

@@ -1,0 +1,4 @@
+mod Failing
+mod Logs
+mod Hubs
+mod Keeping

@@ -1,0 +1,5 @@
+pub mod Failures
+pub mod Numbers
+pub mod Log
+pub mod Ends
+pub mod Hubs

@@ -1,0 +1,233 @@
+//! Accepting connections.
+ghost use Rattle.std.specs.Prelude.{◌≡◌, ◌⊎◌, IfSome};
+ghost use Rattle.std.proofs.Props.{props};
+ghost use Rattle.event_loop.specs.Failures.{IsOfListener};
+ghost use Rattle.event_loop.specs.Hubs.{HasNoOther, HasOneMore, IsFed};
+
+use crate::failure::ListenerFailed;
+use crate::hub::{Hub, close, longest_idle, make_room, take_in};
+use crate::limits::{Limits, SharedCounts, is_left};
+use mio::unix::SourceFd;
+use mio::{Interest, Poll, Token};
+use std::alloc::Global;
+use std::io;
+use std::io::ErrorKind;
+use std::net::{TcpListener, TcpStream};
+use std::os::fd::AsRawFd;
+
+/// For how many milliseconds a worker above its share lets others accept first.
+const TO_GIVE_WAY: u64 = 2;
+
+/// For how many milliseconds a worker waits where as many connections are open as may be, and none of its own is idle.
+const TO_FIND_ROOM: u64 = 20;
+
+/// For how many milliseconds a worker waits where accepting failed for a reason that may pass.
+const TO_ACCEPT_AGAIN: u64 = 100;
+
+/// For how many milliseconds a worker waits where it has nothing to do.
+const LONGEST_WAIT: u64 = 1_000;
+
+/// Linux's error where a process has as many file descriptors as it may have (EMFILE).
+const EMFILE: i32 = 24;
+
+/// How a worker stands to its listener.
+#[derive(Drop)]
+pub(crate) struct Accepting {
+    /// The number of the connection that it accepts next.
+    pub(crate) number: u64,
+    /// Why it accepts no more.
+    pub(crate) failure: Option<ListenerFailed>,
+    /// Whether a connection may wait at the listener.
+    is_waiting: bool,
+    /// Whether it has let others accept the connection that waits.
+    has_given_way: bool,
+    /// Before this moment it doesn't accept, in milliseconds since it began.
+    not_before: u64,
+    ghost sound: { IfSome failure IsOfListener } by { Prim.hlevel props },
+}
+
+impl Accepting {
+    /// A worker that drew the number of its first connection.
+    pub(crate) fn new(number: u64) -> Accepting {
+        Accepting {
+            number,
+            failure: None,
+            is_waiting: true,
+            has_given_way: false,
+            not_before: 0,
+        }
+    }
+
+    /// Says that connections came to the listener.
+    pub(crate) fn wake(&mut self) {
+        self.is_waiting = true;
+    }
+
+    /// Whether it accepts connections still.
+    fn goes_on(&self, limits: Limits) -> bool {
+        self.is_waiting && self.failure.is_none() && is_left(limits.connections, self.number)
+    }
+
+    /// For how many milliseconds the worker may wait until it accepts.
+    pub(crate) fn wait(&self, limits: Limits, now: u64) -> u64 {
+        if self.goes_on(limits) {
+            self.not_before.saturating_sub(now).min(LONGEST_WAIT)
+        } else {
+            LONGEST_WAIT
+        }
+    }
+
+    /// Waits for so many milliseconds before it accepts again.
+    fn pause(&mut self, now: u64, milliseconds: u64) {
+        self.not_before = now.saturating_add(milliseconds);
+    }
+
+    /// Whether it is to accept a connection now, where it has so many open. Above its share of all that are open, it lets
+    /// others accept first, and then takes a connection that still waits.
+    fn is_due(&mut self, limits: Limits, shared: &SharedCounts, own: u64, now: u64) -> bool {
+        if !self.goes_on(limits) || now < self.not_before {
+            return false;
+        }
+        if !self.has_given_way && shared.is_above_share(own) {
+            self.has_given_way = true;
+            self.pause(now, TO_GIVE_WAY);
+            return false;
+        }
+        self.has_given_way = false;
+        true
+    }
+
+    /// Takes an error of accepting. Answers whether the process has no file descriptor left.
+    fn fail(&mut self, error: &io::Error, now: u64) -> bool {
+        if error.kind() == ErrorKind::WouldBlock {
+            self.is_waiting = false;
+            return false;
+        }
+        if error.kind() == ErrorKind::ConnectionAborted {
+            return false;
+        }
+        if let Some(failed) = ListenerFailed::from_error(error) {
+            self.failure = Some(failed);
+            return false;
+        }
+        self.pause(now, TO_ACCEPT_AGAIN);
+        error.raw_os_error() == Some(EMFILE)
+    }
+}
+
+/// Makes a stream ready to be polled under a key, and has answers sent at once (TCP_NODELAY).
+fn prepare(poll: &Poll, stream: &TcpStream, key: usize) -> io::Result<()> {
+    stream.set_nonblocking(true)?;
+    stream.set_nodelay(true)?;
+    let fd = stream.as_raw_fd();
+    poll.registry().register(
+        &mut SourceFd(&fd),
+        Token(key),
+        Interest::READABLE | Interest::WRITABLE,
+    )
+}
+
+/// Takes in a connection that was accepted. One that can't be polled is closed.
+fn admit(
+    alloc: Global,
+    poll: &Poll,
+    shared: &SharedCounts,
+    hub: &mut Hub,
+    stream: TcpStream,
+    now: u64,
+)
+    ensures { HasNoOther hub.old hub.new ⊎ HasOneMore hub.old hub.new }
+{
+    let key = hub.connections.vacant_key();
+    if prepare(poll, &stream, key).is_err() {
+        shared.leave();
+        return;
+    }
+    take_in(hub, shared, alloc, stream, now);
+}
+
+/// The place of a connection among those that may be open.
+#[derive(Clone, Copy)]
+enum Room {
+    /// One more may be open.
+    Free,
+    /// It takes the place of the worker's connection under this key, which has been idle for longest.
+    Of(usize),
+    /// There is none.
+    None,
+}
+
+/// Looks for room for a connection, where so many may be open. A place that is free is taken.
+fn find_room(hub: &Hub, shared: &SharedCounts, most: u64) -> Room {
+    if shared.enter(most) {
+        return Room::Free;
+    }
+    match longest_idle(hub) {
+        Some(key) => Room::Of(key),
+        None => Room::None,
+    }
+}
+
+/// Closes the connection whose place is taken, if one is.
+fn take_place(hub: &mut Hub, room: Room)
+    ensures { HasNoOther hub.old hub.new }
+{
+    if let Room::Of(key) = room {
+        make_room(hub, key);
+    }
+}
+
+/// What follows where a connection can't be accepted: its place is free again. Without a file descriptor for it, the one
+/// that has been idle for longest is closed.
+fn refuse(
+    hub: &mut Hub,
+    shared: &SharedCounts,
+    accepting: &mut Accepting,
+    room: Room,
+    error: &io::Error,
+    now: u64,
+)
+    ensures { HasNoOther hub.old hub.new }
+{
+    if let Room::Free = room {
+        shared.leave();
+    }
+    if !accepting.fail(error, now) {
+        return;
+    }
+    if let Some(key) = longest_idle(hub) {
+        close(hub, shared, key);
+        accepting.pause(now, 0);
+    }
+}
+
+/// Accepts a connection, if one waits, and there is room for it or room is made.
+pub(crate) fn accept_next(
+    alloc: Global,
+    poll: &Poll,
+    listener: &TcpListener,
+    limits: Limits,
+    shared: &SharedCounts,
+    accepting: &mut Accepting,
+    hub: &mut Hub,
+    now: u64,
+)
+    ensures { IsFed hub.old hub.new }
+{
+    if !accepting.is_due(limits, shared, hub.count(), now) {
+        return;
+    }
+    let room = find_room(hub, shared, limits.most_open);
+    if let Room::None = room {
+        accepting.pause(now, TO_FIND_ROOM);
+        return;
+    }
+    match listener.accept() {
+        Ok((stream, _)) => {
+            accepting.number = shared.draw();
+            take_place(hub, room);
+            admit(alloc, poll, shared, hub, stream, now);
+        }
+        Err(error) => refuse(hub, shared, accepting, room, &error, now),
+    }
+}

@@ -1,0 +1,17 @@
+//! An event loop: a worker serves many connections of a listener, each in turns, as it becomes ready.
+#![tactic(auto)]
+
+mod accepting;
+mod failure;
+mod hub;
+mod limits;
+mod linger;
+mod meeting;
+mod opened;
+mod patience;
+mod working;
+
+pub use failure::ListenerFailed;
+pub use limits::{Limits, SharedCounts};
+pub use meeting::Meeting;
+pub use working::work;

@@ -1,0 +1,82 @@
+//! How many connections are served, and how many are open at once: the limits, and the counts that workers share.
+ghost use Rattle.std.specs.Prelude.{◌≡◌};
+ghost use Rattle.event_loop.specs.Numbers.{is_left};
+
+use crate::meeting::Meeting;
+use std::sync::atomic::{AtomicU64, Ordering};
+use std::time;
+
+/// How many connections workers serve.
+#[derive(Clone, Copy, Debug, PartialEq, Eq)]
+pub struct Limits {
+    /// How many all workers accept in all, from 1 on; with 0, without end.
+    pub connections: u64,
+    /// How many all workers have open at once, from 1 on.
+    pub most_open: u64,
+}
+
+/// Whether the connection of a number, from 0 on, is to be served, of so many; with 0, each is.
+pub(crate) fn is_left(connections: u64, number: u64) -> bool
+    ensures { result ≡ is_left connections number }
+{
+    connections == 0 || number < connections
+}
+
+/// What the workers of one listener share: how many numbers of connections were drawn, how many connections are open,
+/// and how many workers are at work.
+#[derive(Drop)]
+pub struct SharedCounts {
+    numbers: AtomicU64,
+    open: AtomicU64,
+    workers: AtomicU64,
+    meeting: Meeting,
+}
+
+impl SharedCounts {
+    /// No number is drawn, no connection is open, and of so many workers nobody is at work.
+    pub fn new(workers: u64) -> Self {
+        SharedCounts {
+            numbers: AtomicU64::new(0),
+            open: AtomicU64::new(0),
+            workers: AtomicU64::new(0),
+            meeting: Meeting::new(workers),
+        }
+    }
+
+    /// Draws the number of the next connection, from 0 on.
+    pub(crate) fn draw(&self) -> u64 {
+        self.numbers.fetch_add(1, Ordering::SeqCst)
+    }
+
+    /// Says that one more worker is at work, and waits for the others, half a second at most: so each has drawn a number
+    /// before one accepts.
+    pub(crate) fn begin(&self, time: &impl time::Clock) {
+        self.workers.fetch_add(1, Ordering::SeqCst);
+        self.meeting.attend(time);
+    }
+
+    /// Says that a worker ends, which has no connection open.
+    pub(crate) fn end(&self) {
+        self.workers.fetch_sub(1, Ordering::SeqCst);
+    }
+
+    /// Takes the place of one more open connection, if one is free of so many.
+    pub(crate) fn enter(&self, most: u64) -> bool {
+        if self.open.fetch_add(1, Ordering::SeqCst) < most {
+            return true;
+        }
+        self.leave();
+        false
+    }
+
+    /// Gives back the place of an open connection.
+    pub(crate) fn leave(&self) {
+        self.open.fetch_sub(1, Ordering::SeqCst);
+    }
+
+    /// Whether a worker with so many open connections has more than its share of all that are open.
+    pub(crate) fn is_above_share(&self, own: u64) -> bool {
+        let workers = self.workers.load(Ordering::SeqCst);
+        own.saturating_mul(workers) > self.open.load(Ordering::SeqCst)
+    }
+}

@@ -1,0 +1,197 @@
+//! A connection that is open.
+ghost use Rattle.std.specs.Prelude.{◌≡◌, Option};
+ghost use Rattle.http_serving.specs.declared.ended.Ended.{Ended};
+ghost use Rattle.http_turns.specs.Connections.{new_connection};
+ghost use Rattle.event_loop.specs.Ends.{ended_of};
+ghost use Rattle.event_loop.specs.Hubs.{HasMoved};
+
+use crate::linger::{Lingering, MOST_PIECES, read_on};
+use crate::patience::{MOST_LINGERING, patience};
+use http_serving::{Clock, Ended, Responder};
+use http_turns::{Connection, Intake, Phase, Turned, turn};
+use polled_io::Polled;
+use std::alloc::Global;
+use std::net::{Shutdown, TcpStream};
+
+/// A connection that is open.
+#[derive(Drop)]
+pub(crate) struct Opened {
+    pub(crate) stream: TcpStream,
+    pub(crate) connection: Connection,
+    /// No other connection of the worker has this number, or had it.
+    pub(crate) number: u64,
+    /// When it is closed, in milliseconds since the worker began.
+    pub(crate) deadline: u64,
+    /// What it was about when the deadline was set, and how many messages were answered then.
+    pub(crate) phase: Phase,
+    pub(crate) answers: u64,
+    /// Behind its last answer: how many pieces of what the other side sends may still be read and dropped.
+    pub(crate) lingering: Option<u32>,
+    /// Whether it is to be given a further turn without waiting.
+    pub(crate) goes_on: bool,
+    /// Whether it was given no turn yet.
+    pub(crate) is_new: bool,
+}
+
+/// What becomes of a connection behind a turn.
+#[derive(Clone, Copy, Debug, PartialEq, Eq)]
+pub(crate) enum Served {
+    /// It waits until it is ready.
+    Waits,
+    /// It has more to do at once.
+    GoesOn,
+    /// It is closed.
+    Closed,
+}
+
+impl Opened {
+    /// A connection of a number, of which nothing was read, at a moment in milliseconds since the worker began.
+    pub(crate) fn new(alloc: Global, stream: TcpStream, number: u64, now: u64) -> Opened
+        ensures number { result.number ≡ number }
+        ensures connection { result.connection ≡ new_connection }
+    {
+        Opened {
+            stream,
+            connection: Connection::new(alloc),
+            number,
+            deadline: now.saturating_add(patience(Phase::Idle)),
+            phase: Phase::Idle,
+            answers: 0,
+            lingering: None,
+            goes_on: false,
+            is_new: true,
+        }
+    }
+
+    /// Sets the deadline anew, where the connection is about something else than when it was set.
+    fn renew(&mut self, now: u64)
+        ensures number { self.new.number ≡ self.old.number }
+        ensures connection { self.new.connection ≡ self.old.connection }
+    {
+        let phase = self.connection.phase();
+        let answers = self.connection.answers();
+        if phase == self.phase && answers == self.answers {
+            return;
+        }
+        self.phase = phase;
+        self.answers = answers;
+        self.deadline = now.saturating_add(patience(phase));
+    }
+
+    /// Reads on behind the last answer, where so many pieces may still come.
+    fn linger(&mut self, pieces: u32) -> Served
+        ensures number { self.new.number ≡ self.old.number }
+        ensures connection { self.new.connection ≡ self.old.connection }
+    {
+        match read_on(&self.stream, pieces) {
+            Lingering::Over => Served::Closed,
+            Lingering::Waits(left) => {
+                self.lingering = Some(left);
+                Served::Waits
+            }
+            Lingering::GoesOn(left) => {
+                self.lingering = Some(left);
+                Served::GoesOn
+            }
+        }
+    }
+
+    /// Tells the other side that no more is sent, and begins to read on.
+    fn begin_to_linger(&mut self, now: u64) -> Served
+        ensures number { self.new.number ≡ self.old.number }
+        ensures connection { self.new.connection ≡ self.old.connection }
+    {
+        if self.stream.shutdown(Shutdown::Write).is_err() {
+            return Served::Closed;
+        }
+        self.deadline = now.saturating_add(MOST_LINGERING);
+        self.linger(MOST_PIECES)
+    }
+
+    /// Gives the connection a turn over its stream.
+    fn turn<S, P: Responder<S>, C: Clock>(
+        &mut self,
+        intake: &mut Intake,
+        responder: &P,
+        state: &mut S,
+        clock: &mut C,
+    ) -> Turned
+        ensures { HasMoved P.refusal P.responds C.ticks self.old state.old clock.old self.new state.new clock.new (ended_of result) }
+    {
+        let Opened {
+            stream,
+            connection,
+            ..
+        } = self;
+        let mut reader = Polled::new(&*stream);
+        let mut writer = Polled::new(&*stream);
+        turn(
+            connection,
+            intake,
+            &mut reader,
+            &mut writer,
+            responder,
+            state,
+            clock,
+        )
+    }
+
+    /// What becomes of the connection behind a turn that ended so.
+    fn settle(&mut self, turned: Turned, now: u64) -> Served
+        ensures number { self.new.number ≡ self.old.number }
+        ensures connection { self.new.connection ≡ self.old.connection }
+    {
+        match turned {
+            Turned::GoesOn => {
+                self.renew(now);
+                Served::GoesOn
+            }
+            Turned::Waits(_) => {
+                self.renew(now);
+                Served::Waits
+            }
+            Turned::Ended(Ended::Finished) => self.begin_to_linger(now),
+            Turned::Ended(_) => Served::Closed,
+        }
+    }
+
+    /// Gives the connection a turn, at a moment in milliseconds since the worker began; or reads on, behind its last
+    /// answer. Behind `Closed` it is to be dropped.
+    pub(crate) fn serve<S, P: Responder<S>, C: Clock>(
+        &mut self,
+        intake: &mut Intake,
+        responder: &P,
+        state: &mut S,
+        clock: &mut C,
+        now: u64,
+    ) -> Served
+        ensures { (end : Option Ended) × HasMoved P.refusal P.responds C.ticks self.old state.old clock.old self.new state.new clock.new end }
+    {
+        self.is_new = false;
+        if let Some(pieces) = self.lingering {
+            return self.linger(pieces);
+        }
+        let turned = self.turn(intake, responder, state, clock);
+        self.settle(turned, now)
+    }
+
+    /// Whether it is idle: it was given a turn, nothing of a message was there, and all is answered and sent.
+    pub(crate) fn is_idle(&self) -> bool {
+        !self.is_new && self.lingering.is_none() && self.connection.phase() == Phase::Idle
+    }
+
+    /// Whether its deadline is over; where the worker is about to end, also whether it is idle.
+    pub(crate) fn is_over(&self, now: u64, is_ending: bool) -> bool {
+        self.deadline < now || (is_ending && self.is_idle())
+    }
+
+    /// Gives back the memory that an idle connection needs no more.
+    pub(crate) fn rest(&mut self, alloc: Global)
+        ensures number { self.new.number ≡ self.old.number }
+        ensures connection { self.new.connection ≡ self.old.connection }
+    {
+        if self.is_idle() {
+            self.connection.rest(alloc);
+        }
+    }
+}

@@ -1,0 +1,272 @@
+//! A worker: it waits until connections are ready, and gives each a turn.
+ghost use Rattle.std.specs.Prelude.{◌≡◌, false, IfOk, IfErr};
+ghost use Rattle.event_loop.specs.Failures.{IsOfListener};
+ghost use Rattle.event_loop.specs.Hubs.{KeepsOn};
+ghost use Rattle.event_loop.specs.Log.{HasServed};
+ghost use Rattle.event_loop.specs.Numbers.{is_left};
+
+use crate::accepting::{Accepting, accept_next};
+use crate::failure::ListenerFailed;
+use crate::hub::{Hub, close, serve_one, sweep};
+use crate::limits::{Limits, SharedCounts, is_left};
+use http_serving::{Clock, Responder};
+use http_turns::Intake;
+use mio::unix::SourceFd;
+use mio::{Events, Interest, Poll, Token};
+use std::alloc::Global;
+use std::net::{Net, TcpListener};
+use std::os::fd::AsRawFd;
+use std::sync::Wait;
+use std::time::{Duration, Instant};
+use std::{io, mem, thread, time};
+
+/// The listener among what is polled. Connections have their keys.
+const LISTENER: Token = Token(usize::MAX);
+
+/// How many events one wait brings at most.
+const MOST_EVENTS: usize = 256;
+
+/// How many milliseconds lie between two looks at the deadlines of all connections.
+const BETWEEN_SWEEPS: u64 = 1_000;
+
+/// For how many milliseconds a worker waits that doesn't get what it needs to begin.
+const TO_BEGIN_AGAIN: u64 = 100;
+
+/// What a worker needs beside its connections.
+#[derive(Drop)]
+struct Tools {
+    poll: Poll,
+    events: Events,
+    intake: Intake,
+    begun: Instant,
+}
+
+impl Tools {
+    /// Makes them, and has the listener polled, which then waits no more where nobody comes.
+    fn new<R: Net + time::Clock>(
+        rt: &R,
+        alloc: Global,
+        listener: &TcpListener,
+    ) -> io::Result<Tools> {
+        let poll = Poll::new(rt)?;
+        let events = Events::with_capacity(alloc, MOST_EVENTS)?;
+        let intake = Intake::new(alloc)?;
+        let begun = Instant::now(rt)?;
+        listener.set_nonblocking(true)?;
+        let fd = listener.as_raw_fd();
+        poll.registry()
+            .register(&mut SourceFd(&fd), LISTENER, Interest::READABLE)?;
+        Ok(Tools {
+            poll,
+            events,
+            intake,
+            begun,
+        })
+    }
+
+    /// Makes them, and tries again a moment later where the system or memory gives too little.
+    fn wait_for<R: Wait + Net + time::Clock>(
+        rt: &R,
+        alloc: Global,
+        listener: &TcpListener,
+    ) -> Tools {
+        for _ in rt.forever() {
+            if let Ok(tools) = Tools::new(rt, alloc, listener) {
+                return tools;
+            }
+            thread::sleep(rt, Duration::from_millis(TO_BEGIN_AGAIN));
+        }
+        unreachable!()
+    }
+}
+
+/// How many milliseconds have gone by since a moment; where the clock can't be read, as many as before.
+fn elapsed(time: &impl time::Clock, begun: &Instant, before: u64) -> u64 {
+    match begun.elapsed(time) {
+        Ok(elapsed) => u64::try_from(elapsed.as_millis()).unwrap_or(before),
+        Err(_) => before,
+    }
+}
+
+/// Gives the connection under a key a turn, and puts it into a list where it has more to do at once. Without memory for
+/// that it is closed.
+fn serve_key<S, P: Responder<S>, C: Clock>(
+    hub: &mut Hub,
+    shared: &SharedCounts,
+    key: usize,
+    again: &mut Vec<usize>,
+    intake: &mut Intake,
+    responder: &P,
+    state: &mut S,
+    clock: &mut C,
+    now: u64,
+)
+    ensures { KeepsOn P.refusal P.responds C.ticks hub.old state.old clock.old hub.new state.new clock.new }
+{
+    if !serve_one(hub, shared, key, intake, responder, state, clock, now) {
+        return;
+    }
+    if again.push(key).is_err() {
+        close(hub, shared, key);
+    }
+}
+
+/// Gives each connection with an event a turn, but for those that are given one anyway. Answers whether connections
+/// came to the listener.
+fn serve_events<S, P: Responder<S>, C: Clock>(
+    hub: &mut Hub,
+    shared: &SharedCounts,
+    events: &Events,
+    again: &mut Vec<usize>,
+    intake: &mut Intake,
+    responder: &P,
+    state: &mut S,
+    clock: &mut C,
+    now: u64,
+) -> bool
+    ensures { KeepsOn P.refusal P.responds C.ticks hub.old state.old clock.old hub.new state.new clock.new }
+{
+    let mut has_come = false;
+    'events: for event in events {
+        let token = event.token();
+        if token == LISTENER {
+            has_come = true;
+            continue;
+        }
+        if hub.goes_on(token.0) {
+            continue;
+        }
+        serve_key(
+            hub, shared, token.0, again, intake, responder, state, clock, now,
+        );
+    }
+    has_come
+}
+
+/// Gives each connection that had more to do a turn.
+fn serve_all<S, P: Responder<S>, C: Clock>(
+    hub: &mut Hub,
+    shared: &SharedCounts,
+    keys: &[usize],
+    again: &mut Vec<usize>,
+    intake: &mut Intake,
+    responder: &P,
+    state: &mut S,
+    clock: &mut C,
+    now: u64,
+)
+    ensures { KeepsOn P.refusal P.responds C.ticks hub.old state.old clock.old hub.new state.new clock.new }
+{
+    'keys: for key in keys {
+        serve_key(
+            hub, shared, *key, again, intake, responder, state, clock, now,
+        );
+    }
+}
+
+/// Serves the connections of a listener, side by side, each in turns as it becomes ready. The worker draws a number
+/// from a count that all workers share, accepts a connection and draws the next; it accepts no more where its number is
+/// not below `limits.connections`, or where the listener fails. Then it serves those that are open until they end, and
+/// answers the number that was not left; the error says why the listener accepts no more. Where accepting fails for a
+/// reason that may pass, it accepts again a moment later. How a connection ends ends nothing else.
+///
+/// No more than `limits.most_open` connections are open at once among all workers. Where they are, the one of the worker that
+/// has been idle for longest is closed for a new one. One that is idle for 75 seconds is closed, and so is one whose
+/// message isn't whole 20 seconds after its first byte, or whose answer isn't taken within 20 seconds.
+pub fn work<R: Wait + Net + time::Clock, S, P: Responder<S>, C: Clock>(
+    rt: &R,
+    alloc: Global,
+    listener: &TcpListener,
+    limits: Limits,
+    shared: &SharedCounts,
+    responder: &P,
+    state: &mut S,
+    clock: &mut C,
+) -> Result<u64, ListenerFailed>
+    // The steps that were made for the messages of all connections are one chain from the state and the clock on, and
+    // those of each connection are the steps of its own messages, in order.
+    ensures served { HasServed P.refusal P.responds C.ticks state.old clock.old state.new clock.new }
+    // It ends by itself only where a number of connections was given that is used up.
+    ensures none_left { IfOk result (λ number. is_left limits.connections number ≡ false) }
+    // A failure has the number of an error that lies in the listener.
+    ensures failed { IfErr result IsOfListener }
+{
+    let Tools {
+        mut poll,
+        mut events,
+        mut intake,
+        begun,
+    } = Tools::wait_for(rt, alloc, listener);
+    let mut hub = Hub::new(alloc);
+    let mut accepting = Accepting::new(shared.draw());
+    let mut keys = Vec::new(alloc);
+    let mut again = Vec::new(alloc);
+    let mut now = 0;
+    let mut swept = 0;
+    shared.begin(rt);
+    'rounds: for _ in rt.forever() {
+        if hub.connections.is_empty() {
+            if let Some(failure) = accepting.failure {
+                shared.end();
+                return Err(failure);
+            }
+            if !is_left(limits.connections, accepting.number) {
+                shared.end();
+                return Ok(accepting.number);
+            }
+        }
+        let wait = if again.is_empty() {
+            accepting.wait(limits, now)
+        } else {
+            0
+        };
+        if poll
+            .poll(&mut events, Some(Duration::from_millis(wait)))
+            .is_err()
+        {
+            thread::sleep(rt, Duration::from_millis(1));
+        }
+        now = elapsed(rt, &begun, now);
+        mem::swap(&mut keys, &mut again);
+        again.clear();
+        if serve_events(
+            &mut hub,
+            shared,
+            &events,
+            &mut again,
+            &mut intake,
+            responder,
+            state,
+            clock,
+            now,
+        ) {
+            accepting.wake();
+        }
+        serve_all(
+            &mut hub,
+            shared,
+            &keys,
+            &mut again,
+            &mut intake,
+            responder,
+            state,
+            clock,
+            now,
+        );
+        accept_next(
+            alloc,
+            &poll,
+            listener,
+            limits,
+            shared,
+            &mut accepting,
+            &mut hub,
+            now,
+        );
+        if now >= swept {
+            swept = now.saturating_add(BETWEEN_SWEEPS);
+            sweep(&mut hub, shared, alloc, now, accepting.failure.is_some());
+        }
+    }
+    unreachable!()
+}

@@ -1,0 +1,9 @@
+pub mod Writing
+pub mod Going
+pub mod Chains
+pub mod Lengths
+pub mod Parts
+pub mod Reading
+pub mod Counting
+pub mod Alone
+pub mod Served

@@ -1,0 +1,52 @@
+use Rattle.std.proofs.Common.{◌≡◌, ℕ, ◌<◌, List, drop, length, rules, arith}
+use Rattle.http_serving.specs.Serving.{IsUnfinished}
+use Rattle.http_turns.specs.declared.answering.Answered.TheVariants as answered
+use Rattle.http_turns.specs.declared.turned.Turned.TheVariants as turned
+use Rattle.http_turns.specs.Connections.{ConnectionData}
+use Rattle.http_turns.proofs.Parts.{rounds_by_answer, rounds_by_read, rounds_on, rounds_weaker}
+use Rattle.http_turns.proofs.Reading.{ended_apart, longer_by, none_or_some, read_by}
+use Rattle.http_turns.proofs.rounds.answer_or_read.Goals as goal
+
+pub returns-in-Yes-clause-gone : goal.returns-in-Yes-clause-gone
+returns-in-Yes-clause-gone g c held =
+    rounds_weaker g.P.Responder.refusal g.P.Responder.responds g.C.Clock.ticks 1 0 1 2048 (c.answer_next.result ≡ answered.Yes) (turned.GoesOn ≡ turned.GoesOn) c.args.connection.now c.answer_next.new.connection
+    (g.R.Read.remaining c.args.reader.now.inner) (g.R.Read.remaining c.args.reader.now.inner) c.args.state.now c.args.clock.now c.answer_next.new.state c.answer_next.new.clock held held
+    (rounds_by_answer g.P.Responder.refusal g.P.Responder.responds g.C.Clock.ticks c.args.connection.now c.answer_next.new.connection c.answer_next.result (g.R.Read.remaining c.args.reader.now.inner)
+    c.args.state.now c.args.clock.now c.answer_next.new.state c.answer_next.new.clock held c.requires.open c.requires.written c.answer_next.ensures)
+    (omega arith) (omega arith) (λ goes. c.in-Yes.is)
+
+pub returns-in-NoMemory-clause-gone : goal.returns-in-NoMemory-clause-gone
+returns-in-NoMemory-clause-gone g c held =
+    rounds_weaker g.P.Responder.refusal g.P.Responder.responds g.C.Clock.ticks 1 0 1 2048 (c.answer_next.result ≡ answered.Yes) _ c.args.connection.now c.answer_next.new.connection
+    (g.R.Read.remaining c.args.reader.now.inner) (g.R.Read.remaining c.args.reader.now.inner) c.args.state.now c.args.clock.now c.answer_next.new.state c.answer_next.new.clock held held
+    (rounds_by_answer g.P.Responder.refusal g.P.Responder.responds g.C.Clock.ticks c.args.connection.now c.answer_next.new.connection c.answer_next.result (g.R.Read.remaining c.args.reader.now.inner)
+    c.args.state.now c.args.clock.now c.answer_next.new.state c.answer_next.new.clock held c.requires.open c.requires.written c.answer_next.ensures)
+    (omega arith) (omega arith) (λ goes. absurd (ended_apart goes))
+
+pub returns-clause-gone : goal.returns-clause-gone
+returns-clause-gone g c held =
+    let same : ◌≡◌ {A = List ℕ} c.connection.inside.unread.items c.answer_next.new.connection.unread = search rules in
+    let read : ConnectionData = record { stage = c.connection.inside.stage; unread = c.fill-filled.new.unread.items; pending = drop c.connection.inside.sent c.connection.inside.text.items; answers = c.connection.inside.answers } in
+    let longer : Type 0 = length c.answer_next.new.connection.unread < length c.fill-filled.new.unread.items in
+    rounds_weaker g.P.Responder.refusal g.P.Responder.responds g.C.Clock.ticks 1 2048 1 2048 longer (c.turned_by.result ≡ turned.GoesOn) c.args.connection.now read
+    (g.R.Read.remaining c.args.reader.now.inner) (g.R.Read.remaining c.fill-filled.new.reader.inner) c.args.state.now c.args.clock.now c.answer_next.new.state c.answer_next.new.clock held held
+    (rounds_on g.P.Responder.refusal g.P.Responder.responds g.C.Clock.ticks 1 0 0 2048 (c.answer_next.result ≡ answered.Yes) longer c.args.connection.now c.answer_next.new.connection read
+    (g.R.Read.remaining c.args.reader.now.inner) (g.R.Read.remaining c.args.reader.now.inner) (g.R.Read.remaining c.fill-filled.new.reader.inner)
+    c.args.state.now c.args.clock.now c.answer_next.new.state c.answer_next.new.clock c.answer_next.new.state c.answer_next.new.clock held held held
+    (rounds_by_answer g.P.Responder.refusal g.P.Responder.responds g.C.Clock.ticks c.args.connection.now c.answer_next.new.connection c.answer_next.result (g.R.Read.remaining c.args.reader.now.inner)
+    c.args.state.now c.args.clock.now c.answer_next.new.state c.answer_next.new.clock held c.requires.open c.requires.written c.answer_next.ensures)
+    (rounds_by_read g.P.Responder.refusal g.P.Responder.responds g.C.Clock.ticks c.answer_next.new.connection read 2048 (g.R.Read.remaining c.args.reader.now.inner) (g.R.Read.remaining c.fill-filled.new.reader.inner)
+    c.answer_next.new.state c.answer_next.new.clock held c.in-Incomplete.ensures.7.0 c.in-Incomplete.ensures.7.2 c.in-Incomplete.ensures.7.1 (search rules) (search rules) (search rules) (rw same at c.fill-filled.ensures.read) (rw same at c.fill-filled.ensures.most) (omega arith)))
+    (omega arith) (omega arith)
+    (longer_by c.fill-filled.result c.is_empty.result c.turned_by.result c.answer_next.new.connection.unread c.fill-filled.new.unread.items (g.R.Read.remaining c.fill-filled.new.reader.inner) c.args.reader.now c.fill-filled.new.reader
+    c.turned_by.ensures (rw same at c.fill-filled.ensures.filled))
+
+pub returns-clause-read : goal.returns-clause-read
+returns-clause-read g c =
+    let same : ◌≡◌ {A = List ℕ} c.connection.inside.unread.items c.answer_next.new.connection.unread = search rules in
+    let stands = c.in-Incomplete.ensures.7 in
+    let part : IsUnfinished c.connection.inside.unread.items = rw same stands.1 in
+    rw c.turned_by.ensures (read_by c.fill-filled.result c.is_empty.result c.connection.inside.unread.items
+    (record { stage = c.connection.inside.stage; unread = c.fill-filled.new.unread.items; pending = drop c.connection.inside.sent c.connection.inside.text.items; answers = c.connection.inside.answers })
+    (g.R.Read.remaining c.fill-filled.new.reader.inner) c.args.reader.now c.fill-filled.new.reader (search rules) (search rules) part
+    (none_or_some c.is_empty.result c.fill-filled.new.unread.items (search rules)) c.fill-filled.ensures.filled)

@@ -1,0 +1,9 @@
+pub mod Connections
+pub mod Phases
+pub mod Steps
+pub mod Turns
+pub mod Exchanges
+pub mod Calls
+pub mod Answering
+pub mod Ends
+pub mod Lives

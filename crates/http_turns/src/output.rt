@@ -1,0 +1,40 @@
+//! Writing what is pending.
+ghost use Rattle.std.specs.Prelude.{◌≡◌, ◌++◌, List, ℕ};
+ghost use Rattle.std.specs.Io.KnownBytes.{Appends};
+ghost use Rattle.http_turns.specs.Calls.{IsWritten};
+
+use crate::connection::Connection;
+use polled_io::{Polled, Polling};
+use std::io::Write;
+
+/// How writing ended.
+#[derive(Clone, Copy)]
+pub(crate) enum Written {
+    /// All is written.
+    All,
+    /// The writer takes no more for now.
+    Part,
+    /// A write failed.
+    Failed,
+}
+
+/// Writes what is pending, as far as the writer takes it at once.
+pub(crate) fn write_pending<W: Write>(
+    connection: &mut Connection,
+    writer: &mut Polled<W>,
+) -> Written
+    ensures sent { (sent : List ℕ) × Appends (W.contents writer.old.inner) (W.contents writer.new.inner) sent × (connection.old.pending ≡ sent ++ connection.new.pending) }
+    ensures stage { connection.new.stage ≡ connection.old.stage }
+    ensures unread { connection.new.unread ≡ connection.old.unread }
+    ensures answers { connection.new.answers ≡ connection.old.answers }
+    ensures written { IsWritten result connection.new.pending writer.old writer.new }
+{
+    'pieces: while connection.sent < connection.text.len() {
+        match writer.put(&connection.text[connection.sent..]) {
+            Polling::Done(taken) => connection.sent += taken,
+            Polling::Waits => return Written::Part,
+            Polling::Failed => return Written::Failed,
+        }
+    }
+    Written::All
+}

@@ -1,0 +1,65 @@
+//! A turn of a connection.
+ghost use Rattle.std.specs.Prelude.{◌≡◌};
+ghost use Rattle.http_turns.specs.Exchanges.{HasGone, HasGoneWithin, HasProgressed, HasRounds};
+ghost use Rattle.http_turns.specs.Ends.{IsTurned};
+
+use crate::connection::Connection;
+use crate::intake::Intake;
+use crate::rounds::round;
+use crate::turned::Turned;
+use http_serving::{Clock, Responder};
+use polled_io::Polled;
+use std::io::{Read, Write};
+
+/// How often a turn reads, or answers a message, before others come first.
+const MOST_ROUNDS: u32 = 64;
+
+/// Takes rounds until one doesn't go on, or there were enough.
+fn take_rounds<S, P: Responder<S>, R: Read, W: Write, C: Clock>(
+    connection: &mut Connection,
+    intake: &mut Intake,
+    reader: &mut Polled<R>,
+    writer: &mut Polled<W>,
+    responder: &P,
+    state: &mut S,
+    clock: &mut C,
+) -> Turned
+    ensures gone { HasRounds P.refusal P.responds C.ticks 64 131072 (result ≡ Turned.GoesOn) connection.old (R.remaining reader.old.inner) state.old clock.old (W.contents writer.old.inner) connection.new (R.remaining reader.new.inner) state.new clock.new (W.contents writer.new.inner) }
+    ensures turned { IsTurned result connection.new (R.remaining reader.new.inner) reader.old reader.new writer.old writer.new }
+{
+    'rounds: for _ in 0..MOST_ROUNDS {
+        match round(connection, intake, reader, writer, responder, state, clock) {
+            Turned::GoesOn => {}
+            ended => return ended,
+        }
+    }
+    Turned::GoesOn
+}
+
+/// Gives a connection a turn: it writes what is pending, answers each whole message at the moment that the clock tells,
+/// and reads, until a call would have to wait, the connection ends, or the turn was long enough: it answers at most 64
+/// messages, and reads at most 131,072 bytes. It never waits. Nothing is read or answered while an answer isn't written.
+///
+/// The connection is to be given the same reader and writer at each turn, and no turn behind one that said `Ended`.
+pub fn turn<S, P: Responder<S>, R: Read, W: Write, C: Clock>(
+    connection: &mut Connection,
+    intake: &mut Intake,
+    reader: &mut Polled<R>,
+    writer: &mut Polled<W>,
+    responder: &P,
+    state: &mut S,
+    clock: &mut C,
+) -> Turned
+    // What was read, answered and written. It says the same of several turns one after another, and from a new connection
+    // on of its whole life: what was written, and what is pending, are the answers to the messages of the bytes that were
+    // read, in order (`laws`).
+    ensures gone { HasGone P.refusal P.responds C.ticks connection.old (R.remaining reader.old.inner) state.old clock.old (W.contents writer.old.inner) connection.new (R.remaining reader.new.inner) state.new clock.new (W.contents writer.new.inner) }
+    // A turn is short: others wait for it.
+    ensures share { HasGoneWithin P.refusal P.responds C.ticks 64 131072 connection.old (R.remaining reader.old.inner) state.old clock.old (W.contents writer.old.inner) connection.new (R.remaining reader.new.inner) state.new clock.new (W.contents writer.new.inner) }
+    // It goes on only where it read, answered, refused or wrote something: so no connection goes on for ever without its peer.
+    ensures progress { result ≡ Turned.GoesOn → HasProgressed P.refusal P.responds C.ticks connection.old (R.remaining reader.old.inner) state.old clock.old (W.contents writer.old.inner) connection.new (R.remaining reader.new.inner) state.new clock.new (W.contents writer.new.inner) }
+    // Why it waits or ended: where it waits for bytes no whole message is left, and where it waits for room an answer is.
+    ensures turned { IsTurned result connection.new (R.remaining reader.new.inner) reader.old reader.new writer.old writer.new }
+{
+    take_rounds(connection, intake, reader, writer, responder, state, clock)
+}

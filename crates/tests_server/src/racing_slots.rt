@@ -1,0 +1,118 @@
+//! Two workers of a pool, each with a seat of one desk whose books lie in slots. The report of one connection is held
+//! between its look and its finish until the report of the other connection was answered.
+ghost use Rattle.std.specs.Prelude.{◌≡◌};
+ghost use Rattle.slot_desk.specs.Seats.{IsSeatOf};
+
+use crate::checks::{is_true, same};
+use crate::fixtures::pay_to_open;
+use crate::racing_workers::{
+    FIRST_REPORT, OvertakingGate, Readings, SECOND_REPORT, ask, finishes, is_recorded,
+};
+use book::Reply;
+use http_pool::{Worker, pool};
+use http_slots::SlotAnswerer;
+use slot_desk::{Desk, Seat};
+use std::alloc::{AllocError, Global};
+use std::net::{Net, TcpListener, TcpStream};
+use std::process::Abort;
+use std::sync::Wait;
+use std::test::Fail;
+use std::thread::Threads;
+use std::time;
+
+/// A new seat of a desk.
+fn seat_of(rt: &impl Abort, alloc: Global, desk: &mut Desk) -> Seat
+    ensures seat { IsSeatOf desk.new result }
+    ensures same { desk.new.tables ≡ desk.old.tables }
+{
+    desk.sit(alloc).expect(rt, "a seat that is left")
+}
+
+/// A seat gets the ticket of this number.
+fn get_ticket<R: Wait + Abort>(rt: &R, desk: &Desk, seat: &mut Seat, number: u64)
+    requires seat { IsSeatOf desk.now seat.old }
+    ensures seat { IsSeatOf desk.now seat.new }
+{
+    let service = desk.find("pay").expect(rt, "a service of the desk");
+    assert!(rt; seat.count() < 1_000_000);
+    let given = match desk.acquire(rt, seat, service, 1) {
+        Reply::Permitted { ticket, .. } => Some(ticket),
+        _ => None,
+    };
+    same(rt, given, Some(number));
+}
+
+/// A worker for each of two seats, in their order.
+fn workers<'a, R: Wait>(
+    rt: &'a R,
+    alloc: Global,
+    desk: &'a Desk,
+    first: Seat,
+    second: Seat,
+    gate: &'a OvertakingGate,
+) -> Result<Vec<Worker<SlotAnswerer<'a, OvertakingGate, R>, Readings<'a>>>, AllocError>
+    requires first { IsSeatOf desk.now first }
+    requires second { IsSeatOf desk.now second }
+{
+    let mut workers = Vec::new(alloc);
+    workers.push(Worker::new(
+        SlotAnswerer::new(rt, alloc, desk, first, gate),
+        Readings::new(gate),
+    ))?;
+    workers.push(Worker::new(
+        SlotAnswerer::new(rt, alloc, desk, second, gate),
+        Readings::new(gate),
+    ))?;
+    Ok(workers)
+}
+
+/// Both reports were entered, in the order of their finishes.
+fn are_in_order<R: Wait + Abort>(rt: &R, desk: &Desk, seat: &mut Seat)
+    requires seat { IsSeatOf desk.now seat.old }
+{
+    let service = desk.find("pay").expect(rt, "a service of the desk");
+    let page = desk.page(rt, seat, service, 8, 3);
+    let made = page.expect(rt, "entries 3 and 4");
+    assert_eq!(rt; made.len(), 2);
+    is_true(rt, finishes(&made[0], 2));
+    is_true(rt, finishes(&made[1], 1));
+}
+
+/// Lets two connections report to one service.
+fn two_workers_report<R>(rt: &R, alloc: Global, mut desk: Desk) -> Result<(), Fail>
+where
+    R: Threads
+        + Wait
+        + time::Clock
+        + Sync
+        + Abort
+        + Net<Listener = TcpListener, Stream = TcpStream>,
+{
+    let mut caller = seat_of(rt, alloc, &mut desk);
+    let first = seat_of(rt, alloc, &mut desk);
+    let second = seat_of(rt, alloc, &mut desk);
+    get_ticket(rt, &desk, &mut caller, 1);
+    get_ticket(rt, &desk, &mut caller, 2);
+    let gate = OvertakingGate::new();
+    let listener = TcpListener::bind(rt, "127.0.0.1:0")?;
+    let address = listener.local_addr()?;
+    let held = ask(rt, address, FIRST_REPORT)?;
+    let overtaking = ask(rt, address, SECOND_REPORT)?;
+    let workers = workers(rt, alloc, &desk, first, second, &gate)?;
+    assert_eq!(rt; workers.len(), 2);
+    let workers = pool(rt, alloc, &listener, 2, workers)?;
+    same(rt, workers.len(), 2);
+    is_true(rt, gate.overtaken.is_raised());
+    is_recorded(rt, alloc, &held)?;
+    is_recorded(rt, alloc, &overtaking)?;
+    are_in_order(rt, &desk, &mut caller);
+    Ok(())
+}
+
+#[test]
+fn a_held_report_is_overtaken_at_a_slot(rt: HostRuntime) -> Result<(), Fail> {
+    let services = pay_to_open(&rt, rt.alloc())?;
+    assert!(rt; services.len() <= 64);
+    let desk = Desk::open(rt.alloc(), services)?;
+    two_workers_report(&rt, rt.alloc(), desk)
+}

@@ -1,0 +1,33 @@
+//! Tests of a desk whose books lie in slots, by the public functions of its crates. The library itself is empty.
+#![tactic(auto)]
+
+#[cfg(test)]
+mod callers;
+#[cfg(test)]
+mod calls;
+#[cfg(test)]
+mod checks;
+#[cfg(test)]
+mod cuts;
+#[cfg(test)]
+mod fixtures;
+#[cfg(test)]
+mod flags;
+#[cfg(test)]
+mod gates;
+#[cfg(test)]
+mod histories;
+#[cfg(test)]
+mod meetings;
+#[cfg(test)]
+mod rows;
+#[cfg(test)]
+mod seats;
+#[cfg(test)]
+mod threads;
+#[cfg(test)]
+mod tries;
+#[cfg(test)]
+mod wishes;
+#[cfg(test)]
+mod workers;

@@ -1,0 +1,131 @@
+//! Inputs that come byte by byte, answers that go byte by byte, and calls that fail.
+use crate::checks::same_at;
+use crate::echo::{by_serve, play};
+use crate::streams::Slow;
+use http_serving::Ended;
+use polled_io::Polled;
+use std::alloc::Global;
+use std::process::Abort;
+use std::sync::Wait;
+
+/// Serves an input in turns over streams that would have to wait before each piece, and compares what comes of it with
+/// what `serve` makes of the whole.
+fn is_served_alike(rt: &(impl Wait + Abort), alloc: Global, input: &str, piece: usize) {
+    let bytes = input.as_bytes();
+    let wanted = by_serve(rt, alloc, bytes);
+    let mut reader = Polled::new(Slow::new(bytes, piece));
+    let mut writer = Polled::new(Slow::new(Vec::new(alloc), piece));
+    let (ended, asked, readings) = play(rt, alloc, &mut reader, &mut writer);
+    same_at(
+        rt,
+        writer.inner().inner.as_slice(),
+        wanted.text.as_slice(),
+        input,
+    );
+    same_at(
+        rt,
+        (ended, asked, readings),
+        (wanted.ended, wanted.asked, wanted.readings),
+        input,
+    );
+    same_at(rt, (reader.failures(), writer.failures()), (0, 0), input);
+}
+
+/// Serves each input so.
+fn are_served_alike(rt: &(impl Wait + Abort), alloc: Global, piece: usize, inputs: &[&str]) {
+    for input in inputs {
+        is_served_alike(rt, alloc, input, piece);
+    }
+}
+
+const INPUTS: &[&str] = &[
+    "",
+    "GET /a HTTP/1.1\r\n\r\n",
+    "\r\n",
+    "GET /a HTTP/1.1\r\n\r",
+    "GET /a HTTP/1.1\r\n\r\nPUT /b HTTP/1.1\r\nContent-Length: 4\r\n\r\nxyz",
+    "GET /a HTTP/1.1\r\n\r\nPUT /b HTTP/1.1\r\nContent-Length: 4\r\n\r\nwxyz",
+    "GET /a HTTP/1.0\r\n\r\nGET /b HTTP/1.1\r\n\r\n",
+    "GET /a HTTP/1.1\r\n\r\nGET /b HTTP/1.1\r\nConnection: Close\r\n\r\nGET /c HTTP/1.1\r\n\r\n",
+    "GET /a HTTP/1.1\r\n\r\nGET\r\n\r\nGET /c HTTP/1.1\r\n\r\n",
+    "GET /a HTTP/1.1\r\nTransfer-Encoding: chunked\r\n\r\n",
+];
+
+#[test]
+fn inputs_are_served_alike(rt: HostRuntime) {
+    are_served_alike(&rt, rt.alloc(), 1, INPUTS);
+    are_served_alike(&rt, rt.alloc(), 7, INPUTS);
+    are_served_alike(&rt, rt.alloc(), 100_000, INPUTS);
+}
+
+/// Two messages, the second with a body.
+const TWO: &[u8] = b"GET /a HTTP/1.1\r\n\r\nPOST /b HTTP/1.1\r\nContent-Length: 3\r\n\r\nxyz";
+
+/// The answers to both.
+const BOTH: &[u8] = b"/a\n/bxyz\n";
+
+/// How it ends, what is written, how often the responder is asked, and how many calls fail.
+type Fails = (Option<Ended>, usize, u64, u64);
+
+/// Serves both messages in turns, byte by byte, where the streams fail behind so many calls.
+fn fails(rt: &impl Abort, alloc: Global, reads: u64, writes: u64, wanted: Fails) {
+    let (end, length, times, failures) = wanted;
+    let mut slow = Slow::new(TWO, 1);
+    slow.calls_left = reads;
+    let mut reader = Polled::new(slow);
+    let mut full = Slow::new(Vec::new(alloc), 1);
+    full.calls_left = writes;
+    let mut writer = Polled::new(full);
+    let (ended, asked, _) = play(rt, alloc, &mut reader, &mut writer);
+    let written = BOTH.get(..length).expect(rt, "a beginning");
+    same_at(
+        rt,
+        writer.inner().inner.as_slice(),
+        written,
+        (reads, writes),
+    );
+    let failed = reader.failures().saturating_add(writer.failures());
+    same_at(
+        rt,
+        (ended, asked, failed),
+        (end, times, failures),
+        (reads, writes),
+    );
+}
+
+/// Two calls a byte: the first message has 19 bytes, both together have 61, and one read more finds the end.
+#[test]
+fn failed_reads_leave_whole_messages(rt: HostRuntime) {
+    for reads in 0..126 {
+        let wanted = match reads {
+            0..38 => (Some(Ended::ReadFailed), 0, 0, 1),
+            38..122 => (Some(Ended::ReadFailed), 3, 1, 1),
+            122..124 => (Some(Ended::ReadFailed), 9, 2, 1),
+            _ => (Some(Ended::Closed), 9, 2, 0),
+        };
+        fails(&rt, rt.alloc(), reads, 1_000, wanted);
+    }
+}
+
+/// Two calls a byte: the first answer has 3 bytes, both together have 9.
+#[test]
+fn failed_writes_leave_a_beginning(rt: HostRuntime) {
+    for writes in 0..20 {
+        let length = (writes / 2) as usize;
+        let wanted = match writes {
+            0..6 => (Some(Ended::WriteFailed), length, 1, 1),
+            6..18 => (Some(Ended::WriteFailed), length, 2, 1),
+            _ => (Some(Ended::Closed), 9, 2, 0),
+        };
+        fails(&rt, rt.alloc(), 1_000, writes, wanted);
+    }
+}
+
+#[test]
+fn writes_of_nothing_fail(rt: HostRuntime) {
+    let mut reader = Polled::new(TWO);
+    let mut writer = Polled::new(Slow::new(Vec::new(rt.alloc()), 0));
+    let (ended, asked, _) = play(&rt, rt.alloc(), &mut reader, &mut writer);
+    same_at(&rt, (ended, asked), (Some(Ended::WriteFailed), 1), 0);
+    same_at(&rt, (writer.failures(), writer.waits()), (1, 1), 0);
+}
