@@ -1,0 +1,1 @@
+"""Keeps the journals of a sidecar's services in files, checks them, and shows them."""

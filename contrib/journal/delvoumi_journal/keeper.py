@@ -1,0 +1,166 @@
+"""Keeps journals: asks for pages, writes them durably, and rolls up to the last entry that is written."""
+
+import fcntl
+import json
+import os
+import time
+from collections.abc import Callable
+from typing import Any
+
+from delvoumi.connection import Connection
+from delvoumi.errors import NoAnswer, NoService, TicketNotOpen, WithNumber, refusal
+
+from .files import Entry, Journal, time_of
+from .tickets import OpenTickets, open_tickets
+
+SECONDS_TO_ANSWER = 5.0
+ENTRIES_OF_A_PAGE = 100
+# So many entries are written at a time: a disk may take longer to write durably than the sidecar to answer.
+ENTRIES_OF_A_BATCH = 5_000
+# Nor are entries read for longer before they are written.
+SECONDS_OF_A_BATCH = 0.5
+
+Say = Callable[[str], None]
+
+
+class FolderTaken(Exception):
+    """Another keeper has the folder."""
+
+
+class Service:
+    """A service over a connection that isn't made again: the sidecar behind a new one may be another run of it."""
+
+    def __init__(self, connection: Connection, name: str) -> None:
+        self._connection, self._name = connection, name
+
+    def ask(self, method: str, route: str, body: Any = None) -> Any:
+        """Returns the JSON of an answer."""
+        text = None if body is None else json.dumps(body).encode()
+        status, answer = self._connection.ask(method, f"/v1/services/{self._name}/{route}", text)
+        if status != 200:
+            raise refusal(status, answer)
+        return answer
+
+    def page(self, number: int) -> list[Entry]:
+        """Returns at most 100 entries, the first that are held from a number on."""
+        entries: list[Entry] = self.ask("GET", f"journal/{number}")["entries"]
+        return entries
+
+    def batch(self, number: int) -> tuple[list[Entry], bool]:
+        """Returns the entries that are held from a number on, up to a batch, and whether there may be more."""
+        entries: list[Entry] = []
+        end = time.monotonic() + SECONDS_OF_A_BATCH
+        while len(entries) < ENTRIES_OF_A_BATCH and time.monotonic() < end:
+            page = self.page(number)
+            entries += page
+            if len(page) < ENTRIES_OF_A_PAGE:
+                return entries, False
+            number = page[-1]["number"] + 1
+        return entries, True
+
+    def is_anew(self, last: Entry) -> bool:
+        """Returns whether the sidecar was started anew since an entry was kept."""
+        entries = self.page(last["number"])
+        if not entries:
+            return bool(self.ask("GET", "state")["entries"] < last["number"])
+        return bool(entries[0]["number"] == last["number"] and entries[0] != last)
+
+
+class ServiceKeeper:
+    """Keeps the journal of one service."""
+
+    def __init__(self, folder: str, service: str, most_bytes: int, release_after: float | None, say: Say) -> None:
+        self.service, self._say = service, say
+        self._journal = Journal(folder, service, most_bytes)
+        self._release_after = release_after
+        self._tickets = OpenTickets() if release_after is None else open_tickets(folder, service)
+        # The last entry that was kept of this run of the sidecar.
+        self._last = self._journal.last
+        self._next = 1
+        self.kept = self.rolled = 0
+        if self._journal.repaired:
+            say(f"{service}: the last line was written in part: its {self._journal.repaired} bytes are taken off")
+
+    def begin_turn(self, service: Service) -> None:
+        """Finds the entry with which a turn begins."""
+        if self._last is not None and service.is_anew(self._last):
+            self._say(f"{self.service}: the sidecar was started anew: its entries are numbered from 1 again")
+            self._last = None
+            self._tickets = OpenTickets()
+        self._next = 1 if self._last is None else self._last["number"] + 1
+
+    def keep_batch(self, service: Service) -> bool:
+        """Keeps a batch of entries, and rolls up to the last one. Returns whether there may be more."""
+        entries, has_more = service.batch(self._next)
+        if entries:
+            missing = entries[0]["number"] - self._next
+            if missing > 0 and self._journal.last is not None:
+                self._say(f"{self.service}: {missing} entries from {self._next} on were dropped before they were kept")
+            self._journal.append(entries)
+            self._last = entries[-1]
+            self._next = entries[-1]["number"] + 1
+            self.kept += len(entries)
+            if self._release_after is not None:
+                self._tickets.note(entries)
+        # Up to the last one that was written, in this turn or in an earlier one.
+        self.rolled += service.ask("POST", "roll", {"to": self._next - 1})["entries"]
+        return has_more
+
+    def release_old(self, service: Service) -> None:
+        """Releases the tickets that are open for too long, and says which."""
+        if self._release_after is None:
+            return
+        now = max(time.time() * 1000, self._journal.last["moment"] if self._journal.last else 0)
+        for ticket, issued in self._tickets.older_than(int(now - self._release_after * 1000)):
+            try:
+                service.ask("POST", "release", {"ticket": ticket})
+                self._say(f"{self.service}: released ticket {ticket}, which was issued at {time_of(issued):%FT%TZ}")
+            except TicketNotOpen:
+                pass  # It has ended meanwhile.
+            self._tickets.forget(ticket)
+
+
+class Keeper:
+    """Keeps the journals of several services of a sidecar, over one connection a turn."""
+
+    def __init__(
+        self, folder: str, address: str, services: list[str], most_bytes: int, release_after: float | None, say: Say
+    ) -> None:
+        os.makedirs(folder, exist_ok=True)
+        self._lock = os.open(f"{folder}/.lock", os.O_RDWR | os.O_CREAT | os.O_CLOEXEC, 0o644)
+        try:
+            fcntl.flock(self._lock, fcntl.LOCK_EX | fcntl.LOCK_NB)
+        except BlockingIOError:
+            os.close(self._lock)
+            raise FolderTaken(f"another keeper has {folder}") from None
+        self._address = address
+        self._keepers = [ServiceKeeper(folder, service, most_bytes, release_after, say) for service in services]
+
+    def close(self) -> None:
+        """Lets another keeper have the folder."""
+        os.close(self._lock)
+
+    def turn(self) -> str:
+        """Keeps all that is new, a batch of each service at a time, and returns how much that was."""
+        connection = Connection(self._address, SECONDS_TO_ANSWER, reopened=False)
+        try:
+            connection.open()
+            services = {keeper: Service(connection, keeper.service) for keeper in self._keepers}
+            for keeper, service in services.items():
+                keeper.kept = keeper.rolled = 0
+                keeper.begin_turn(service)
+            left = list(services)
+            while left:
+                left = [keeper for keeper in left if keeper.keep_batch(services[keeper])]
+            for keeper, service in services.items():
+                keeper.release_old(service)
+        finally:
+            connection.close()
+        told = (f"{keeper.service}: kept {keeper.kept} entries, rolled {keeper.rolled}" for keeper in self._keepers)
+        return "\n".join(told)
+
+
+# What ends a turn, and is made up for by the next one.
+TURN_FAILS = (NoAnswer, WithNumber, OSError)
+# What no later turn mends.
+NEVER_MENDED = (NoService,)

@@ -1,0 +1,310 @@
+"""Shows against a server that each entry is kept once, whatever happens meanwhile."""
+
+import contextlib
+import gzip
+import io
+import json
+import os
+import resource
+import signal
+import subprocess
+import sys
+import tempfile
+import threading
+import time
+import unittest
+from typing import Any
+
+import delvoumi
+from delvoumi_journal.files import BadFile, Journal, entries_in, files_of
+from delvoumi_journal.keeper import FolderTaken, Keeper
+from delvoumi_journal.main import main
+from delvoumi_journal.reading import check
+from testbed import TOP, Relay, Server, wait_for
+
+JOURNAL = f"{TOP}/contrib/journal/journal"
+DAY = 86_400_000
+
+
+def run(*words: str) -> tuple[int, list[str]]:
+    """Runs a command that isn't `keep`, and returns its status and the lines that it prints."""
+    printed = io.StringIO()
+    with contextlib.redirect_stdout(printed), contextlib.redirect_stderr(printed):
+        status = main(list(words))
+    return status, printed.getvalue().splitlines()
+
+
+def entry(number: int, moment: int = 0) -> dict[str, Any]:
+    """Returns an entry as a sidecar makes it."""
+    return {
+        "event": "reset",
+        "moment": moment,
+        "number": number,
+        "reply": {"period": number, "state": "CLOSED"},
+        "seat": 1,
+    }
+
+
+class Case(unittest.TestCase):
+    def setUp(self) -> None:
+        folder = tempfile.TemporaryDirectory()
+        self.addCleanup(folder.cleanup)
+        self.folder = folder.name
+
+    def numbers(self, service: str = "pay") -> list[int]:
+        """Returns the numbers of all entries that are kept."""
+        return [each["number"] for name in files_of(self.folder, service) for each in entries_in(name)]
+
+
+class WithServer(Case):
+    def setUp(self) -> None:
+        super().setUp()
+        self.server = Server()
+        self.addCleanup(self.server.__exit__)
+
+    def keep(self, *words: str, **how: Any) -> tuple[int, list[str]]:
+        """Takes one turn in a process of its own, and returns its status and the lines that it prints."""
+        command = [sys.executable, JOURNAL, "keep", self.folder, self.server.address, *words]
+        both = {"stdout": subprocess.PIPE, "stderr": subprocess.STDOUT, "text": True}
+        ran = subprocess.run(command, timeout=60, check=False, **both, **how)
+        return ran.returncode, ran.stdout.splitlines()
+
+    def keeping(self, address: str, *words: str) -> subprocess.Popen[str]:
+        """Returns a keeper that goes on, which ends with the test."""
+        command = [sys.executable, JOURNAL, "keep", self.folder, address, "pay", "--every", "0.05", *words]
+        keeper = subprocess.Popen(command, stdout=subprocess.PIPE, text=True)
+
+        def end() -> None:
+            keeper.kill()
+            keeper.communicate()
+
+        self.addCleanup(end)
+        return keeper
+
+
+class EntriesAreKept(WithServer):
+    def test_a_turn_keeps_all_services_and_changes_nothing_else(self) -> None:
+        file = f"{self.folder}/sidecar.json"
+        with open(file, "w", encoding="utf-8") as settings:
+            json.dump({"services": [{"name": "pay"}, {"name": "ship"}]}, settings)
+        self.server.move("HALF_OPEN")
+        self.server.ask("POST", "acquire")
+        self.server.ask("POST", "reset", service="ship")
+        before = self.server.ask("GET", "state")
+        told = ["pay: kept 2 entries, rolled 2", "ship: kept 1 entries, rolled 1"]
+        self.assertEqual(self.keep("--services-of", file), (0, told))
+        self.assertEqual((self.server.ask("GET", "state"), self.server.journal()), (before, []))
+        self.assertEqual((self.numbers(), self.numbers("ship")), ([1, 2], [1]))
+        self.assertEqual(self.keep("pay"), (0, ["pay: kept 0 entries, rolled 0"]))
+        self.assertEqual(self.keep("none"), (1, ["journal: 404 NoService"]))
+
+    def test_none_is_lost_or_twice_under_load_and_over_rotations(self) -> None:
+        keeper = self.keeping(self.server.address, "--megabytes", "0.02")
+        goes_on = threading.Event()
+        goes_on.set()
+
+        def work() -> None:
+            sidecar = delvoumi.Sidecar(self.server.address, "pay", seconds=10)
+            while goes_on.is_set():
+                sidecar.release(sidecar.acquire())
+            sidecar.close()
+
+        threads = [threading.Thread(target=work) for _ in range(4)]
+        for thread in threads:
+            thread.start()
+        try:
+            wait_for(lambda: len(files_of(self.folder, "pay")) > 3, "files are rotated", 40)
+        finally:
+            goes_on.clear()
+            for thread in threads:
+                thread.join()
+        last = self.server.state("entries")[0]
+        wait_for(lambda: self.server.journal() == [], "all is rolled")
+        keeper.terminate()
+        self.assertEqual(keeper.wait(20), 0)
+        self.assertEqual(self.numbers(), list(range(1, last + 1)))
+        files = files_of(self.folder, "pay")
+        self.assertEqual([name.endswith(".gz") for name in files], [True] * (len(files) - 1) + [False])
+        self.assertEqual(run("verify", *files), (0, [f"{last} entries of 1 runs, 0 faults"]))
+
+    def test_a_keeper_that_is_killed_is_made_up_for(self) -> None:
+        for _ in range(3):
+            keeper = self.keeping(self.server.address)
+            for _ in range(40):
+                self.server.ask("POST", "reset")
+            keeper.send_signal(signal.SIGKILL)
+            keeper.wait()
+        self.assertEqual(self.keep("pay")[0], 0)
+        self.assertEqual(self.numbers(), list(range(1, 121)))
+
+    def test_a_half_written_line_is_taken_off(self) -> None:
+        self.server.ask("POST", "reset")
+        self.assertEqual(self.keep("pay")[0], 0)
+        with open(f"{self.folder}/pay.jsonl", "a", encoding="utf-8") as file:
+            file.write('{"event": "acqu')
+        self.server.ask("POST", "reset")
+        taken = "pay: the last line was written in part: its 15 bytes are taken off"
+        self.assertEqual(self.keep("pay"), (0, [taken, "pay: kept 1 entries, rolled 1"]))
+        self.assertEqual(self.numbers(), [1, 2])
+
+    def test_what_cannot_be_written_is_not_rolled(self) -> None:
+        for _ in range(5):
+            self.server.ask("POST", "reset")
+        full = {"preexec_fn": lambda: resource.setrlimit(resource.RLIMIT_FSIZE, (250, 250))}
+        status, lines = self.keep("pay", **full)
+        self.assertEqual((status, len(lines)), (1, 1))
+        self.assertRegex(lines[0], r"^this turn failed: \[Errno ")
+        self.assertEqual((self.numbers(), len(self.server.journal())), ([], 5))
+        self.assertEqual(self.keep("pay")[0], 0)
+        self.assertEqual((self.numbers(), self.server.journal()), ([1, 2, 3, 4, 5], []))
+
+    def test_a_keeper_goes_on_over_a_restart_of_the_sidecar(self) -> None:
+        relay = Relay(self.server)
+        self.addCleanup(relay.close)
+        keeper = self.keeping(relay.address)
+        for _ in range(3):
+            self.server.ask("POST", "reset")
+        wait_for(lambda: self.numbers() == [1, 2, 3], "three entries are kept")
+        self.server.stop()
+        time.sleep(0.2)
+        self.assertIsNone(keeper.poll())
+        self.server.start_again()
+        self.server.ask("POST", "reset")
+        wait_for(lambda: self.numbers() == [1, 2, 3, 1], "an entry of the new run is kept")
+        keeper.terminate()
+        lines = keeper.communicate(timeout=20)[0].splitlines()
+        self.assertIn("pay: the sidecar was started anew: its entries are numbered from 1 again", lines)
+        self.assertEqual(sum(line.startswith("this turn failed: no answer") for line in lines) > 0, True)
+        self.assertEqual(check(files_of(self.folder, "pay")).runs, 2)
+
+    def test_what_others_roll_is_told(self) -> None:
+        self.server.ask("POST", "reset")
+        self.keep("pay")
+        for _ in range(3):
+            self.server.ask("POST", "reset")
+        self.server.ask("POST", "roll", {"to": 3})
+        told = "pay: 2 entries from 2 on were dropped before they were kept"
+        self.assertEqual(self.keep("pay"), (0, [told, "pay: kept 1 entries, rolled 1"]))
+        files = files_of(self.folder, "pay")
+        fault = f"{self.folder}/pay.jsonl: number 4 comes behind 1"
+        self.assertEqual(run("verify", *files), (1, [fault, "2 entries of 1 runs, 1 faults"]))
+
+    def test_old_tickets_are_released_if_asked(self) -> None:
+        for _ in range(3):
+            self.server.ask("POST", "acquire")
+        self.server.ask("POST", "release", {"ticket": 2})
+        self.assertEqual(self.keep("pay", "--release-after", "60")[0], 0)
+        self.assertEqual(self.server.state("open"), [2])
+        time.sleep(0.05)
+        # The tickets were issued before this keeper was started, and their entries are in the file alone.
+        status, lines = self.keep("pay", "--release-after", "0.01")
+        self.assertEqual(
+            (status, lines[0][:27], lines[1][:27]), (0, "pay: released ticket 1, whi", "pay: released ticket 3, whi")
+        )
+        self.assertEqual(self.server.state("open"), [0])
+        self.assertEqual(self.keep("pay", "--release-after", "0.01"), (0, ["pay: kept 2 entries, rolled 2"]))
+
+    def test_an_interval_is_above_zero(self) -> None:
+        for word in ("--every", "--megabytes", "--release-after"):
+            for number in ("0", "-1", "inf", "soon"):
+                self.assertEqual(self.keep("pay", word, number)[0], 2)
+
+    def test_one_keeper_has_a_folder(self) -> None:
+        keeper = Keeper(self.folder, self.server.address, ["pay"], 1, None, print)
+        self.addCleanup(keeper.close)
+        with self.assertRaises(FolderTaken):
+            Keeper(self.folder, self.server.address, ["pay"], 1, None, print)
+        self.assertEqual(self.keep("pay"), (1, [f"journal: another keeper has {self.folder}"]))
+
+
+class FilesAreRotated(Case):
+    def test_by_size_and_by_day(self) -> None:
+        journal = Journal(self.folder, "pay", 1_000_000)
+        journal.append([entry(1, DAY - 1), entry(2, DAY), entry(3, DAY + 1)])
+        journal.append([entry(4, DAY + 2)])
+        journal.append([entry(5, 3 * DAY)])
+        names = [os.path.basename(name) for name in files_of(self.folder, "pay")]
+        self.assertEqual([name[:16] for name in names], ["pay.19700101T235", "pay.19700102T000", "pay.jsonl"])
+        self.assertEqual([len(list(entries_in(name))) for name in files_of(self.folder, "pay")], [1, 3, 1])
+        small = Journal(self.folder, "pay", 10)
+        small.append([entry(6, 3 * DAY)])
+        small.append([entry(7, 3 * DAY)])
+        self.assertEqual((len(files_of(self.folder, "pay")), self.numbers()), (5, [1, 2, 3, 4, 5, 6, 7]))
+
+    def test_one_that_was_cut_short_is_ended(self) -> None:
+        Journal(self.folder, "pay", 1_000).append([entry(1), entry(2)])
+        renamed = f"{self.folder}/pay.19700101T000000.000000Z.{2:020}.jsonl"
+        os.rename(f"{self.folder}/pay.jsonl", renamed)
+        with open(f"{renamed}.gz.part", "wb") as file:
+            file.write(b"half")
+        self.assertEqual(Journal(self.folder, "pay", 1_000).last, entry(2))
+        self.assertEqual(
+            (self.numbers(), sorted(os.listdir(self.folder))), ([1, 2], [os.path.basename(renamed) + ".gz"])
+        )
+        # Compressed, but the file is there still.
+        with gzip.open(f"{renamed}.gz") as packed, open(renamed, "wb") as file:
+            file.write(packed.read())
+        self.assertEqual(self.numbers(), [1, 2])
+        self.assertEqual(Journal(self.folder, "pay", 1_000).last, entry(2))
+        self.assertEqual((self.numbers(), os.listdir(self.folder)), ([1, 2], [os.path.basename(renamed) + ".gz"]))
+
+    def test_a_file_of_something_else_is_left(self) -> None:
+        with open(f"{self.folder}/pay.jsonl", "w", encoding="utf-8") as file:
+            file.write("no entry\nnor here")
+        with self.assertRaises(BadFile):
+            Journal(self.folder, "pay", 1_000)
+        self.assertEqual(os.path.getsize(f"{self.folder}/pay.jsonl"), 17)
+
+
+class FilesAreRead(Case):
+    def write(self, *entries: dict[str, Any]) -> str:
+        name = f"{self.folder}/pay.jsonl"
+        with open(name, "w", encoding="utf-8") as file:
+            file.writelines(json.dumps(each) + "\n" for each in entries)
+        return name
+
+    def test_verify(self) -> None:
+        name = self.write(entry(1), entry(2), entry(2), entry(4), entry(1), entry(2, -1))
+        faults = [
+            f"{name}: number 2 comes behind 2",
+            f"{name}: number 4 comes behind 2",
+            f"{name}: the moment of number 2 is before that of the one before",
+        ]
+        self.assertEqual(run("verify", name), (1, [*faults, "6 entries of 2 runs, 3 faults"]))
+
+    def test_show(self) -> None:
+        report = {"fate": "recorded", "state": "OPEN", "steps": 6, "verdict": "failure", "version": 1}
+        refused = {"error": 31, "name": "CallNotPermitted"}
+        name = self.write(
+            {"event": "acquire", "moment": 1, "number": 1, "reply": {"state": "CLOSED", "ticket": 1, "version": 1}},
+            {"event": "report", "moment": 2, "number": 2, "ticket": 1, "reply": report},
+            {"event": "acquire", "moment": DAY, "number": 3, "reply": refused},
+            {"event": "install", "moment": DAY, "number": 4, "reply": {"budget": 7, "version": 2}},
+            {
+                "event": "transition",
+                "moment": DAY,
+                "number": 5,
+                "to": "CLOSED",
+                "reply": {"period": 3, "state": "CLOSED"},
+            },
+            {"event": "release", "moment": DAY, "number": 6, "ticket": 9, "reply": {"error": 33, "name": "NoTicket"}},
+        )
+        lines = [
+            "1970-01-01 00:00:00.001         1  CLOSED        acquire     ticket 1",
+            "1970-01-01 00:00:00.002         2  OPEN          report      ticket 1: failure, recorded",
+            "1970-01-02 00:00:00.000         3  OPEN          acquire     31 CallNotPermitted",
+            "1970-01-02 00:00:00.000         4  OPEN          install     version 2, budget 7",
+            "1970-01-02 00:00:00.000         5  CLOSED        transition  to CLOSED, period 3",
+            "1970-01-02 00:00:00.000         6  CLOSED        release     ticket 9: 33 NoTicket",
+        ]
+        self.assertEqual(run("show", name), (0, lines))
+        self.assertEqual(run("show", name, "--state", "OPEN"), (0, lines[1:4]))
+        self.assertEqual(
+            run("show", name, "--event", "acquire", "--event", "release"), (0, [lines[0], lines[2], lines[5]])
+        )
+        self.assertEqual(run("show", name, "--begin", "1970-01-02"), (0, lines[2:]))
+        self.assertEqual(run("show", name, "--end", "1970-01-01T00:00:00.002"), (0, lines[:1]))
+
+
+if __name__ == "__main__":
+    unittest.main()
