@@ -52,6 +52,10 @@ pub fn drop_front(unread: &mut Vec<u8>, count: usize)
     requires within { count ≤ length unread.old.items }
     ensures { unread.new.items ≡ drop count unread.old.items }
 {
+    if count == unread.len() {
+        unread.clear();
+        return;
+    }
     unread.drain(..count);
 }
 

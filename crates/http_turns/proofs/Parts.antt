@@ -70,6 +70,18 @@ module _ {S C : Type 0} (refusal : Fault → List ℕ) (responds : S → ℕ →
     (λ goes. absurd goes),
   )
 
+  -- a round that only writes
+  pub rounds_of_write : (q : Type 0) (a b : ConnectionData) (i : Option (List ℕ)) (s : S) (c : C) (f g : Option (List ℕ)) → b.stage ≡ a.stage → b.unread ≡ a.unread → b.answers ≡ a.answers → IsSent f g a.pending b.pending → (q → ⊥)
+      → HasRounds refusal responds ticks 1 2048 q a i s c f b i s c g
+  rounds_of_write q a b i s c f g same stays count puts stops =
+      rounds_weaker 0 0 1 2048 ⊥ q a b i i s c s c f g (rounds_by_write a b i s c f g same stays count puts) (omega arith) (omega arith) stops
+
+  -- a round that first writes
+  pub rounds_behind_write : (q : Type 0) (a b z : ConnectionData) (i j : Option (List ℕ)) (s : S) (c : C) (t : S) (d : C) (f g : Option (List ℕ)) → b.stage ≡ a.stage → b.unread ≡ a.unread → b.answers ≡ a.answers → IsSent f g a.pending b.pending
+      → HasRounds refusal responds ticks 1 2048 q b i s c g z j t d g → HasRounds refusal responds ticks 1 2048 q a i s c f z j t d g
+  rounds_behind_write q a b z i j s c t d f g same stays count puts goes =
+      rounds_on 0 0 1 2048 ⊥ q a b z i i j s c s c t d f g g (rounds_by_write a b i s c f g same stays count puts) goes
+
   progress_by : (a b : ConnectionData) (exchange : Exchange) → a.stage ≡ stage.Open → StandsSo answered.Yes exchange.steps b → IsProgress a exchange b
   progress_by a b exchange opened (inl some) = inr (inl some)
   progress_by a b exchange opened (inr closes) = inr (inr (inr (opened, closes)))

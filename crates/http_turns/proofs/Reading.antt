@@ -1,18 +1,20 @@
 -- How a turn goes on behind a read.
 use Rattle.std.proofs.Common.{eqb-true, ◌≡◌, ◌≢◌, ◌<◌, ℕ, List, [], ◌∷◌, length, ◌==◌, Bool, true, false, Option, refl, sym, ap, ◌∙◌, arith, inl, inr}
-use Rattle.polled_io.specs.Counts.{PolledData}
+use Rattle.polled_io.specs.Counts.{PolledData, CountsNothing}
 use Rattle.http_messages.specs.Messages.{IsPartOfMessage}
 use Rattle.http_serving.specs.Serving.{IsUnfinished}
 use Rattle.http_serving.specs.declared.ended.Ended.{Ended}
+use Rattle.http_serving.specs.declared.ended.Ended.TheVariants as end
 use Rattle.http_turns.specs.declared.input.Filled.{Filled}
 use Rattle.http_turns.specs.declared.input.Filled.TheVariants as filled
 use Rattle.http_turns.specs.declared.stage.Stage.TheVariants as stage
 use Rattle.http_turns.specs.declared.turned.Turned.{Turned}
 use Rattle.http_turns.specs.declared.turned.Turned.TheVariants as turned
 use Rattle.http_turns.specs.declared.turned.Want.{Want}
+use Rattle.http_turns.specs.declared.turned.Want.TheVariants as want
 use Rattle.http_turns.specs.Calls.{IsFilled, turned_by}
 use Rattle.http_turns.specs.Connections.{ConnectionData}
-use Rattle.http_turns.specs.Ends.{IsRead}
+use Rattle.http_turns.specs.Ends.{IsRead, IsTurned}
 
 -- what a turn says that doesn't go on
 pub waits_apart : {want : Want} → turned.Waits want ≡ turned.GoesOn → ⊥
@@ -60,3 +62,16 @@ longer_by filled.End false result unread new has before after by is goes = absur
 longer_by filled.Nothing empty result unread new has before after by is goes = absurd (waits_apart (sym by ∙ goes))
 longer_by filled.Failed empty result unread new has before after by is goes = absurd (ended_apart (sym by ∙ goes))
 longer_by filled.NoMemory empty result unread new has before after by is goes = absurd (ended_apart (sym by ∙ goes))
+
+-- a round ends as its read does, behind a writer that took all
+pub turned_by_read : {R W : Type 0} (result : Turned) (connection : ConnectionData) (has : Option (List ℕ)) (reader reader_after : PolledData R) (writer writer_after : PolledData W)
+    → IsRead result connection has reader reader_after → CountsNothing writer writer_after → IsTurned result connection has reader reader_after writer writer_after
+turned_by_read turned.GoesOn connection has reader reader_after writer writer_after read nothing = (read, nothing)
+turned_by_read (turned.Waits want.Bytes) connection has reader reader_after writer writer_after read nothing = (read, nothing)
+turned_by_read (turned.Waits want.Room) connection has reader reader_after writer writer_after read nothing = absurd read
+turned_by_read (turned.Ended end.Closed) connection has reader reader_after writer writer_after read nothing = (read, nothing)
+turned_by_read (turned.Ended end.Truncated) connection has reader reader_after writer writer_after read nothing = (read, nothing)
+turned_by_read (turned.Ended end.Finished) connection has reader reader_after writer writer_after read nothing = absurd read
+turned_by_read (turned.Ended end.ReadFailed) connection has reader reader_after writer writer_after read nothing = (read, nothing)
+turned_by_read (turned.Ended end.WriteFailed) connection has reader reader_after writer writer_after read nothing = absurd read
+turned_by_read (turned.Ended end.OutOfMemory) connection has reader reader_after writer writer_after read nothing = (read, nothing)

@@ -1,13 +1,11 @@
 //! Answering one message.
 ghost use Rattle.std.specs.Prelude.{◌≡◌, []};
 ghost use Rattle.http_messages.specs.Messages.{HasFault};
-ghost use Rattle.http_serving.specs.Reading.{IsFound};
-ghost use Rattle.http_serving.specs.declared.input.Found.TheVariants as found;
 ghost use Rattle.http_turns.specs.Answering.{HasAnswered};
 
 use crate::connection::Connection;
 use crate::stage::Stage;
-use http_messages::{Fault, Front, Head, HeadParser};
+use http_messages::{Fault, Front, HeadParser};
 use http_serving::{Clock, Responder, drop_front, request_at};
 
 /// What became of the next message.
@@ -42,39 +40,7 @@ fn refuse<S, P: Responder<S>, C: Clock>(
     Answered::Yes
 }
 
-/// Answers a whole message at the moment that the clock tells.
-fn respond<S, P: Responder<S>, C: Clock>(
-    connection: &mut Connection,
-    head: &Head,
-    responder: &P,
-    state: &mut S,
-    clock: &mut C,
-) -> Answered
-    requires open { connection.old.stage ≡ Stage.Open }
-    requires whole { IsFound connection.old.unread (found.Whole head.now) }
-    ensures { HasAnswered P.refusal P.responds C.ticks result connection.old state.old clock.old connection.new state.new clock.new }
-{
-    let moment = clock.now_ms();
-    let request = request_at(&connection.unread, head);
-    connection.answers = connection.answers.wrapping_add(1);
-    connection.sent = 0;
-    if responder
-        .respond(state, moment, &request, &mut connection.text)
-        .is_err()
-    {
-        connection.text.clear();
-        connection.stage = Stage::Lost;
-        return Answered::NoMemory;
-    }
-    if head.closes {
-        connection.stage = Stage::Last;
-        return Answered::Yes;
-    }
-    drop_front(&mut connection.unread, head.size + head.body);
-    Answered::Yes
-}
-
-/// Answers the message at the front of the unread bytes, if it is whole.
+/// Answers the message at the front of the unread bytes at the moment that the clock tells, or refuses it, if it is whole.
 pub(crate) fn answer_next<S, P: Responder<S>, C: Clock>(
     connection: &mut Connection,
     parser: &mut HeadParser,
@@ -86,6 +52,9 @@ pub(crate) fn answer_next<S, P: Responder<S>, C: Clock>(
     requires written { connection.old.pending ≡ [] }
     ensures { HasAnswered P.refusal P.responds C.ticks result connection.old state.old clock.old connection.new state.new clock.new }
 {
+    if connection.unread.is_empty() {
+        return Answered::Incomplete;
+    }
     match parser.front(&connection.unread) {
         Front::Part => Answered::Incomplete,
         Front::Refused(fault) => refuse(connection, responder, fault, state, clock),
@@ -93,7 +62,24 @@ pub(crate) fn answer_next<S, P: Responder<S>, C: Clock>(
             if connection.unread.len() < head.size + head.body {
                 return Answered::Incomplete;
             }
-            respond(connection, &head, responder, state, clock)
+            let moment = clock.now_ms();
+            let request = request_at(&connection.unread, &head);
+            connection.answers = connection.answers.wrapping_add(1);
+            connection.sent = 0;
+            if responder
+                .respond(state, moment, &request, &mut connection.text)
+                .is_err()
+            {
+                connection.text.clear();
+                connection.stage = Stage::Lost;
+                return Answered::NoMemory;
+            }
+            if head.closes {
+                connection.stage = Stage::Last;
+                return Answered::Yes;
+            }
+            drop_front(&mut connection.unread, head.size + head.body);
+            Answered::Yes
         }
     }
 }

@@ -45,7 +45,7 @@ impl Connection {
         }
     }
 
-    /// What the connection is about: what it waits for where its last turn waited.
+    /// Whether the connection is idle, a part of a message has come, or the rest of an answer is to be written.
     pub fn phase(&self) -> Phase
         ensures { IsPhase result self.now }
     {

@@ -14,7 +14,7 @@ pub struct Intake {
 }
 
 impl Intake {
-    /// Makes one. The error is want of memory.
+    /// Makes a parser that has parsed nothing, and room for one read. The error is want of memory.
     pub fn new(alloc: Global) -> Result<Intake, AllocError> {
         let parser = HeadParser::new(alloc)?;
         Ok(Intake {

@@ -1,7 +1,7 @@
 //! One round of a turn.
-ghost use Rattle.std.specs.Prelude.{◌≡◌, ℕ, List, [], Option};
+ghost use Rattle.std.specs.Prelude.{◌≡◌};
 ghost use Rattle.http_turns.specs.Exchanges.{HasRounds};
-ghost use Rattle.http_turns.specs.Ends.{IsRead, IsTurned};
+ghost use Rattle.http_turns.specs.Ends.{IsTurned};
 
 use crate::answering::{Answered, answer_next};
 use crate::connection::Connection;
@@ -14,30 +14,7 @@ use http_serving::{Clock, Ended, Responder};
 use polled_io::Polled;
 use std::io::{Read, Write};
 
-/// Answers the next message, or reads where it isn't whole.
-fn answer_or_read<S, P: Responder<S>, R: Read, C: Clock>(
-    connection: &mut Connection,
-    intake: &mut Intake,
-    reader: &mut Polled<R>,
-    responder: &P,
-    state: &mut S,
-    clock: &mut C,
-) -> Turned
-    requires open { connection.old.stage ≡ Stage.Open }
-    requires written { connection.old.pending ≡ [] }
-    ensures gone { (held : Option (List ℕ)) → HasRounds P.refusal P.responds C.ticks 1 2048 (result ≡ Turned.GoesOn) connection.old (R.remaining reader.old.inner) state.old clock.old held connection.new (R.remaining reader.new.inner) state.new clock.new held }
-    ensures read { IsRead result connection.new (R.remaining reader.new.inner) reader.old reader.new }
-{
-    match answer_next(connection, &mut intake.parser, responder, state, clock) {
-        Answered::Yes => return Turned::GoesOn,
-        Answered::Incomplete => {}
-        Answered::NoMemory => return Turned::Ended(Ended::OutOfMemory),
-    }
-    let filled = fill(reader, &mut intake.piece, &mut connection.unread);
-    turned_by(filled, connection.unread.is_empty())
-}
-
-/// Writes what is pending, and where that is all, answers the next message or reads.
+/// Writes what is pending, and where that is all, answers the next message, or reads where it isn't whole.
 pub(crate) fn round<S, P: Responder<S>, R: Read, W: Write, C: Clock>(
     connection: &mut Connection,
     intake: &mut Intake,
@@ -56,8 +33,15 @@ pub(crate) fn round<S, P: Responder<S>, R: Read, W: Write, C: Clock>(
         Written::Failed => return Turned::Ended(Ended::WriteFailed),
     }
     match connection.stage {
-        Stage::Open => answer_or_read(connection, intake, reader, responder, state, clock),
-        Stage::Last => Turned::Ended(Ended::Finished),
-        Stage::Lost => Turned::Ended(Ended::OutOfMemory),
+        Stage::Open => {}
+        Stage::Last => return Turned::Ended(Ended::Finished),
+        Stage::Lost => return Turned::Ended(Ended::OutOfMemory),
     }
+    match answer_next(connection, &mut intake.parser, responder, state, clock) {
+        Answered::Yes => return Turned::GoesOn,
+        Answered::Incomplete => {}
+        Answered::NoMemory => return Turned::Ended(Ended::OutOfMemory),
+    }
+    let filled = fill(reader, &mut intake.piece, &mut connection.unread);
+    turned_by(filled, connection.unread.is_empty())
 }

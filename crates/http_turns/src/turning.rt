@@ -1,6 +1,6 @@
 //! A turn of a connection.
 ghost use Rattle.std.specs.Prelude.{◌≡◌};
-ghost use Rattle.http_turns.specs.Exchanges.{HasGone, HasGoneWithin, HasProgressed, HasRounds};
+ghost use Rattle.http_turns.specs.Exchanges.{HasGone, HasGoneWithin, HasProgressed};
 ghost use Rattle.http_turns.specs.Ends.{IsTurned};
 
 use crate::connection::Connection;
@@ -13,28 +13,6 @@ use std::io::{Read, Write};
 
 /// How often a turn reads, or answers a message, before others come first.
 const MOST_ROUNDS: u32 = 64;
-
-/// Takes rounds until one doesn't go on, or there were enough.
-fn take_rounds<S, P: Responder<S>, R: Read, W: Write, C: Clock>(
-    connection: &mut Connection,
-    intake: &mut Intake,
-    reader: &mut Polled<R>,
-    writer: &mut Polled<W>,
-    responder: &P,
-    state: &mut S,
-    clock: &mut C,
-) -> Turned
-    ensures gone { HasRounds P.refusal P.responds C.ticks 64 131072 (result ≡ Turned.GoesOn) connection.old (R.remaining reader.old.inner) state.old clock.old (W.contents writer.old.inner) connection.new (R.remaining reader.new.inner) state.new clock.new (W.contents writer.new.inner) }
-    ensures turned { IsTurned result connection.new (R.remaining reader.new.inner) reader.old reader.new writer.old writer.new }
-{
-    'rounds: for _ in 0..MOST_ROUNDS {
-        match round(connection, intake, reader, writer, responder, state, clock) {
-            Turned::GoesOn => {}
-            ended => return ended,
-        }
-    }
-    Turned::GoesOn
-}
 
 /// Gives a connection a turn: it writes what is pending, answers each whole message at the moment that the clock tells,
 /// and reads, until a call would have to wait, the connection ends, or the turn was long enough: it answers at most 64
@@ -61,5 +39,11 @@ pub fn turn<S, P: Responder<S>, R: Read, W: Write, C: Clock>(
     // Why it waits or ended: where it waits for bytes no whole message is left, and where it waits for room an answer is.
     ensures turned { IsTurned result connection.new (R.remaining reader.new.inner) reader.old reader.new writer.old writer.new }
 {
-    take_rounds(connection, intake, reader, writer, responder, state, clock)
+    'rounds: for _ in 0..MOST_ROUNDS {
+        match round(connection, intake, reader, writer, responder, state, clock) {
+            Turned::GoesOn => {}
+            ended => return ended,
+        }
+    }
+    Turned::GoesOn
 }

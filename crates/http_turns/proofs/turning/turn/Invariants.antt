@@ -1,7 +1,7 @@
 use Rattle.std.proofs.Common.{◌*◌, ◌<◌}
 use Rattle.polled_io.specs.Counts.{CountsNothing}
 use Rattle.http_turns.specs.Exchanges.{HasRounds}
-use Rattle.http_turns.proofs.turning.take_rounds.Given as goal
+use Rattle.http_turns.proofs.turning.turn.Given as goal
 
 -- each round so far went on
 abbrev pub invariant-rounds : goal.invariant-rounds
