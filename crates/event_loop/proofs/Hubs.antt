@@ -1,7 +1,6 @@
 -- What happens to a hub while nothing is answered.
-use Rattle.std.proofs.Common.{◌≡◌, ◌≢◌, ◌⊎◌, inl, inr, ℕ, List, [], Bool, true, false, Option, Some, None, ap, sym, ◌∙◌, refl, arith, is_some, slice_index_or}
+use Rattle.std.proofs.Common.{◌≡◌, ◌≢◌, ◌⊎◌, inl, inr, ℕ, List, [], true, false, Option, Some, None, ap, sym, ◌∙◌, refl, arith, is_some, slice_index_or}
 use Rattle.slab.specs.Slab.{Slab, Updates, get}
-use Rattle.event_loop.specs.declared.opened.Opened.{Opened}
 use Rattle.event_loop.specs.declared.hub.Hub.{Hub}
 use Rattle.event_loop.specs.Hubs.{HasNoOther}
 use Rattle.event_loop.proofs.Logs.{either}

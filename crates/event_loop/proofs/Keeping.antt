@@ -2,18 +2,25 @@
 use Rattle.std.proofs.Common.{◌≡◌, ◌≢◌, ◌⊎◌, inl, inr, ◌<◌, ◌≤◌, ℕ, suc, List, [], ◌++◌, Option, Some, None, ap, sym, ◌∙◌, refl, subst, append_assoc, arith}
 use Rattle.std.proofs.lemmas.List.{append-nil}
 use Rattle.slab.specs.Slab.{Slab, Updates, get}
+use Rattle.polled_io.specs.Counts.{PolledData}
 use Rattle.http_messages.specs.declared.front.Fault.{Fault}
 use Rattle.http_serving.specs.declared.ended.Ended.{Ended}
+use Rattle.http_serving.specs.declared.ended.Ended.TheVariants as end
 use Rattle.http_serving.specs.Requests.{HttpRequestData}
 use Rattle.http_turns.specs.declared.stage.Stage.TheVariants as stage
+use Rattle.http_turns.specs.declared.turned.Turned.{Turned}
+use Rattle.http_turns.specs.declared.turned.Turned.TheVariants as turned
 use Rattle.http_turns.specs.Connections.{ConnectionData, new_connection}
-use Rattle.http_turns.specs.Steps.{Step, AreSteps}
+use Rattle.http_turns.specs.Ends.{IsTurned}
+use Rattle.http_turns.specs.Exchanges.{HasGone}
+use Rattle.http_turns.specs.Steps.{Step}
 use Rattle.http_turns.specs.Turns.{Goes}
 use Rattle.http_turns.proofs.Chains.{goes_on, goes_still, steps_behind}
 use Rattle.event_loop.specs.declared.opened.Opened.{Opened}
 use Rattle.event_loop.specs.declared.hub.Hub.{Hub}
+use Rattle.event_loop.specs.Ends.{ended_of}
 use Rattle.event_loop.specs.Log.{LoggedStep, EndsSo, HasServed, IsConnection, all_steps, steps_of}
-use Rattle.event_loop.specs.Hubs.{AreOpen, HasMoved, HasNoOther, HasOneMore, IsFed, IsOpen, Keeps, KeepsOn}
+use Rattle.event_loop.specs.Hubs.{AreOpen, HasMoved, HasNoOther, HasOneMore, IsFed, IsOpen, IsPutBack, Keeps, KeepsOn}
 use Rattle.event_loop.proofs.Hubs.{is_or_was, left_was, no_slot, or_else}
 use Rattle.event_loop.proofs.Logs.{all_both, either, steps_other, steps_own, tag}
 
@@ -125,6 +132,18 @@ module _ (refusal : Fault → List ℕ) where
   differ_old : (log : List LoggedStep) (old new : Slab Opened) (next key : ℕ) (one : Opened) → Updates old new key None → get old key ≡ Some one → AreOpen refusal log old next → (k : ℕ) (other : Opened) → get new k ≡ Some other → other.number ≢ one.number
   differ_old log old new next key one updates here are k other is same = (let was = left_was old new key k other updates is in was.1 (are.apart k key other one was.0 here same))
 
+  -- how a connection ended, by how its turn did
+  ends_by : {R W : Type 0} (result : Turned) (connection : ConnectionData) (has : Option (List ℕ)) (reader reader_after : PolledData R) (writer writer_after : PolledData W)
+      → IsTurned result connection has reader reader_after writer writer_after → EndsSo (ended_of result) connection.stage connection.unread connection.pending
+  ends_by turned.GoesOn connection has reader reader_after writer writer_after is = tt
+  ends_by (turned.Waits want) connection has reader reader_after writer writer_after is = tt
+  ends_by (turned.Ended end.Closed) connection has reader reader_after writer writer_after (((opened, none), empty, ended, counts), nothing) = (opened, empty, none)
+  ends_by (turned.Ended end.Truncated) connection has reader reader_after writer writer_after (((opened, none), part, ended, counts), nothing) = (opened, part, none)
+  ends_by (turned.Ended end.Finished) connection has reader reader_after writer writer_after (last, none, still, nothing) = (last, none)
+  ends_by (turned.Ended end.ReadFailed) connection has reader reader_after writer writer_after (((opened, none), part, counts), nothing) = (opened, part, none)
+  ends_by (turned.Ended end.WriteFailed) connection has reader reader_after writer writer_after (some, still, counts) = some
+  ends_by (turned.Ended end.OutOfMemory) connection has reader reader_after writer writer_after ((apart, none, still), nothing) = (apart, none)
+
   module _ {S C : Type 0} (responds : S → ℕ → HttpRequestData → List ℕ → S → Type 0) (ticks : C → ℕ → C → Type 0) where
     -- a connection that is left as it is
     pub moved_none : (one other : Opened) (s : S) (c : C) → other.number ≡ one.number → other.connection ≡ one.connection → HasMoved refusal responds ticks one s c other s c None
@@ -175,3 +194,21 @@ module _ (refusal : Fault → List ℕ) where
               (λ k two there twin. differ_old log old.connections slab old.next key one updates here opened k two there (twin ∙ is))
               beside,
         )
+
+    -- what was put back is there, and what wasn't is closed
+    pub keeps_put : (old new : Hub) (slab : Slab Opened) (key : ℕ) (one other : Opened) (s : S) (c : C) (t : S) (d : C) (end : Option Ended)
+        → Updates old.connections slab key None → get old.connections key ≡ Some one → HasMoved refusal responds ticks one s c other t d end
+        → IsPutBack other (record { connections = slab; next = old.next }) new → KeepsOn refusal responds ticks old s c new t d
+    keeps_put old new slab key one other s c t d end updates here moved (next, inl closed) first begun keeps =
+        let (log, are, answered, opened) = keeps_closed old slab key one other s c t d end updates here moved first begun keeps in
+        (log, are, answered, rw (closed, next) opened)
+    keeps_put old new slab key one other s c t d end updates here moved (next, inr (at, back, returns, number, connection)) first begun keeps =
+        let (log, are, answered, opened) = keeps_back old slab new.connections key at one other back s c t d end updates here moved returns number connection first begun keeps in
+        (log, are, answered, rw next opened)
+
+    -- a turn over a stream moves a connection to where it then stands
+    pub moved_by_turn : {R W : Type 0} (one other : Opened) (to : ConnectionData) (result : Turned) (s : S) (c : C) (t : S) (d : C) (had has held holds : Option (List ℕ)) (reader reader_after : PolledData R) (writer writer_after : PolledData W)
+        → other.number ≡ one.number → other.connection ≡ to → HasGone refusal responds ticks one.connection had s c held to has t d holds → IsTurned result to has reader reader_after writer writer_after
+        → HasMoved refusal responds ticks one s c other t d (ended_of result)
+    moved_by_turn one other to result s c t d had has held holds reader reader_after writer writer_after number same (exchange, is) turned =
+        (number, (exchange.bytes, exchange.steps, exchange.text, exchange.sent, is.1, rw same is.3, rw same is.4, rw same (ends_by result to has reader reader_after writer writer_after turned)))

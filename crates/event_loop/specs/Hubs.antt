@@ -1,6 +1,6 @@
 -- What a hub of connections keeps while they are served.
 use Rattle.std.specs.Prelude.{◌≡◌, ◌≢◌, ◌⊎◌, ◌<◌, ◌≤◌, ℕ, suc, List, [], ◌++◌, Option, Some}
-use Rattle.slab.specs.Slab.{Slab, get}
+use Rattle.slab.specs.Slab.{Slab, Updates, get}
 use Rattle.http_messages.specs.declared.front.Fault.{Fault}
 use Rattle.http_serving.specs.declared.ended.Ended.{Ended}
 use Rattle.http_serving.specs.Requests.{HttpRequestData}
@@ -29,6 +29,13 @@ HasOneMore old new =
 -- some connections were closed, and then at most one came in
 abbrev pub IsFed : Hub → Hub → Type 0
 IsFed old new = (between : Hub) × HasNoOther old between × (HasNoOther between new ⊎ HasOneMore between new)
+
+-- a connection was put back under some key, or was closed
+abbrev pub IsPutBack : Opened → Hub → Hub → Type 0
+IsPutBack one old new =
+    (new.next ≡ old.next)
+    × ((new.connections ≡ old.connections)
+    ⊎ ((at : ℕ) × (back : Opened) × Updates old.connections new.connections at (Some back) × (back.number ≡ one.number) × (back.connection ≡ one.connection)))
 
 -- ---- what is kept while connections are answered
 

@@ -1,5 +1,5 @@
 -- The log of a worker: one step after another, each for a message of one of its connections.
-use Rattle.std.specs.Prelude.{◌≡◌, ◌≢◌, ℕ, List, [], ◌∷◌, ◌++◌, ◌==◌, Option, Some, None, Bool, if◌then◌else◌, ⊤}
+use Rattle.std.specs.Prelude.{◌≡◌, ◌≢◌, ℕ, List, [], ◌∷◌, ◌++◌, ◌==◌, Option, Some, None, if◌then◌else◌, ⊤}
 use Rattle.http_messages.specs.declared.front.Fault.{Fault}
 use Rattle.http_messages.specs.Messages.{IsPartOfMessage}
 use Rattle.http_serving.specs.declared.ended.Ended.{Ended}

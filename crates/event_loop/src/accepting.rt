@@ -7,6 +7,7 @@ ghost use Rattle.event_loop.specs.Hubs.{HasNoOther, HasOneMore, IsFed};
 use crate::failure::ListenerFailed;
 use crate::hub::{Hub, close, longest_idle, make_room, take_in};
 use crate::limits::{Limits, SharedCounts, is_left};
+use crate::patience::idle_deadline;
 use mio::unix::SourceFd;
 use mio::{Interest, Poll, Token};
 use std::alloc::Global;
@@ -20,6 +21,12 @@ const TO_GIVE_WAY: u64 = 2;
 
 /// For how many milliseconds a worker waits where as many connections are open as may be, and none of its own is idle.
 const TO_FIND_ROOM: u64 = 20;
+
+/// How many milliseconds lie between two looks at which worker has the connection that has been idle for longest, and how
+/// often in a row a worker looks before it takes its own.
+const TO_LOOK_AGAIN: u64 = 1;
+
+const MOST_TRIES: u32 = 20;
 
 /// For how many milliseconds a worker waits where accepting failed for a reason that may pass.
 const TO_ACCEPT_AGAIN: u64 = 100;
@@ -35,25 +42,31 @@ const EMFILE: i32 = 24;
 pub(crate) struct Accepting {
     /// The number of the connection that it accepts next.
     pub(crate) number: u64,
+    /// The worker's own number, from 0 on.
+    worker: usize,
     /// Why it accepts no more.
     pub(crate) failure: Option<ListenerFailed>,
     /// Whether a connection may wait at the listener.
     is_waiting: bool,
     /// Whether it has let others accept the connection that waits.
     has_given_way: bool,
-    /// Before this moment it doesn't accept, in milliseconds since it began.
+    /// How often in a row it has looked in vain whether its own connection is the one that has been idle for longest.
+    tries: u32,
+    /// Before this moment it doesn't accept, in milliseconds of the system's clock.
     not_before: u64,
     ghost sound: { IfSome failure IsOfListener } by { Prim.hlevel props },
 }
 
 impl Accepting {
-    /// A worker that drew the number of its first connection.
-    pub(crate) fn new(number: u64) -> Accepting {
+    /// A worker of a number, from 0 on, that drew the number of its first connection.
+    pub(crate) fn new(worker: usize, number: u64) -> Accepting {
         Accepting {
             number,
+            worker,
             failure: None,
             is_waiting: true,
             has_given_way: false,
+            tries: 0,
             not_before: 0,
         }
     }
@@ -61,11 +74,17 @@ impl Accepting {
     /// Says that connections came to the listener.
     pub(crate) fn wake(&mut self) {
         self.is_waiting = true;
+        self.tries = 0;
     }
 
-    /// Whether it accepts connections still.
+    /// Whether it accepts further connections.
+    fn is_open(&self, limits: Limits) -> bool {
+        self.failure.is_none() && is_left(limits.connections, self.number)
+    }
+
+    /// Whether it accepts a connection that waits.
     fn goes_on(&self, limits: Limits) -> bool {
-        self.is_waiting && self.failure.is_none() && is_left(limits.connections, self.number)
+        self.is_waiting && self.is_open(limits)
     }
 
     /// For how many milliseconds the worker may wait until it accepts.
@@ -146,6 +165,30 @@ fn admit(
     take_in(hub, shared, alloc, stream, now);
 }
 
+/// Finds the connection that is to be closed for another one, if it is the worker's: the one that has been idle for
+/// longest among all. Where another worker may have that one, this worker looks again a moment later, and after some
+/// milliseconds takes its own.
+fn find_idle(
+    hub: &Hub,
+    shared: &SharedCounts,
+    accepting: &mut Accepting,
+    now: u64,
+) -> Option<usize> {
+    let Some(idle) = longest_idle(hub) else {
+        shared.idle.tell(accepting.worker, idle_deadline(now));
+        accepting.pause(now, TO_FIND_ROOM);
+        return None;
+    };
+    shared.idle.tell(accepting.worker, idle.deadline);
+    if accepting.tries < MOST_TRIES && !shared.idle.is_earliest(idle.deadline) {
+        accepting.tries += 1;
+        accepting.pause(now, TO_LOOK_AGAIN);
+        return None;
+    }
+    accepting.tries = 0;
+    Some(idle.key)
+}
+
 /// The place of a connection among those that may be open.
 #[derive(Clone, Copy)]
 enum Room {
@@ -158,11 +201,17 @@ enum Room {
 }
 
 /// Looks for room for a connection, where so many may be open. A place that is free is taken.
-fn find_room(hub: &Hub, shared: &SharedCounts, most: u64) -> Room {
+fn find_room(
+    hub: &Hub,
+    shared: &SharedCounts,
+    most: u64,
+    accepting: &mut Accepting,
+    now: u64,
+) -> Room {
     if shared.enter(most) {
         return Room::Free;
     }
-    match longest_idle(hub) {
+    match find_idle(hub, shared, accepting, now) {
         Some(key) => Room::Of(key),
         None => Room::None,
     }
@@ -195,7 +244,7 @@ fn refuse(
     if !accepting.fail(error, now) {
         return;
     }
-    if let Some(key) = longest_idle(hub) {
+    if let Some(key) = find_idle(hub, shared, accepting, now) {
         close(hub, shared, key);
         accepting.pause(now, 0);
     }
@@ -214,12 +263,15 @@ pub(crate) fn accept_next(
 )
     ensures { IsFed hub.old hub.new }
 {
+    if !accepting.is_open(limits) {
+        shared.idle.leave(accepting.worker);
+        return;
+    }
     if !accepting.is_due(limits, shared, hub.count(), now) {
         return;
     }
-    let room = find_room(hub, shared, limits.most_open);
+    let room = find_room(hub, shared, limits.most_open, accepting, now);
     if let Room::None = room {
-        accepting.pause(now, TO_FIND_ROOM);
         return;
     }
     match listener.accept() {

@@ -1,11 +1,13 @@
 //! The open connections of a worker.
 ghost use Rattle.std.specs.Prelude.{◌≡◌, ◌⊎◌};
-ghost use Rattle.event_loop.specs.Hubs.{HasNoOther, HasOneMore, KeepsOn};
+ghost use Rattle.slab.specs.Slab.{HasRoomFor};
+ghost use Rattle.event_loop.specs.Hubs.{HasNoOther, HasOneMore, IsPutBack, KeepsOn};
 
 use crate::limits::SharedCounts;
 use crate::opened::{Opened, Served};
 use http_serving::{Clock, Responder};
-use http_turns::Intake;
+use http_turns::{Intake, turn};
+use polled_io::Polled;
 use slab::Slab;
 use std::alloc::Global;
 use std::net::TcpStream;
@@ -44,31 +46,74 @@ impl Hub {
     }
 }
 
-/// Gives the connection under a key a turn, and closes it where it ended. Answers whether it has more to do at once.
-pub(crate) fn serve_one<S, P: Responder<S>, C: Clock>(
+/// Puts a connection back behind its turn. One that has more to do at once comes into a list; without memory for that it
+/// is closed, and so is one that ended.
+fn put_back(
+    hub: &mut Hub,
+    shared: &SharedCounts,
+    again: &mut Vec<usize>,
+    key: usize,
+    mut one: Opened,
+    served: Served,
+)
+    requires room { HasRoomFor hub.old.connections 1 }
+    ensures { IsPutBack one hub.old hub.new }
+{
+    let stays = match served {
+        Served::Closed => false,
+        Served::Waits => true,
+        Served::GoesOn => again.push(key).is_ok(),
+    };
+    if !stays {
+        shared.leave();
+        return;
+    }
+    one.goes_on = served == Served::GoesOn;
+    hub.connections.insert_reserved(one);
+}
+
+/// Gives the connection under a key a turn, at a moment in milliseconds of the system's clock, or reads on behind its last
+/// answer. One that has more to do at once comes into a list; without memory for that it is closed, and so is one that
+/// ended.
+pub(crate) fn serve_key<S, P: Responder<S>, C: Clock>(
     hub: &mut Hub,
     shared: &SharedCounts,
     key: usize,
+    again: &mut Vec<usize>,
     intake: &mut Intake,
     responder: &P,
     state: &mut S,
     clock: &mut C,
     now: u64,
-) -> bool
+)
     ensures { KeepsOn P.refusal P.responds C.ticks hub.old state.old clock.old hub.new state.new clock.new }
 {
     let Some(mut one) = hub.connections.try_remove(key) else {
-        return false;
+        return;
     };
-    let served = one.serve(intake, responder, state, clock, now);
-    if served == Served::Closed {
-        shared.leave();
-        return false;
+    if let Some(pieces) = one.lingering {
+        let served = one.linger(pieces);
+        put_back(hub, shared, again, key, one, served);
+        return;
     }
-    let goes_on = served == Served::GoesOn;
-    one.goes_on = goes_on;
-    hub.connections.insert_reserved(one);
-    goes_on
+    let Opened {
+        stream,
+        connection,
+        ..
+    } = &mut one;
+    let mut reader = Polled::new(&*stream);
+    let mut writer = Polled::new(&*stream);
+    let turned = turn(
+        connection,
+        intake,
+        &mut reader,
+        &mut writer,
+        responder,
+        state,
+        clock,
+    );
+    let served = one.settle(turned, now);
+    put_back(hub, shared, again, key, one, served);
 }
 
 /// Takes a connection in, under the key that is free next. The place that it took among those of all workers is given
@@ -105,14 +150,24 @@ pub(crate) fn close(hub: &mut Hub, shared: &SharedCounts, key: usize)
     }
 }
 
-/// The key of the connection that has been idle for longest, if one is idle.
-pub(crate) fn longest_idle(hub: &Hub) -> Option<usize> {
+/// A connection that is idle.
+#[derive(Clone, Copy)]
+pub(crate) struct Idle {
+    pub(crate) key: usize,
+    pub(crate) deadline: u64,
+}
+
+/// The connection that has been idle for longest, if one is idle.
+pub(crate) fn longest_idle(hub: &Hub) -> Option<Idle> {
     let mut found = None;
     let mut least = u64::MAX;
     for (key, one) in hub.connections.iter() {
         if one.deadline < least && one.is_idle() {
             least = one.deadline;
-            found = Some(key);
+            found = Some(Idle {
+                key,
+                deadline: least,
+            });
         }
     }
     found

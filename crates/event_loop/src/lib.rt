@@ -4,6 +4,7 @@
 mod accepting;
 mod failure;
 mod hub;
+mod idle;
 mod limits;
 mod linger;
 mod meeting;

@@ -2,6 +2,7 @@
 ghost use Rattle.std.specs.Prelude.{◌≡◌};
 ghost use Rattle.event_loop.specs.Numbers.{is_left};
 
+use crate::idle::IdleTable;
 use crate::meeting::Meeting;
 use std::sync::atomic::{AtomicU64, Ordering};
 use std::time;
@@ -23,13 +24,15 @@ pub(crate) fn is_left(connections: u64, number: u64) -> bool
 }
 
 /// What the workers of one listener share: how many numbers of connections were drawn, how many connections are open,
-/// and how many workers are at work.
+/// how many workers began and how many are at work, and which of them has the connection that has been idle for longest.
 #[derive(Drop)]
 pub struct SharedCounts {
     numbers: AtomicU64,
     open: AtomicU64,
+    begun: AtomicU64,
     workers: AtomicU64,
     meeting: Meeting,
+    pub(crate) idle: IdleTable,
 }
 
 impl SharedCounts {
@@ -38,8 +41,10 @@ impl SharedCounts {
         SharedCounts {
             numbers: AtomicU64::new(0),
             open: AtomicU64::new(0),
+            begun: AtomicU64::new(0),
             workers: AtomicU64::new(0),
             meeting: Meeting::new(workers),
+            idle: IdleTable::new(),
         }
     }
 
@@ -49,10 +54,13 @@ impl SharedCounts {
     }
 
     /// Says that one more worker is at work, and waits for the others, half a second at most: so each has drawn a number
-    /// before one accepts.
-    pub(crate) fn begin(&self, time: &impl time::Clock) {
+    /// before one accepts. Returns the worker's own number, from 0 on.
+    pub(crate) fn begin(&self, time: &impl time::Clock) -> usize {
+        let worker = self.begun.fetch_add(1, Ordering::SeqCst);
         self.workers.fetch_add(1, Ordering::SeqCst);
+        self.idle.tell(worker as usize, 0);
         self.meeting.attend(time);
+        worker as usize
     }
 
     /// Says that a worker ends, which has no connection open.

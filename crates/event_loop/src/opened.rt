@@ -1,15 +1,11 @@
 //! A connection that is open.
-ghost use Rattle.std.specs.Prelude.{◌≡◌, Option};
-ghost use Rattle.http_serving.specs.declared.ended.Ended.{Ended};
+ghost use Rattle.std.specs.Prelude.{◌≡◌};
 ghost use Rattle.http_turns.specs.Connections.{new_connection};
-ghost use Rattle.event_loop.specs.Ends.{ended_of};
-ghost use Rattle.event_loop.specs.Hubs.{HasMoved};
 
 use crate::linger::{Lingering, MOST_PIECES, read_on};
-use crate::patience::{MOST_LINGERING, patience};
-use http_serving::{Clock, Ended, Responder};
-use http_turns::{Connection, Intake, Phase, Turned, turn};
-use polled_io::Polled;
+use crate::patience::{MOST_LINGERING, idle_deadline, patience};
+use http_serving::Ended;
+use http_turns::{Connection, Phase, Turned};
 use std::alloc::Global;
 use std::net::{Shutdown, TcpStream};
 
@@ -20,7 +16,7 @@ pub(crate) struct Opened {
     pub(crate) connection: Connection,
     /// No other connection of the worker has this number, or had it.
     pub(crate) number: u64,
-    /// When it is closed, in milliseconds since the worker began.
+    /// When it is closed, in milliseconds of the system's clock.
     pub(crate) deadline: u64,
     /// What it was about when the deadline was set, and how many messages were answered then.
     pub(crate) phase: Phase,
@@ -45,7 +41,7 @@ pub(crate) enum Served {
 }
 
 impl Opened {
-    /// A connection of a number, of which nothing was read, at a moment in milliseconds since the worker began.
+    /// A connection of a number, of which nothing was read, at a moment in milliseconds of the system's clock.
     pub(crate) fn new(alloc: Global, stream: TcpStream, number: u64, now: u64) -> Opened
         ensures number { result.number ≡ number }
         ensures connection { result.connection ≡ new_connection }
@@ -54,7 +50,7 @@ impl Opened {
             stream,
             connection: Connection::new(alloc),
             number,
-            deadline: now.saturating_add(patience(Phase::Idle)),
+            deadline: idle_deadline(now),
             phase: Phase::Idle,
             answers: 0,
             lingering: None,
@@ -79,7 +75,7 @@ impl Opened {
     }
 
     /// Reads on behind the last answer, where so many pieces may still come.
-    fn linger(&mut self, pieces: u32) -> Served
+    pub(crate) fn linger(&mut self, pieces: u32) -> Served
         ensures number { self.new.number ≡ self.old.number }
         ensures connection { self.new.connection ≡ self.old.connection }
     {
@@ -108,39 +104,12 @@ impl Opened {
         self.linger(MOST_PIECES)
     }
 
-    /// Gives the connection a turn over its stream.
-    fn turn<S, P: Responder<S>, C: Clock>(
-        &mut self,
-        intake: &mut Intake,
-        responder: &P,
-        state: &mut S,
-        clock: &mut C,
-    ) -> Turned
-        ensures { HasMoved P.refusal P.responds C.ticks self.old state.old clock.old self.new state.new clock.new (ended_of result) }
-    {
-        let Opened {
-            stream,
-            connection,
-            ..
-        } = self;
-        let mut reader = Polled::new(&*stream);
-        let mut writer = Polled::new(&*stream);
-        turn(
-            connection,
-            intake,
-            &mut reader,
-            &mut writer,
-            responder,
-            state,
-            clock,
-        )
-    }
-
-    /// What becomes of the connection behind a turn that ended so.
-    fn settle(&mut self, turned: Turned, now: u64) -> Served
+    /// What becomes of the connection behind a turn that ended so, at a moment in milliseconds of the system's clock.
+    pub(crate) fn settle(&mut self, turned: Turned, now: u64) -> Served
         ensures number { self.new.number ≡ self.old.number }
         ensures connection { self.new.connection ≡ self.old.connection }
     {
+        self.is_new = false;
         match turned {
             Turned::GoesOn => {
                 self.renew(now);
@@ -153,26 +122,6 @@ impl Opened {
             Turned::Ended(Ended::Finished) => self.begin_to_linger(now),
             Turned::Ended(_) => Served::Closed,
         }
-    }
-
-    /// Gives the connection a turn, at a moment in milliseconds since the worker began; or reads on, behind its last
-    /// answer. Behind `Closed` it is to be dropped.
-    pub(crate) fn serve<S, P: Responder<S>, C: Clock>(
-        &mut self,
-        intake: &mut Intake,
-        responder: &P,
-        state: &mut S,
-        clock: &mut C,
-        now: u64,
-    ) -> Served
-        ensures { (end : Option Ended) × HasMoved P.refusal P.responds C.ticks self.old state.old clock.old self.new state.new clock.new end }
-    {
-        self.is_new = false;
-        if let Some(pieces) = self.lingering {
-            return self.linger(pieces);
-        }
-        let turned = self.turn(intake, responder, state, clock);
-        self.settle(turned, now)
     }
 
     /// Whether it is idle: it was given a turn, nothing of a message was there, and all is answered and sent.

@@ -22,3 +22,8 @@ pub(crate) fn patience(phase: Phase) -> u64 {
         Phase::Answer => MOST_FOR_AN_ANSWER,
     }
 }
+
+/// When a connection is to be closed that becomes idle at a moment, both in milliseconds of the system's clock.
+pub(crate) fn idle_deadline(now: u64) -> u64 {
+    now.saturating_add(MOST_IDLE)
+}

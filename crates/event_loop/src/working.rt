@@ -1,13 +1,12 @@
 //! A worker: it waits until connections are ready, and gives each a turn.
 ghost use Rattle.std.specs.Prelude.{◌≡◌, false, IfOk, IfErr};
 ghost use Rattle.event_loop.specs.Failures.{IsOfListener};
-ghost use Rattle.event_loop.specs.Hubs.{KeepsOn};
 ghost use Rattle.event_loop.specs.Log.{HasServed};
 ghost use Rattle.event_loop.specs.Numbers.{is_left};
 
 use crate::accepting::{Accepting, accept_next};
 use crate::failure::ListenerFailed;
-use crate::hub::{Hub, close, serve_one, sweep};
+use crate::hub::{Hub, serve_key, sweep};
 use crate::limits::{Limits, SharedCounts, is_left};
 use http_serving::{Clock, Responder};
 use http_turns::Intake;
@@ -17,7 +16,7 @@ use std::alloc::Global;
 use std::net::{Net, TcpListener};
 use std::os::fd::AsRawFd;
 use std::sync::Wait;
-use std::time::{Duration, Instant};
+use std::time::Duration;
 use std::{io, mem, thread, time};
 
 /// The listener among what is polled. Connections have their keys.
@@ -38,11 +37,11 @@ struct Tools {
     poll: Poll,
     events: Events,
     intake: Intake,
-    begun: Instant,
 }
 
 impl Tools {
-    /// Makes them, and has the listener polled, which then waits no more where nobody comes.
+    /// Makes them, sees that the clock can be read, and has the listener polled, which then waits no more where nobody
+    /// comes.
     fn new<R: Net + time::Clock>(
         rt: &R,
         alloc: Global,
@@ -51,7 +50,7 @@ impl Tools {
         let poll = Poll::new(rt)?;
         let events = Events::with_capacity(alloc, MOST_EVENTS)?;
         let intake = Intake::new(alloc)?;
-        let begun = Instant::now(rt)?;
+        rt.monotonic()?;
         listener.set_nonblocking(true)?;
         let fd = listener.as_raw_fd();
         poll.registry()
@@ -60,7 +59,6 @@ impl Tools {
             poll,
             events,
             intake,
-            begun,
         })
     }
 
@@ -80,87 +78,11 @@ impl Tools {
     }
 }
 
-/// How many milliseconds have gone by since a moment; where the clock can't be read, as many as before.
-fn elapsed(time: &impl time::Clock, begun: &Instant, before: u64) -> u64 {
-    match begun.elapsed(time) {
-        Ok(elapsed) => u64::try_from(elapsed.as_millis()).unwrap_or(before),
+/// What the system's clock shows that never goes back, in milliseconds; where it can't be read, the moment before.
+fn moment_after(time: &impl time::Clock, before: u64) -> u64 {
+    match time.monotonic() {
+        Ok(moment) => u64::try_from(moment.as_millis()).unwrap_or(before),
         Err(_) => before,
-    }
-}
-
-/// Gives the connection under a key a turn, and puts it into a list where it has more to do at once. Without memory for
-/// that it is closed.
-fn serve_key<S, P: Responder<S>, C: Clock>(
-    hub: &mut Hub,
-    shared: &SharedCounts,
-    key: usize,
-    again: &mut Vec<usize>,
-    intake: &mut Intake,
-    responder: &P,
-    state: &mut S,
-    clock: &mut C,
-    now: u64,
-)
-    ensures { KeepsOn P.refusal P.responds C.ticks hub.old state.old clock.old hub.new state.new clock.new }
-{
-    if !serve_one(hub, shared, key, intake, responder, state, clock, now) {
-        return;
-    }
-    if again.push(key).is_err() {
-        close(hub, shared, key);
-    }
-}
-
-/// Gives each connection with an event a turn, but for those that are given one anyway. Answers whether connections
-/// came to the listener.
-fn serve_events<S, P: Responder<S>, C: Clock>(
-    hub: &mut Hub,
-    shared: &SharedCounts,
-    events: &Events,
-    again: &mut Vec<usize>,
-    intake: &mut Intake,
-    responder: &P,
-    state: &mut S,
-    clock: &mut C,
-    now: u64,
-) -> bool
-    ensures { KeepsOn P.refusal P.responds C.ticks hub.old state.old clock.old hub.new state.new clock.new }
-{
-    let mut has_come = false;
-    'events: for event in events {
-        let token = event.token();
-        if token == LISTENER {
-            has_come = true;
-            continue;
-        }
-        if hub.goes_on(token.0) {
-            continue;
-        }
-        serve_key(
-            hub, shared, token.0, again, intake, responder, state, clock, now,
-        );
-    }
-    has_come
-}
-
-/// Gives each connection that had more to do a turn.
-fn serve_all<S, P: Responder<S>, C: Clock>(
-    hub: &mut Hub,
-    shared: &SharedCounts,
-    keys: &[usize],
-    again: &mut Vec<usize>,
-    intake: &mut Intake,
-    responder: &P,
-    state: &mut S,
-    clock: &mut C,
-    now: u64,
-)
-    ensures { KeepsOn P.refusal P.responds C.ticks hub.old state.old clock.old hub.new state.new clock.new }
-{
-    'keys: for key in keys {
-        serve_key(
-            hub, shared, *key, again, intake, responder, state, clock, now,
-        );
     }
 }
 
@@ -170,8 +92,8 @@ fn serve_all<S, P: Responder<S>, C: Clock>(
 /// answers the number that was not left; the error says why the listener accepts no more. Where accepting fails for a
 /// reason that may pass, it accepts again a moment later. How a connection ends ends nothing else.
 ///
-/// No more than `limits.most_open` connections are open at once among all workers. Where they are, the one of the worker that
-/// has been idle for longest is closed for a new one. One that is idle for 75 seconds is closed, and so is one whose
+/// No more than `limits.most_open` connections are open at once among all workers. Where they are, the one that has been
+/// idle for longest is closed for a new one, whichever worker serves it. One that is idle for 75 seconds is closed, and so is one whose
 /// message isn't whole 20 seconds after its first byte, or whose answer isn't taken within 20 seconds.
 pub fn work<R: Wait + Net + time::Clock, S, P: Responder<S>, C: Clock>(
     rt: &R,
@@ -195,15 +117,14 @@ pub fn work<R: Wait + Net + time::Clock, S, P: Responder<S>, C: Clock>(
         mut poll,
         mut events,
         mut intake,
-        begun,
     } = Tools::wait_for(rt, alloc, listener);
     let mut hub = Hub::new(alloc);
-    let mut accepting = Accepting::new(shared.draw());
+    let number = shared.draw();
+    let mut accepting = Accepting::new(shared.begin(rt), number);
     let mut keys = Vec::new(alloc);
     let mut again = Vec::new(alloc);
-    let mut now = 0;
+    let mut now = moment_after(rt, 0);
     let mut swept = 0;
-    shared.begin(rt);
     'rounds: for _ in rt.forever() {
         if hub.connections.is_empty() {
             if let Some(failure) = accepting.failure {
@@ -226,33 +147,40 @@ pub fn work<R: Wait + Net + time::Clock, S, P: Responder<S>, C: Clock>(
         {
             thread::sleep(rt, Duration::from_millis(1));
         }
-        now = elapsed(rt, &begun, now);
+        now = moment_after(rt, now);
         mem::swap(&mut keys, &mut again);
         again.clear();
-        if serve_events(
-            &mut hub,
-            shared,
-            &events,
-            &mut again,
-            &mut intake,
-            responder,
-            state,
-            clock,
-            now,
-        ) {
-            accepting.wake();
+        'events: for event in &events {
+            let Token(key) = event.token();
+            if event.token() == LISTENER {
+                accepting.wake();
+            } else if !hub.goes_on(key) {
+                serve_key(
+                    &mut hub,
+                    shared,
+                    key,
+                    &mut again,
+                    &mut intake,
+                    responder,
+                    state,
+                    clock,
+                    now,
+                );
+            }
         }
-        serve_all(
-            &mut hub,
-            shared,
-            &keys,
-            &mut again,
-            &mut intake,
-            responder,
-            state,
-            clock,
-            now,
-        );
+        'keys: for key in &keys {
+            serve_key(
+                &mut hub,
+                shared,
+                *key,
+                &mut again,
+                &mut intake,
+                responder,
+                state,
+                clock,
+                now,
+            );
+        }
         accept_next(
             alloc,
             &poll,

@@ -7,3 +7,6 @@ returns-then-not-is_due c = (c.args.hub.now, no_other_same c.args.hub.now, inl (
 
 pub returns-in-None : goal.returns-in-None
 returns-in-None c = (c.args.hub.now, no_other_same c.args.hub.now, inl (no_other_same c.args.hub.now))
+
+pub returns-then-not-is_open : goal.returns-then-not-is_open
+returns-then-not-is_open c = (c.args.hub.now, no_other_same c.args.hub.now, inl (no_other_same c.args.hub.now))

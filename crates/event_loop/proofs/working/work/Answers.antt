@@ -8,13 +8,8 @@ pub rounds-preserved-then-now-swept : goal.rounds-preserved-then-now-swept
 rounds-preserved-then-now-swept g c =
     let first = c.args.state.now in
     let begun = c.args.clock.now in
-    let served = c.serve_all.ensures first begun (c.serve_events.ensures first begun c.rounds.invariant) in
-    let fed = keeps_fed g.P.Responder.refusal g.P.Responder.responds g.C.Clock.ticks first begun c.serve_all.new.hub c.accept_next.new.hub c.serve_all.new.state c.serve_all.new.clock c.accept_next.ensures served in
-    keeps_less g.P.Responder.refusal g.P.Responder.responds g.C.Clock.ticks first begun c.accept_next.new.hub c.sweep.new.hub c.serve_all.new.state c.serve_all.new.clock c.sweep.ensures fed
+    let fed = keeps_fed g.P.Responder.refusal g.P.Responder.responds g.C.Clock.ticks first begun c.keys.hub c.accept_next.new.hub c.keys.state c.keys.clock c.accept_next.ensures c.keys.invariant in
+    keeps_less g.P.Responder.refusal g.P.Responder.responds g.C.Clock.ticks first begun c.accept_next.new.hub c.sweep.new.hub c.keys.state c.keys.clock c.sweep.ensures fed
 
 pub rounds-preserved : goal.rounds-preserved
-rounds-preserved g c =
-    let first = c.args.state.now in
-    let begun = c.args.clock.now in
-    let served = c.serve_all.ensures first begun (c.serve_events.ensures first begun c.rounds.invariant) in
-    keeps_fed g.P.Responder.refusal g.P.Responder.responds g.C.Clock.ticks first begun c.serve_all.new.hub c.accept_next.new.hub c.serve_all.new.state c.serve_all.new.clock c.accept_next.ensures served
+rounds-preserved g c = keeps_fed g.P.Responder.refusal g.P.Responder.responds g.C.Clock.ticks c.args.state.now c.args.clock.now c.keys.hub c.accept_next.new.hub c.keys.state c.keys.clock c.accept_next.ensures c.keys.invariant
