@@ -30,7 +30,7 @@ pub fn faultless_is_spelled()
     ensures { (bytes : List ℕ) → ((i : ℕ) → slice_index bytes i < 256) → first_fault bytes ≡ None → (slots : List Slot) × Spells bytes slots }
 {}
 
-/// The number of an opcode names it.
+/// The byte that stands for a listed opcode names that opcode.
 pub fn opcode_numbers_name()
     ensures { (opcode : Opcode) → is_listed opcode ≡ true → opcode_of (opcode_number opcode) ≡ Ok opcode }
 {}
@@ -40,12 +40,13 @@ pub fn opcodes_are_numbered()
     ensures { (byte : ℕ) (opcode : Opcode) → byte < 256 → opcode_of byte ≡ Ok opcode → (opcode_number opcode ≡ byte) × (is_listed opcode ≡ true) }
 {}
 
-/// An instruction that slots can stand for is the one that its slots stand for.
+/// An instruction of the profile that is encoded, and then read, is the same instruction.
 pub fn encoded_is_read()
     ensures { (i : Instruction) (next : Option Slot) → IsInstruction i → IfSome (second_slot i) (λ tail. next ≡ Some tail) → instruction_of (first_slot i) next ≡ Ok i }
 {}
 
-/// What a slot of a program stands for is encoded to the slot, and to the tail behind it.
+/// A slot of a program that is read, and then encoded, is the same slot, with the same tail behind it
+/// where it has one.
 pub fn read_is_encoded()
     ensures { (slot : Slot) (next : Option Slot) (i : Instruction) → IsSlot slot → IfSome next IsSlot → instruction_of slot next ≡ Ok i → Stands slot next i }
 {}

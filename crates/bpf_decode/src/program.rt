@@ -37,19 +37,19 @@ impl Program {
     /// Decodes bytes (RFC 9669, section 3). The error is the first fault: of the length, else of the least
     /// slot that has one. The program keeps the allocator.
     pub fn decode(alloc: Global, bytes: &[u8]) -> Result<Program, DecodeError>
-        // What is decoded is spelled so.
+        // The bytes spell the program that is decoded.
         ensures program { IfOk result (λ slots. Spells bytes.now slots) }
         // An error is the first fault of the bytes, unless memory ran out.
         ensures fault { IfErr result (λ e. IsFirstFault bytes.now e) }
         // The slot of an error is one that a program may have.
         ensures slot { IfErr result (λ e. e.slot < most_slots) }
-        // What is spelled so is decoded, unless memory ran out.
+        // Bytes that spell a program are decoded to it, unless memory ran out.
         ensures complete { (slots : List Slot) → Spells bytes.now slots → MatchResult result (λ p. p ≡ slots) (λ e. e ≡ out_of_memory) }
     {
         Ok(Decoded::decode(alloc, bytes)?.into_program())
     }
 
-    /// The program of slots, whose caller knows that they are one.
+    /// Makes a program of slots that the caller knows to be one. It tests nothing, and takes no memory.
     pub fn from_slots(slots: Vec<Slot>) -> Program
         requires { IsProgram slots.items }
         ensures { result ≡ slots.items }

@@ -107,6 +107,7 @@ pub enum Instruction {
         destination: Register,
         operand: Operand,
     },
+    /// `destination` becomes 0 less itself.
     Negate {
         width: Width,
         destination: Register,

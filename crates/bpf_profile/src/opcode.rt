@@ -257,7 +257,8 @@ fn store_register_coded(mode: u8, code: u8) -> Result<Opcode, RefusalNumber>
 }
 
 impl Opcode {
-    /// What the opcode field names, or `UnknownOpcode` or `LeftOut`.
+    /// The opcode that a byte of the opcode field names. The error is `LeftOut` where RFC 9669 has
+    /// the opcode and the profile leaves it out, and else `UnknownOpcode`.
     #[tactic(auto, unfolding(crate::specs::Opcodes::opcode_of))]
     pub fn named(opcode: u8) -> Result<Opcode, RefusalNumber>
         ensures { result ≡ opcode_of opcode }

@@ -50,7 +50,8 @@ impl Slot {
     }
 }
 
-/// The instruction at a slot of a program; none at the tail of a wide immediate.
+/// The instruction at the index `place`, from 0 on, of a program's slots. None at the tail of a wide
+/// immediate, and at a slot that stands for no instruction.
 pub fn instruction_at(slots: &[Slot], place: usize) -> Option<Instruction>
     requires { place < length slots.now }
     ensures { result ≡ instruction_at slots.now place }

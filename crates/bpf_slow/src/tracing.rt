@@ -11,9 +11,9 @@ use bpf_profile::Layout;
 use helpers::Record;
 use std::alloc::{AllocError, Global};
 
-/// Runs a program on as much of an outcome's record as this layout has, for at most so many
-/// instructions, and answers how that ends: with the answer or the trap of one of them, else that the
-/// program goes on.
+/// Runs a program on as much of an outcome's record as this layout has, for at most `limit`
+/// instructions. Returns how the run ended: with an answer, with a trap, or out of steps. The error
+/// is want of memory.
 ///
 /// Any program may be run, also one that no verifier accepts. Every access is tested, and memory for
 /// the stack's 512 cells is taken once, before the first instruction.

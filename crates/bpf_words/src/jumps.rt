@@ -45,7 +45,8 @@ fn holds32(comparison: Comparison, a: u32, b: u32) -> bool
     }
 }
 
-/// A comparison in class JMP, or, of the low halves, in class JMP32.
+/// Whether a comparison of two words holds: of the words themselves in class JMP (64 bits), of
+/// their low halves in class JMP32 (32 bits).
 pub fn holds(comparison: Comparison, width: Width, a: u64, b: u64) -> bool
     ensures { result ≡ holds comparison width a b }
 {
@@ -55,8 +56,9 @@ pub fn holds(comparison: Comparison, width: Width, a: u64, b: u64) -> bool
     }
 }
 
-/// The slot so many slots after the next one, where a distance is a word that is read as signed. A
-/// target before slot 0 wraps to one past each program's end.
+/// The target of a jump at `slot`: the slot that lies `distance` slots behind the next one. The
+/// distance is a word that is read as signed. A target before slot 0 wraps to one past each
+/// program's end.
 pub fn target_of(slot: usize, distance: u64) -> usize
     requires { slot ≤ most_slots }
     ensures { result ≡ target_of slot distance }

@@ -106,8 +106,9 @@ pub fn low32(n: u64) -> u32
     (n % 0x1_0000_0000) as u32
 }
 
-/// An operation of a class: ALU64, or ALU on the low halves, with the upper half of the result 0
-/// (RFC 9669, section 4.1). Division by 0 gives 0, and the remainder by 0 is the dividend.
+/// Does an operation on two words: on the words themselves in class ALU64, on their low halves in class
+/// ALU, with the upper half of the result 0 (RFC 9669, section 4.1). Division by 0 gives 0, and the
+/// remainder by 0 is the dividend.
 pub fn arithmetic(operation: Operation, width: Width, a: u64, b: u64) -> u64
     ensures { result ≡ arithmetic operation width a b }
 {
@@ -117,7 +118,8 @@ pub fn arithmetic(operation: Operation, width: Width, a: u64, b: u64) -> u64
     }
 }
 
-/// 0 less the number, in class ALU of the low half (RFC 9669, section 4.1).
+/// Subtracts a word from 0; in class ALU its low half, with the upper half of the result 0 (RFC 9669,
+/// section 4.1).
 pub fn negation(width: Width, a: u64) -> u64
     ensures { result ≡ negation width a }
 {

@@ -33,7 +33,8 @@ pub fn next_of(place: usize, instruction: &Instruction) -> Option<usize>
     }
 }
 
-/// The jump offset of a jump, as a word.
+/// The distance of a jump or of a conditional jump, a word that is read as signed. None for any other
+/// instruction.
 pub fn distance_of(instruction: &Instruction) -> Option<u64>
     ensures { result ≡ distance_of instruction.now }
 {
@@ -45,7 +46,8 @@ pub fn distance_of(instruction: &Instruction) -> Option<u64>
     }
 }
 
-/// The target of the instruction's jump.
+/// The slot to which the jump in the slot `place` leads, which may lie outside the program. None for an
+/// instruction that is no jump.
 pub fn jump_of(place: usize, instruction: &Instruction) -> Option<usize>
     requires { place ≤ most_slots }
     ensures { result ≡ option_map (target_of place) (distance_of instruction.now) }

@@ -14,12 +14,12 @@ pub fn write_padded(bytes: &[u8], room: &mut [u8])
     rest.fill(0);
 }
 
-/// Bytes are below 2^8, by their type: for a proof that has to know it of each.
+/// Tells a proof that each of these bytes is below 2^8, as their type says. It does nothing else.
 pub fn show_bytes(bytes: &[u8])
     ensures { AreBytes bytes.now }
 {}
 
-/// Words are below 2^64, by their type.
+/// Tells a proof that each of these words is below 2^64, as their type says. It does nothing else.
 pub fn show_words(words: &[u64])
     ensures { AllByRecursion (λ word. word < 2 ^ 64) words.now }
 {}

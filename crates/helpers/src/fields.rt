@@ -17,7 +17,8 @@ pub enum Kind {
 }
 
 impl Kind {
-    /// The kind of this name; None where there is none.
+    /// The kind of a name: `response`, `timeout`, `refused`, `reset` or `error`. None for any other
+    /// text.
     #[tactic(auto, unfolding(crate::specs::Names::kind_named))]
     pub fn named(name: &str) -> Option<Kind>
         ensures { result ≡ kind_named name.now }
@@ -61,7 +62,7 @@ pub enum Method {
 }
 
 impl Method {
-    /// The method of this name, in which case matters.
+    /// The method that has this name, in capitals, as `GET`. Any other text stands for `Other`.
     #[tactic(auto, unfolding(crate::specs::Names::method_named))]
     pub fn named(name: &str) -> Method
         ensures { result ≡ method_named name.now }

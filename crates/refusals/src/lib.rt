@@ -16,9 +16,10 @@ pub use refusal_text::RefusalText;
 pub enum RefusalNumber {
     /// A program's bytes are none, no whole number of slots, or over 4,096 slots.
     Length,
-    /// An opcode that the profile does not know.
+    /// An opcode that RFC 9669 doesn't have, or a tail where an instruction is wanted.
     UnknownOpcode,
-    /// A field that is not used and not zero, or an offset, width or source that is not listed.
+    /// A field that the instruction doesn't use and that isn't zero, or an offset, width or source that
+    /// isn't listed.
     BadField,
     /// A register over R10, or R10 where it would be written.
     BadRegister,
@@ -32,7 +33,7 @@ pub enum RefusalNumber {
     JumpOut,
     /// A jump into the tail of a wide immediate.
     IntoTail,
-    /// An instruction with no next one.
+    /// An instruction behind which the program goes on past its last slot.
     FallsOff,
     /// An instruction to which no edge leads.
     Unreachable,
@@ -68,11 +69,12 @@ pub enum RefusalNumber {
     NoTicket,
     /// A ticket that has ended.
     TicketSpent,
-    /// Work that was judged by another program than the ticket's.
+    /// Work that was judged by another program than that of the ticket's version, or by the same bytes for
+    /// another layout.
     Stranger,
     /// No further program version can be held.
     VersionsFull,
-    /// The journal has no room for the event.
+    /// The journal has no room for the event; or, at a cut or a roll, a number is past 2^63.
     JournalFull,
     /// No memory for an event of a service.
     ServiceOutOfMemory,
@@ -112,7 +114,7 @@ pub enum RefusalNumber {
     BadJson,
     /// A value that is missing, of the wrong kind or out of range.
     BadValue,
-    /// A service that is not held.
+    /// A name that no service has.
     NoService,
     /// An input that ends within a message.
     Truncated,
@@ -120,7 +122,7 @@ pub enum RefusalNumber {
     Busy,
     /// No further seat can be given.
     SeatsFull,
-    /// Not exactly the seats of the desk.
+    /// The end of a desk to which not all its seats came back.
     SeatsMissing,
 }
 
