@@ -9,7 +9,8 @@ use bpf_profile::Operand;
 use refusals::RefusalNumber;
 
 impl<D: Domain> AbsVal<D> {
-    /// The value. It is refused with `UnsetRegister` where it may be unset.
+    /// This value, where it is known to be set: a number or a pointer. It is refused with `UnsetRegister`
+    /// where it may be unset.
     pub fn set(self) -> Result<Self, RefusalNumber>
         ensures { result ≡ set_in self }
     {

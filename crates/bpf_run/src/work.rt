@@ -11,7 +11,8 @@ use std::marker::Model;
 use std::sync::Arc;
 use verifier::Verified;
 
-/// An outcome that a program judged, with its verdict. Nothing but `judge` makes one.
+/// An outcome that a program judged, with its verdict. Only `judge` makes one, and `try_clone`
+/// copies it.
 #[derive(Drop)]
 pub struct Judged {
     program: Arc<Verified>,
@@ -36,6 +37,7 @@ impl Model for Judged {
 pub fn judge(program: Arc<Verified>, outcome: Record) -> Judged
     ensures program { result.program ≡ arc_value program }
     ensures outcome { result.outcome ≡ outcome }
+    // The verdict and the steps are the meaning's, of this program on this outcome.
     ensures tied { IsTied result }
 {
     let (verdict, steps) = run(&program, &outcome);

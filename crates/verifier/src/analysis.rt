@@ -54,9 +54,9 @@ impl<D: Domain> States<D> {
     }
 }
 
-/// The abstract state before each slot of a program, whose flow this is, on a record of this layout. The error is the least slot that
-/// fails a check, with the refusal of the first check that it fails (numbers 12 to 22). The only other
-/// error is `ProgramOutOfMemory`, at slot 0. A program that passes over any domain is safe.
+/// Analyses a program, whose flow this is, on records of this layout, and returns the abstract state before each of its
+/// slots. The error is the least slot that fails a check, with the refusal of the first check that it fails (numbers 12
+/// to 22). The only other error is `ProgramOutOfMemory`, at slot 0. A program that passes over any domain is safe.
 pub fn analyse<D: Domain>(
     alloc: Global,
     program: &Program,

@@ -37,7 +37,7 @@ pub fn verify_counted(
     bytes: &[u8],
     layout: Layout,
 ) -> Result<(Verified, u32), Refusal>
-    // What is verified is spelled so, accepted by flow and analysis, and safe.
+    // The bytes spell the program that is verified, its flow and the analysis accept it, and it is safe.
     ensures spelled { IfOk result (λ v. Spells bytes.now v.0.slots) }
     ensures accepted { IfOk result (λ v. IsAccepted layout v.0.slots) }
     ensures safe { IfOk result (λ v. IsSafe (context_size layout) v.0.slots v.0.budget) }

@@ -129,11 +129,11 @@ fn kept(
     })
 }
 
-/// The verified program of the bytes on records of this layout, or the first fault: of decoding, then of flow, then of the
-/// analysis, in which the least slot comes first. Where memory runs out the refusal is
-/// `ProgramOutOfMemory` at slot 0.
+/// Verifies the program that bytes spell, on records of this layout. The error is the first fault: of decoding, then of
+/// flow, then of the analysis, in which the least slot comes first. Where memory runs out it is `ProgramOutOfMemory` at
+/// slot 0.
 pub fn verify(alloc: Global, bytes: &[u8], layout: Layout) -> Result<Verified, Refusal>
-    // What is verified is spelled so, accepted by flow and analysis, and safe.
+    // The bytes spell the program that is verified, its flow and the analysis accept it, and it is safe.
     ensures spelled { IfOk result (λ v. Spells bytes.now v.slots) }
     ensures accepted { IfOk result (λ v. IsAccepted layout v.slots) }
     ensures safe { IfOk result (λ v. IsSafe (context_size layout) v.slots v.budget) }
