@@ -26,8 +26,9 @@ impl Breaker {
         }
     }
 
-    /// The period of the permission that is given to a call at a moment, in milliseconds; none where the
-    /// breaker refuses it. Once the wait in OPEN is over it begins a period in HALF_OPEN.
+    /// Asks for a permission for a call at a moment, in milliseconds. Returns the period of the permission, which is
+    /// held from then on; None where the breaker refuses the call. Once the wait in OPEN is over, the call begins a
+    /// period in HALF_OPEN.
     pub fn permit(&mut self, moment: u64) -> Option<u64>
         requires period { self.old.standing.period + 1 < 2 ^ 64 }
         requires held { self.old.held < 2 ^ 64 - 8 }
@@ -46,6 +47,7 @@ impl Breaker {
     /// Records the verdict of a call that was permitted in a period, and ends its permission. The moment,
     /// in milliseconds, is not before that of a note of the period.
     pub fn record(&mut self, moment: u64, period: u64, failed: bool, slow: bool) -> Fate
+        // Where the call's period is the present one, its permission is held.
         requires held { period ≡ self.old.standing.period → 0 < self.old.held }
         requires room { HasRoom self.old }
         requires period { self.old.standing.period + 1 < 2 ^ 64 }
@@ -72,6 +74,7 @@ impl Breaker {
 
     /// Gives back a permission of a period. Where the period is over, nothing changes.
     pub fn give_back(&mut self, period: u64)
+        // Where the period is the present one, a permission of it is held.
         requires { period ≡ self.old.standing.period → 0 < self.old.held }
         ensures { (s : BreakerSituation) → StandsFor self.old s → StandsFor self.new (given_back period s) }
     {

@@ -128,8 +128,9 @@ impl Breaker {
         }
     }
 
-    /// What the breaker says to a call at a moment, where the call finds it at the beginning of a period, with no notes and no
-    /// permission held. It changes nothing.
+    /// Whether a call at a moment, in milliseconds, is permitted where it finds the breaker at the beginning of the
+    /// period of `standing`, with no notes and no permission held; and where the breaker stands then. It changes
+    /// nothing.
     pub fn permission_in_new_period(&self, standing: Standing, moment: u64) -> Permission
         requires { standing.period + 1 < 2 ^ 64 }
         ensures { (s : BreakerSituation) → StandsFor self.now s → result ≡ permission_of moment (begun standing s) }
@@ -137,7 +138,8 @@ impl Breaker {
         permission_in(&self.config.parts(), standing, 0, 0, moment)
     }
 
-    /// What the breaker says to a call at a moment, in milliseconds. It changes nothing.
+    /// Whether a call at a moment, in milliseconds, is permitted, and where the breaker stands then: once the wait in
+    /// OPEN is over, in a new period in HALF_OPEN, else as it stands. It changes nothing.
     pub fn permission(&self, moment: u64) -> Permission
         requires { self.now.standing.period + 1 < 2 ^ 64 }
         ensures exact { (s : BreakerSituation) → StandsFor self.now s → result ≡ permission_of moment s }
@@ -200,7 +202,7 @@ impl Breaker {
         self.held = 0;
     }
 
-    /// Adds a note to the period, whose moment is not before that of another.
+    /// Adds a note to the present period. The moment of the note is not before that of another note of the period.
     pub fn add_note(&mut self, note: Note)
         requires { HasRoom self.old }
         ensures same { (self.new.standing ≡ self.old.standing) × (self.new.held ≡ self.old.held) }
@@ -229,10 +231,11 @@ impl Breaker {
         self.held -= 1;
     }
 
-    /// Stands where a decision leads: in the same period with its note, where there is one, or in a new
-    /// period with no notes and no permission held.
+    /// Moves the breaker to where a decision leads. Where that is the same period, it adds the note, if there is one.
+    /// Where it is a new period, this begins with no notes and no permission held.
     pub fn follow(&mut self, next: Standing, note: Option<Note>)
         requires room { OnSome note (HasRoom self.old) }
+        // A decision that stays in the period leaves the breaker where it stands.
         requires stays { next.period ≡ self.old.standing.period → next ≡ self.old.standing }
         ensures held { self.new.held ≤ self.old.held }
         ensures stands { (s : BreakerSituation) → StandsFor self.old s → IfSome note (λ n. AreNotAfter n.moment s.notes) → StandsFor self.new (followed next note s) }

@@ -12,7 +12,8 @@ pub struct Metrics {
     pub total: u64,
     pub failed: u64,
     pub slow: u64,
-    /// Whole percent, rounded down; none where there are fewer notes than the minimum, or none.
+    /// Whole percent of the notes, rounded down; None where there are fewer notes than the
+    /// minimum, or no note at all.
     pub failure_rate: Option<u64>,
     pub slow_rate: Option<u64>,
 }

@@ -46,8 +46,8 @@ fn was_given(number: u64, next: u64) -> bool
 }
 
 impl Registry {
-    /// Holds a program under a version, and has no ticket before the next one, which is at least 1. Errors are
-    /// want of memory.
+    /// Makes a registry that holds one program, under this version, and no open ticket. The next ticket gets the
+    /// number `next_ticket`, which is at least 1. The error is want of memory.
     pub fn new(
         alloc: Global,
         program: Arc<Verified>,
@@ -136,7 +136,7 @@ impl Registry {
         self.open_tickets.contains(number)
     }
 
-    /// Whether a number was given to a ticket, as that of each open ticket was.
+    /// Whether a ticket of this number was ever issued. Each open ticket was.
     pub fn is_issued(&self, number: u64) -> bool
         ensures issued { result ≡ is_issued self.now number }
         ensures open { IsTrue (is_open self.now.open_tickets number) → IsTrue result }

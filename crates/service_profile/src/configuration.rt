@@ -10,9 +10,9 @@ use thiserror::Error;
 /// How a sliding window is measured.
 #[derive(Clone, Copy, Debug, PartialEq, Eq)]
 pub enum SlidingWindowType {
-    /// The last calls, so many.
+    /// In calls: the window has as many of the last calls as its size says.
     CountBased,
-    /// The calls of the last seconds, so many.
+    /// In seconds: the window has the calls of as many of the last seconds as its size says.
     TimeBased,
 }
 

@@ -18,7 +18,7 @@ pub struct Permission {
     pub standing: Standing,
 }
 
-/// What a program says of an outcome.
+/// The verdict of a program on an outcome, and how many instructions it executed.
 #[derive(Clone, Copy, Debug, PartialEq, Eq)]
 pub struct Judgement {
     pub verdict: Verdict,

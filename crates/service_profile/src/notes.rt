@@ -13,7 +13,7 @@ pub struct Note {
     pub slow: bool,
 }
 
-/// How many notes a window has, and of which kinds.
+/// How many notes count: all of them, those that failed, and those that were slow.
 #[derive(Clone, Copy, Debug, PartialEq, Eq)]
 pub struct Totals {
     pub total: u64,

@@ -9,7 +9,7 @@ use refusals::RefusalNumber;
 pub enum Fate {
     /// It made a note.
     Recorded,
-    /// The program said so.
+    /// The program answered that the outcome is to be ignored: the verdict made no note.
     Ignored,
     /// The breaker is disabled.
     Off,
@@ -41,7 +41,7 @@ pub enum Reply {
     Released {
         state: State,
     },
-    /// A program got a version. Budget and layout are its.
+    /// A program was installed as this version, with this budget, for records of this layout.
     Installed {
         version: u64,
         budget: u32,

@@ -17,7 +17,8 @@ pub struct Standing {
 }
 
 impl Standing {
-    /// After a transition, also to the same state.
+    /// The standing after a transition to a state at a moment, in milliseconds. The next period
+    /// begins then, also where the state stays the same.
     pub fn moved(self, state: State, moment: u64) -> Standing
         requires { self.period + 1 < 2 ^ 64 }
         ensures { result ≡ moved state moment self }
@@ -29,7 +30,9 @@ impl Standing {
         }
     }
 
-    /// What becomes of a verdict under a ticket of a period.
+    /// What becomes of a verdict under a ticket of a period, where the breaker stands so:
+    /// `Stale` where that period is over, then `Off` in DISABLED, then `Ignored` where the
+    /// program says so, else `Recorded`.
     pub fn fate_of(self, period: u64, verdict: Verdict) -> Fate
         ensures { result ≡ fate_of self period verdict }
     {

@@ -1,6 +1,7 @@
 //! Tickets.
 
-/// A ticket that was issued and has not ended.
+/// A ticket that was issued and has not ended: its number, the version of the program that judges
+/// under it, and the period in which it was issued.
 #[derive(Clone, Copy, Debug, PartialEq, Eq)]
 pub struct OpenTicket {
     pub number: u64,

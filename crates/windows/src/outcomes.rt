@@ -1,6 +1,6 @@
 //! What a window keeps of a note's outcome.
 
-/// How a call ended.
+/// What a window over the last notes keeps of a note. Its moment is not needed.
 #[derive(Clone, Copy, Debug, PartialEq, Eq)]
 pub struct Outcome {
     /// Whether the verdict is a failure.

@@ -9,7 +9,7 @@ use service_profile::Totals;
 /// A sliding window. Contracts speak of the whole list of notes since the window was made or cleared, the
 /// oldest first; a window holds less than that. No call takes memory.
 pub trait Window {
-    /// Whether these are such notes.
+    /// Whether these are all notes since the window was made or cleared, the oldest first.
     ghost keeps: { Self → List ANote → Type 0 };
 
     /// The notes among these that count at a moment.
