@@ -34,8 +34,8 @@ pub(crate) struct Start {
     pub moment: u64,
 }
 
-/// The book of a service. Contracts see its opening and the list of its entries; it keeps that this
-/// history is legal, and beside it what the history says.
+/// The book of a service. Contracts see its opening and the list of its entries, a legal history at all
+/// times. Beside these it holds what follows from the history.
 #[derive(Drop)]
 pub struct Book {
     pub(crate) start: Start,
@@ -143,7 +143,8 @@ impl Book {
         }
     }
 
-    /// How the service stands at a moment, which is raised for this answer alone. It takes no memory.
+    /// How the service stands at a moment, in milliseconds, which is raised to the greatest that the book
+    /// has seen, for this answer alone. It takes no memory.
     pub fn read(&self, moment: u64) -> Reading
         ensures reading { result ≡ reading (past_of self.now) moment }
         ensures legal { IsLegal self.now }

@@ -36,14 +36,15 @@ pub fn judgements_are_the_meaning()
     accepted_programs_are_safe();
 }
 
-/// The headline, the half about answers: for every list of atomic steps of workers and operators on a
-/// service, from a good opening on, what the steps may give on the verdicts that judged work carries is just
-/// what the documented machine may give on the verdicts that the meaning gives for the version of each ticket.
-/// On the meaning's verdicts each step gives, and leaves, what the clause of its call says (`Book::apply`,
-/// `look`, `read`, `page`, `cut`, `roll`), by the very relations that these clauses cite; want of memory is a
-/// case of them. So what the code does is said by the calls' clauses, and this law says that they hold in any
-/// order, for any actors, and that to take the verdict off the work that is brought, as the code does, comes to
-/// the same. `judge`, `read`, and a step that is refused with no entry want no memory. What an operator installs is verified: decoding, flow and the analysis accept its bytes.
+/// The headline, the half about answers: for every list of atomic steps of workers and operators on a service, from a
+/// good opening on, what the steps may give on the verdicts that judged work carries is just what the documented
+/// machine may give on the verdicts that the meaning gives for the version of each ticket. On the meaning's verdicts
+/// each step gives, and leaves, what the clause of its call says (`Book::apply`, `look`, `read`, `page`, `cut`,
+/// `roll`), by the very relations that these clauses cite; want of memory is a case of them. So what the code does is
+/// said by the calls' clauses, and this law says that they hold in any order, for any actors, and that to take the
+/// verdict off the work that is brought, as the code does, comes to the same. `judge`, `read`, and a step that is
+/// refused with no entry want no memory. What an operator installs is verified: decoding, flow and the analysis accept
+/// its bytes.
 pub fn interleavings_are_documented()
     ensures { (opening : Opening) (acts : List Act) (given : List Given) (after : World) → IsOpening opening → IsVerifiedProgram opening.program → AreSteps acts → IsCourse carried (begun opening) acts given after ↔ IsCourse meant (begun opening) acts given after }
 {
@@ -74,7 +75,8 @@ pub fn answers_are_settled()
     ensures { (judging : Judging) (world : World) (acts : List Act) (given other : List Given) (after end : World) → IsCourse judging world acts given after → IsCourse judging world acts other end → map lacks_memory given ≡ map lacks_memory other → (given ≡ other) × (after ≡ end) }
 {}
 
-/// What every legal history keeps.
+/// Every legal history of a service is sound: its programs are safe, its verdicts are the meaning's, and its limits are
+/// kept.
 pub fn legal_histories_are_sound()
     ensures { (history : History) → IsService history → IsSound (past_of history) }
 {

@@ -17,6 +17,9 @@ use std::sync::ledger::Ledger;
 use std::sync::{Arc, Wait};
 use verifier::Verified;
 
+// Of each call: the answer is the documented machine's after some legal and sound history of one of the desk's
+// services, since other threads may change what lies behind a lock at any time. A seat makes an event only where its
+// count has room for the entry (`room`), and counts the entry where the event makes one (`counted`).
 impl<L: Ledger, M: Ledger + Offered> Desk<L, M> {
     /// An event of a seat on a service.
     pub(crate) fn apply<R: Wait>(
@@ -133,7 +136,8 @@ impl<L: Ledger, M: Ledger + Offered> Desk<L, M> {
         self.apply(rt, seat, service, moment, Event::Reset)
     }
 
-    /// How the service stands at a moment, which is raised for this answer alone.
+    /// Reads how the service stands at a moment, in milliseconds, which is raised to the greatest that its book has
+    /// seen, for this answer alone. Nothing is counted.
     pub fn read<R: Wait>(
         &self,
         rt: &R,
@@ -149,7 +153,8 @@ impl<L: Ledger, M: Ledger + Offered> Desk<L, M> {
         kept.read(moment)
     }
 
-    /// Copies of at most 100 entries of the journal, from a number on.
+    /// Copies at most 100 entries of the journal, from a number on. The moment makes no difference. The refusal is
+    /// `ServiceOutOfMemory`, where there is no memory for the copies. Nothing is counted.
     pub fn page<R: Wait>(
         &self,
         rt: &R,
@@ -166,8 +171,9 @@ impl<L: Ledger, M: Ledger + Offered> Desk<L, M> {
         kept.page(from)
     }
 
-    /// Hands out all entries of the journal, which opens anew. Numbers go on, and so does the count of entries. The seat
-    /// counts the cut.
+    /// Hands out all entries of the journal, which opens anew. The moment makes no difference. Numbers go on, and so
+    /// does the count of entries. The seat counts a cut that handed out entries. The refusals are those of `Book::cut`,
+    /// and change nothing.
     pub fn cut<R: Wait>(
         &self,
         rt: &R,
@@ -183,8 +189,9 @@ impl<L: Ledger, M: Ledger + Offered> Desk<L, M> {
         kept.cut(seat)
     }
 
-    /// Hands out the entries of the journal up to a number. All else of the service goes on as it is, and so
-    /// does what is counted. What is handed out is the caller's to drop, outside the lock.
+    /// Hands out the entries of the journal up to a number. The moment makes no difference. All else of the service
+    /// goes on as it is, and so does what is counted. What is handed out is the caller's to drop, outside the lock. The
+    /// refusals are those of `Book::roll`, and change nothing.
     pub fn roll<R: Wait>(
         &self,
         rt: &R,

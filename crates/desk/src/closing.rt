@@ -23,13 +23,16 @@ pub struct Unclosed<L: Ledger, M: Ledger + Offered> {
 }
 
 impl<L: Ledger, M: Ledger + Offered> Desk<L, M> {
-    /// Closes the desk, where all its seats are given, and hands out the books, in the order of the
-    /// services.
+    /// Closes the desk, where `seats` are all the seats that it has given, and hands out the books, in
+    /// the order of the services. Else the desk and the seats come back.
     pub fn close(self, alloc: Global, seats: Vec<Seat<L, M>>) -> Result<Vec<Book>, Unclosed<L, M>>
         ensures all_seats { IfOk result (λ books. vec_len seats ≡ self.seats) }
         ensures all_books { IfOk result (λ books. vec_len books ≡ length self.services) }
         ensures good { IfOk result (λ books. AllByRecursion IsGood books.items) }
+        // Each book is that of one of the desk's services, after some cuts: as many in all as the seats
+        // have counted.
         ensures of_services { IfOk result (λ books. (cuts : List ℕ) × AreOfSome self.services cuts books.items × (sum cuts ≡ sum (map (λ seat. seat.cuts) seats.items))) }
+        // All journals together have had as many entries as the seats have counted.
         ensures agree { IfOk result (λ books. sum (map last_number books.items) ≡ sum (map (λ seat. seat.count) seats.items)) }
         ensures unclosed { IfErr result (λ e. IsUnclosed (vec_len seats) self.seats e.number) }
         ensures unchanged { IfErr result (λ e. (e.desk ≡ self) × (e.seats ≡ seats)) }

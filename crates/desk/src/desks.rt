@@ -103,6 +103,8 @@ impl<L: Ledger, M: Ledger + Offered> Desk<L, M> {
         cuts: Blank,
         services: Vec<(String, Config, Verified)>,
     ) -> Result<Desk<L, M>, AllocError>
+        // Both ledgers have 193 parts: one for each of at most 128 seats and of at most 64 services, and one for the
+        // desk.
         requires entries_name { entries.name ≡ L.name }
         requires entries_parts { (entries.parts ≡ L.parts) × (L.parts ≡ 193) }
         requires cuts_name { cuts.name ≡ M.name }

@@ -13,8 +13,9 @@ use verifier::Verified;
 pub const ONLY_SEAT: u32 = 1;
 
 /// Who calls the book of a service: the book itself, where one caller has it, or a seat of a desk that keeps the book
-/// behind a lock. A call changes the caller, and is lent a place, which says what else it needs: of a book the number of the
-/// seat that makes the call, of a desk's seat the desk and the service.
+/// behind a lock or in a slot. A call changes the caller, and is lent a place, which says what else it needs: of a book
+/// the number of the seat that makes the call, of a seat at a desk with locks the desk and the service, and of a seat
+/// at a service of a desk with slots nothing.
 pub trait BookCalls<Place> {
     // how a place, the caller before a call, the call, its answer and the caller after it are related
     ghost calls: { Place → Self → CallData → CallAnswer → Self → Type 0 };

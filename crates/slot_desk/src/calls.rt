@@ -136,7 +136,8 @@ impl Desk {
         self.apply(rt, seat, service, moment, Event::Reset)
     }
 
-    /// Reads how the service stands at a moment, which is raised for this answer alone.
+    /// Reads how the service stands at a moment, in milliseconds, which is raised to the greatest that its book has
+    /// seen, for this answer alone.
     pub fn read<R: Wait>(&self, rt: &R, seat: &mut Seat, service: ServiceId, moment: u64) -> Reading
         requires seat { IsSeatOf self.now seat.old }
         requires service { IsServiceOf self.now service }
@@ -147,7 +148,8 @@ impl Desk {
         self.slots[at].read(rt, place, moment)
     }
 
-    /// Copies at most 100 entries of the journal, from a number on.
+    /// Copies at most 100 entries of the journal, from a number on. The moment makes no difference. The refusal is
+    /// `ServiceOutOfMemory`, where there is no memory for the copies.
     pub fn page<R: Wait>(
         &self,
         rt: &R,
@@ -165,7 +167,8 @@ impl Desk {
         self.slots[at].page(rt, place, from)
     }
 
-    /// Hands out all entries of the journal, which opens anew. Numbers go on.
+    /// Hands out all entries of the journal, which opens anew. The moment makes no difference. Numbers go on. The
+    /// refusals are those of `Book::cut`, and change nothing.
     pub fn cut<R: Wait>(
         &self,
         rt: &R,
@@ -182,7 +185,8 @@ impl Desk {
         self.slots[at].cut(rt, place)
     }
 
-    /// Hands out the entries of the journal up to a number. All else of the service goes on as it is.
+    /// Hands out the entries of the journal up to a number. The moment makes no difference. All else of the service
+    /// goes on as it is. The refusals are those of `Book::roll`, and change nothing.
     pub fn roll<R: Wait>(
         &self,
         rt: &R,

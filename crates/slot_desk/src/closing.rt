@@ -72,13 +72,14 @@ fn finish_all(mut slots: Vec<Slot>, books: &mut Vec<Book>)
 }
 
 impl Desk {
-    /// Closes the desk, where all its seats are given, and hands out the books, in the order of the
-    /// services.
+    /// Closes the desk, where `seats` are all the seats that it has given, and hands out the books, in the order of the
+    /// services. Else the desk and the seats come back.
     pub fn close(self, alloc: Global, seats: Vec<Seat>) -> Result<Vec<Book>, Unclosed>
         requires seats { AllByRecursion (λ seat. IsSeatOf self seat) seats.items }
         ensures all_seats { IfOk result (λ books. vec_len seats ≡ self.seats) }
         ensures all_books { IfOk result (λ books. vec_len books ≡ length self.tables) }
-        // Each is good, and of the book at its place that opened so.
+        // Each book has a good history, and is what became of the book that the desk opened for the service at its
+        // place.
         ensures good { IfOk result (λ books. AreOf self.origins books.items) }
         // Of each service there is one history of each opening, the last one that of its book, and all that any seat had seen of the
         // service begins that of its opening.

@@ -57,7 +57,8 @@ impl Slot {
         answer
     }
 
-    /// Reads how the service stands at a moment, which is raised for this answer alone.
+    /// Reads how the service stands at a moment, in milliseconds, which is raised to the greatest that its book has
+    /// seen, for this answer alone.
     pub fn read<R: Wait>(&self, rt: &R, place: &mut Place, moment: u64) -> Reading
         requires here { place.old.table ≡ self.now.table }
         ensures same { place.new ≡ with_view place.old place.new.view }

@@ -28,7 +28,7 @@ pub struct View {
     pub deals: bool,
     /// The number of the next one that is dealt.
     pub next: u64,
-    /// Of the 129 parts of the right to close the table.
+    /// How many of the 129 parts of the right to close the table it has.
     pub parts: u64,
     /// What a note says that another seat had seen.
     pub told: Option<Book>,
