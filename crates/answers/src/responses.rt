@@ -48,9 +48,9 @@ fn put_response(out: &mut Writer, response: &Response) -> Result<(), AllocError>
     }
 }
 
-/// The body of a response: compact JSON (RFC 8259) with its keys in ascending byte order. A page has its entries,
-/// with what happened, when, and what was answered, and the number from which the next page goes on; of what a cut or a roll
-/// hands out the count is told. The only error is want of memory.
+/// Writes the body of a response: compact JSON (RFC 8259) with its keys in ascending byte order. The body of a page has
+/// its entries, each with what happened, when, and what was answered, and the number from which the next page goes on.
+/// Of the entries that a cut or a roll hands out, the body has the count alone. The only error is want of memory.
 pub fn body(alloc: Global, response: &Response) -> Result<Vec<u8>, AllocError>
     ensures { IfOk result (λ text. text.items ≡ body (response_data response.now)) }
 {

@@ -1,4 +1,5 @@
-//! Readers and writers whose failed calls are counted, and whose ends are.
+//! Readers and writers that count their failed calls, and readers that count how often their input
+//! ended.
 #![tactic(auto)]
 
 mod counted;

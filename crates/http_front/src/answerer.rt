@@ -24,7 +24,7 @@ pub trait Answerer {
         ensures found { result ≡ place_of self.now service.now }
         ensures held { IfSome result (has self.now) };
 
-    /// Asks the service at a place.
+    /// Asks the service at a place, at a moment in milliseconds.
     fn ask(&mut self, place: usize, moment: u64, request: Request) -> Response
         requires held { has self.old place }
         ensures { answers self.old place moment (request_data request) (response_data result) self.new };
@@ -101,7 +101,7 @@ pub trait Answerer {
         self.ask(place, moment, Request::Cut)
     }
 
-    /// Hands out the entries of the journal up to this number, which goes on.
+    /// Hands out the entries of the journal up to this number. The journal goes on behind them.
     fn roll(&mut self, place: usize, moment: u64, last: u64) -> Response
         requires held { has self.old place }
         ensures { answers self.old place moment (roll last) (response_data result) self.new }

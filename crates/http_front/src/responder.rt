@@ -12,8 +12,8 @@ use http_serving::{HttpRequest, Responder};
 use service::Response;
 use std::alloc::{AllocError, Global};
 
-/// Answers messages by what an answerer responds to what they ask. It has what answering needs beside the answerer,
-/// and is made once for many connections.
+/// Answers messages over HTTP: finds what a message asks for of which service, asks the answerer for it, and writes
+/// its response as text. It holds what answering needs beside the answerer, and is made once for many connections.
 #[derive(Drop)]
 pub struct HttpResponder {
     alloc: Global,
@@ -21,7 +21,7 @@ pub struct HttpResponder {
 }
 
 impl HttpResponder {
-    /// Makes the routes. The error is want of memory.
+    /// A responder with the table of routes. The error is want of memory.
     pub fn new(alloc: Global) -> Result<HttpResponder, AllocError> {
         let routes = Routes::new(alloc)?;
         Ok(HttpResponder { alloc, routes })

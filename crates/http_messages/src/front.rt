@@ -43,7 +43,7 @@ pub struct Fault {
     pub to_head: bool,
 }
 
-/// What bytes are as the front of a message.
+/// What the first bytes of a message say of it.
 #[derive(Clone, Copy, Debug, PartialEq, Eq)]
 pub enum Front {
     /// A whole head, and its fields are not refused.
@@ -130,7 +130,7 @@ impl HeadParser {
         Ok(HeadParser { spans })
     }
 
-    /// What the bytes are as the front of a message. It takes no memory.
+    /// Looks for the head of the message that these bytes begin with. It takes no memory.
     pub fn front(&mut self, bytes: &[u8]) -> Front
         ensures { IsFront bytes.now result }
     {

@@ -8,8 +8,9 @@ ghost use Rattle.http_messages.specs.Lengths.{length_from, length_texts, IsLengt
 ghost use Rattle.http_messages.specs.Messages.{Message, AreMessages, IsInput, Ending, IsEnding, refused, final, no_head};
 ghost use Rattle.http_messages.specs.Readings.{said, AreBothSaid, IsUndecided, IsOtherEnding, IsReadTo, AreBothAllowed};
 
-/// The first bytes of an input say one thing. Only where those that are searched end within a request
-/// target, and no continuation of them is a head, may this be said, or that more bytes are wanted.
+/// The first bytes of an input say one thing: which head they have, why the message is refused, or that more bytes are
+/// wanted. Only where the bytes that are searched end within a request target, and no continuation of them is a head,
+/// may they say two: the refusal `BadHead`, and that more bytes are wanted, or, from 8,192 bytes on, `HeadTooLarge`.
 pub fn fronts_say_one_thing()
     ensures { (bytes : List ℕ) (one other : Front) → IsFront bytes one → IsFront bytes other
         → (said bytes one ≡ said bytes other) ⊎ AreBothSaid bytes (said bytes one) (said bytes other) }
@@ -43,8 +44,8 @@ pub fn parts_have_one_reading()
         → (messages ≡ others) × ((one ≡ other) ⊎ ((behind : List ℕ) × AreMessages input messages behind × AreBothAllowed behind one other)) }
 {}
 
-/// Where the rest of an input ends within a request target, and no continuation of it is a head, both
-/// endings are allowed.
+/// Where the rest of an input ends within a request target, and no continuation of it is a head, two endings are
+/// allowed: the refusal `BadHead`, and the end within a message, or, from 8,192 bytes on, the refusal `HeadTooLarge`.
 pub fn undecided_inputs_have_two_endings()
     ensures bad_head { (rest : List ℕ) → IsUndecided rest → IsEnding rest (refused (no_head RefusalNumber.BadHead)) }
     ensures other { (rest : List ℕ) (ending : Ending) → IsUndecided rest → IsOtherEnding rest ending → IsEnding rest ending }

@@ -1,5 +1,5 @@
 //! The messages of HTTP/1.0 and HTTP/1.1 (RFC 9112) at the front of bytes: where the head is, how long the
-//! body is, what is refused, and whether a further read is made behind.
+//! body is, what is refused, and whether a further read is made behind the message.
 #![tactic(auto)]
 
 mod fields;

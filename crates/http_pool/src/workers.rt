@@ -76,9 +76,10 @@ fn work<R: Wait + Net + time::Clock, A: Answerer, C: Clock>(
     )
 }
 
-/// Serves so many connections of a listener, side by side; with 0, without end. How a connection ends
-/// ends nothing else. A connection that was given up before it was accepted isn't counted, and where accepting fails
-/// for a reason that may pass, it accepts again a moment later. The error says that the listener accepts no more.
+/// Serves `limits.connections` connections of a listener, side by side; with 0, without end. No more than
+/// `limits.most_open` are open at once. How a connection ends ends nothing else. A connection that was given up before
+/// it was accepted isn't counted, and where accepting fails for a reason that may pass, it accepts again a moment
+/// later. The error says that the listener accepts no more.
 pub fn serve_connections<R: Wait + Net + time::Clock, A: Answerer, C: Clock>(
     rt: &R,
     alloc: Global,
@@ -122,8 +123,8 @@ fn run<R: Wait + Net + time::Clock, A: Answerer + Drop, C: Clock + Drop>(
     worker
 }
 
-/// Serves so many connections of a listener by workers, as `pool_within` does, of which no more than 1,024 are open at
-/// once.
+/// Serves `connections` connections of a listener by workers, as `pool_within` does, of which no more than 1,024 are
+/// open at once. With 0, it serves without end.
 pub fn pool<
     R: Threads + Wait + time::Clock + Sync + Net<Listener = TcpListener, Stream = TcpStream>,
     A: Answerer + Send + Drop,
@@ -149,13 +150,13 @@ pub fn pool<
     pool_within(rt, alloc, listener, limits, workers)
 }
 
-/// Serves so many connections of a listener by workers, each in a thread of its own, each of which serves many at once;
-/// with 0, without end. A worker draws a number from a count that all share, from 0 on, then accepts a connection, and
-/// draws the next. It accepts no more where its number isn't below `limits.connections`, or where the listener fails,
-/// which is then its `failure`; where accepting fails for a reason that may pass, it accepts again a moment later. It ends
-/// once its connections have ended. How a connection ends ends nothing else. No more than `limits.most_open` are open at once.
-/// Where a thread can't be started its workers take turns with others (`threads_at_once` tells how many can). The error
-/// is want of memory: then the workers are lost.
+/// Serves `limits.connections` connections of a listener by workers, each in a thread of its own, each of which serves
+/// many at once; with 0, without end. A worker draws a number from a count that all share, from 0 on, then accepts a
+/// connection, and draws the next. It accepts no more where its number isn't below `limits.connections`, or where the
+/// listener fails, which is then its `failure`; where accepting fails for a reason that may pass, it accepts again a
+/// moment later. It ends once its connections have ended. How a connection ends ends nothing else. No more than
+/// `limits.most_open` are open at once. Where a thread can't be started its workers take turns with others
+/// (`threads_at_once` tells how many can). The error is want of memory: then the workers are lost.
 pub fn pool_within<
     R: Threads + Wait + time::Clock + Sync + Net<Listener = TcpListener, Stream = TcpStream>,
     A: Answerer + Send + Drop,

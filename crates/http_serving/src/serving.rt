@@ -65,8 +65,8 @@ pub fn serve<S, P: Responder<S>, R: Read, W: Write, C: Clock>(
     state: &mut S,
     clock: &mut C,
 ) -> Ended
-    // What was written are the answers to the messages of the bytes that were read, in order, by how
-    // serving ended.
+    // What was written are the answers to the messages of the bytes that were read, in order, as far as serving came;
+    // where a write failed, a beginning of them.
     ensures served { (bytes : List ℕ) × Consumes (R.remaining reader.old.inner) (R.remaining reader.new.inner) bytes
         × IsServed P.refusal P.responds C.ticks result bytes state.old clock.old state.new clock.new (W.contents writer.old.inner) (W.contents writer.new.inner) }
     // `Closed` and `Truncated` come only where no byte is left.

@@ -1,4 +1,5 @@
-//! Services in slots, as an answerer over HTTP: each worker asks by a seat of its own.
+//! The services of a desk with slots, as an answerer over HTTP: each worker asks by a
+//! seat of its own.
 #![tactic(auto)]
 
 mod seated;

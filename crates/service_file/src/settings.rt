@@ -153,10 +153,10 @@ fn settled(alloc: Global, part: FilePart) -> Result<Option<Settings>, AllocError
 /// the text is no such object, has another key, or has a program that is refused: the refusal
 /// `BadConfig`. The error is want of memory.
 pub fn read_settings(alloc: Global, text: &[u8]) -> Result<Option<Settings>, AllocError>
-    // What is answered are the settings of the file that the text is; None only where the text is no
-    // such file, its address is none, or a program in it is refused.
+    // The settings are those of the file that the text is. None comes only where the text is no such file, its address
+    // is none, or a program in it is refused.
     ensures read { IfOk result (IsRead text.now) }
-    // There are 1 to 64 workers, and as many services.
+    // There are 1 to 64 workers, and 1 to 64 services.
     ensures counts { IfOk result (λ found. IfSome found HasCounts) }
 {
     match file_in(alloc, text)? {

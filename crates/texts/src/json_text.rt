@@ -6,8 +6,8 @@ ghost use Rattle.texts.specs.JsonText.{json_of};
 use serde_json::{Category, Value};
 use std::alloc::{AllocError, Global};
 
-/// The value that bytes are as JSON text (RFC 8259); None where they are no UTF-8 or no JSON. The error
-/// is want of memory.
+/// Reads the value that JSON text stands for (RFC 8259). None where the bytes are no UTF-8 or no JSON.
+/// The error is want of memory.
 pub fn json(alloc: Global, text: &[u8]) -> Result<Option<Value>, AllocError>
     ensures { IfOk result (λ value. option_map view value ≡ json_of text.now) }
 {
