@@ -1,4 +1,4 @@
-//! What the commands print.
+//! The answers of `judge` and `verify`, and the refusals of all commands, as lines.
 
 use bpf_asm::AsmError;
 use bpf_decode::DecodeError;

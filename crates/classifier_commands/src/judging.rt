@@ -1,4 +1,4 @@
-//! The answers of the commands.
+//! Verifying programs and judging outcomes for `verify` and `judge`.
 ghost use Rattle.std.specs.Prelude.{◌≡◌, Some, None, IfOk, IfErr};
 ghost use Rattle.counted_io.specs.Counting.{AtMostOneMore};
 ghost use Rattle.helpers.specs.Json.{outcome_of};

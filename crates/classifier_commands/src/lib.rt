@@ -1,4 +1,5 @@
-//! The commands on classifier programs: they verify and judge by them, assemble and disassemble them.
+//! The commands on classifier programs: `verify` and `judge`, which verify a program and judge an
+//! outcome by it, and `asm` and `dis`, which assemble and disassemble one.
 #![tactic(auto)]
 
 mod answer;

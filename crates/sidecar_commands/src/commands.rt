@@ -129,12 +129,13 @@ fn is_replay(words: &[&str]) -> bool
     matches!(*words, ["replay"])
 }
 
-/// Does what the words ask for, and answers how that ended.
+/// Does what the words ask for, `replay` or a command on a classifier (`classifier_commands::command`), and answers how
+/// that ended.
 ///
-/// An answer, also a refusal, is one line on `out`; for wrong words there is a line on `err` and
-/// nothing on `out`. Behind the refusal of a replay's configuration, and of the program of `judge` or `verify`, there are lines
-/// on `err` too, which say what is wrong with it, for people. Where the reader or the writer fails, or memory runs out with no answer that
-/// says so, nothing more is written. One failed read or write ends the command, also one that was
+/// An answer, also a refusal, is one line on `out`; for wrong words there is a line on `err` and nothing on `out`.
+/// Behind the refusal of a replay's configuration, and of the program of `judge` or `verify`, there are lines on `err`
+/// too, which say what is wrong with it, for people. Where the reader or the writer fails, or memory runs out with no
+/// answer that says so, nothing more is written. One failed read or write ends the command, also one that was
 /// interrupted. Input is read byte by byte: give it a reader that is buffered.
 pub fn command<R: Read, O: Write, E: Write>(
     alloc: Global,

@@ -1,4 +1,5 @@
-//! Values with the answers that are worked out by hand from the table.
+//! The domain of known bits: what its operations make of values, worked out by hand from
+//! the domain's table.
 ghost use Rattle.std.specs.Prelude.{◌<◌};
 
 use crate::checks::{same, same_at};

@@ -1,4 +1,5 @@
-//! Results that the table gives, computed by hand.
+//! The domain of ranges: what its operations make of values, worked out by hand from the domain's
+//! table.
 ghost use Rattle.std.specs.Prelude.{◌<◌};
 
 use crate::checks::{is_true_at, same, same_at};

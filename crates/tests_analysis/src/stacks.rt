@@ -1,4 +1,5 @@
-//! Stacks by hand, over any domain, with the flat domain in its place.
+//! What is known of the stack behind stores, loads and joins, worked out by hand: over any domain, and
+//! over the flat one.
 ghost use Rattle.std.specs.Prelude.{◌≤◌, ◌+◌};
 
 use crate::checks::{same, same_at};

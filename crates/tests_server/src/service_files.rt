@@ -1,4 +1,4 @@
-//! Files by hand.
+//! Files of `serve`: the settings that they give, and files that can't be used.
 use crate::checks::{is_true, is_true_at, same, same_at};
 use config_mistakes::{config_mistake, file_mistake};
 use requests::config;

@@ -1,4 +1,4 @@
-//! A breaker by hand.
+//! A breaker by itself, with what it answers worked out by hand.
 use crate::checks::{same, same_at};
 use breaker::{Breaker, Config, Fate, Metrics, Note, Permission, Standing, State};
 use service_profile::{ConfigParts, SlidingWindowType};

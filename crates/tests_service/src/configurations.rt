@@ -1,4 +1,5 @@
-//! Configurations by hand.
+//! Configurations with a field out of its range, which the error names, and with fields at the ends
+//! of their ranges.
 use crate::checks::{same, same_at};
 use service_profile::{Config, ConfigField, ConfigParts, SlidingWindowType};
 use std::process::Abort;
