@@ -1,0 +1,3 @@
+pub mod WordBytes
+pub mod Spreading
+pub mod Outcomes
