@@ -2,6 +2,7 @@
 use book::{Book, Config, ConfigParts, Event, Fate, Reply, SlidingWindowType};
 use bpf_run::judge;
 use helpers::Record;
+use packed_outcomes::PackedOutcome;
 use std::alloc::Global;
 use verifier::default_classifier;
 
@@ -43,12 +44,15 @@ fn hold(book: &mut Book, open_tickets: u32) -> bool {
     true
 }
 
-/// Makes a call: asks for a ticket, and reports the outcome under it. Answers whether it was recorded.
-fn call(book: &mut Book, outcome: Record, moment: u64) -> bool {
+/// Makes a call: asks for a ticket, and reports the outcome under it, which is packed first. Answers whether it was recorded.
+fn call(alloc: Global, book: &mut Book, outcome: &Record, moment: u64) -> bool {
     let Reply::Permitted { ticket, .. } = book.apply(1, moment, Event::Acquire) else {
         return false;
     };
     let Ok(program) = book.look(ticket) else {
+        return false;
+    };
+    let Ok(outcome) = PackedOutcome::pack(alloc, outcome) else {
         return false;
     };
     let judged = judge(program, outcome);
@@ -82,8 +86,9 @@ pub extern "C" fn bench_exports_call(
     let mut recorded = 0u64;
     for second in 0..calls {
         if call(
+            alloc,
             &mut book,
-            outcome,
+            &outcome,
             u64::from(second).wrapping_mul(BETWEEN_CALLS),
         ) {
             recorded = recorded.wrapping_add(1);

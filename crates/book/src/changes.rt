@@ -54,7 +54,7 @@ pub(crate) fn know_work(judged: &Judged)
     ensures { IsJudged judged.now }
 {
     know_program(judged.program());
-    let _context = judged.outcome().context();
+    let _duration = judged.outcome().duration();
 }
 
 /// Reads off an event that a program which it installs is safe, and that work which it brings was judged.

@@ -16,7 +16,7 @@ use crate::plans::{Effects, Plan};
 use crate::service::Service;
 use bpf_profile::Verdict;
 use bpf_run::Judged;
-use helpers::Record;
+use packed_outcomes::PackedOutcome;
 use refusals::RefusalNumber;
 use service_profile::{
     ConfigParts, Decision, Fate, MOST_ENTRIES, MOST_VERSIONS, Note, OpenTicket, Reply, Standing,
@@ -64,7 +64,7 @@ fn acquired(found: &FoundService<'_>, moment: u64) -> Plan
 }
 
 /// The note of a verdict.
-fn note_of(config: &ConfigParts, moment: u64, verdict: Verdict, outcome: &Record) -> Note
+fn note_of(config: &ConfigParts, moment: u64, verdict: Verdict, outcome: &PackedOutcome) -> Note
     ensures { result ≡ note_of config.now moment verdict outcome.now }
 {
     let failed = match verdict {

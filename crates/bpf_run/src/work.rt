@@ -5,7 +5,7 @@ ghost use Rattle.bpf_profile.specs.JudgedWork.{IsTied};
 
 use crate::execution::run;
 use bpf_profile::Verdict;
-use helpers::Record;
+use packed_outcomes::PackedOutcome;
 use std::alloc::AllocError;
 use std::marker::Model;
 use std::sync::Arc;
@@ -16,7 +16,7 @@ use verifier::Verified;
 #[derive(Drop)]
 pub struct Judged {
     program: Arc<Verified>,
-    outcome: Record,
+    outcome: PackedOutcome,
     verdict: Verdict,
     steps: u32,
 }
@@ -33,14 +33,14 @@ impl Model for Judged {
     ghost invariant = { λ j. IsTied (record { program = arc_value j.program; outcome = j.outcome; verdict = j.verdict; steps = j.steps }) };
 }
 
-/// Judges an outcome by a program.
-pub fn judge(program: Arc<Verified>, outcome: Record) -> Judged
+/// Judges an outcome by a program. The outcome is unpacked for the run alone, onto the stack: it takes no memory.
+pub fn judge(program: Arc<Verified>, outcome: PackedOutcome) -> Judged
     ensures program { result.program ≡ arc_value program }
     ensures outcome { result.outcome ≡ outcome }
     // The verdict and the steps are the meaning's, of this program on this outcome.
     ensures tied { IsTied result }
 {
-    let (verdict, steps) = run(&program, &outcome);
+    let (verdict, steps) = run(&program, &outcome.unpack());
     Judged {
         program,
         outcome,
@@ -50,7 +50,8 @@ pub fn judge(program: Arc<Verified>, outcome: Record) -> Judged
 }
 
 impl Judged {
-    /// A copy that shares the program. The error comes where the program can have no more owners.
+    /// A copy that shares the program. The error comes where there is no memory for the outcome, or where the program can
+    /// have no more owners.
     pub fn try_clone(&self) -> Result<Judged, AllocError>
         ensures { IfOk result (λ copy. copy ≡ self.now) }
     {
@@ -62,7 +63,7 @@ impl Judged {
         } = self;
         Ok(Judged {
             program: Arc::try_clone(program)?,
-            outcome: *outcome,
+            outcome: outcome.try_clone()?,
             verdict: *verdict,
             steps: *steps,
         })
@@ -76,8 +77,8 @@ impl Judged {
         &self.program
     }
 
-    /// The record that was judged.
-    pub fn outcome(&self) -> &Record
+    /// The outcome that was judged.
+    pub fn outcome(&self) -> &PackedOutcome
         ensures outcome { result.now ≡ self.now.outcome }
         ensures tied { IsTied self.now }
     {

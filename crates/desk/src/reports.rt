@@ -9,7 +9,7 @@ use crate::offered::Offered;
 use crate::seats::Seat;
 use crate::service_place::ServicePlace;
 use book::Reply;
-use helpers::Record;
+use packed_outcomes::PackedOutcome;
 use service::{Gate, Report, report};
 use std::sync::Wait;
 use std::sync::ledger::Ledger;
@@ -25,7 +25,7 @@ impl<L: Ledger, M: Ledger + Offered> Desk<L, M> {
         service: ServiceId,
         moment: u64,
         ticket: u64,
-        outcome: Record,
+        outcome: PackedOutcome,
         gate: &G,
     ) -> Reply
         requires held { IsServiceOf self.now service }

@@ -4,6 +4,7 @@ ghost use Rattle.serde_json.specs.View.{view};
 ghost use Rattle.service_profile.specs.Answers.{map_ok};
 ghost use Rattle.service.specs.Asked.{request_data};
 ghost use Rattle.texts.specs.JsonText.{json_of};
+ghost use Rattle.http_routes.specs.declared.table.Route.TheVariants.{Report, Release, Transition, Roll};
 ghost use Rattle.http_front.specs.Bodies.{value_asks, json_asks, program_asks, page_asks, body_asks};
 
 use crate::layouts::layout_in;
@@ -15,16 +16,47 @@ use service::Request;
 use std::alloc::{AllocError, Global};
 use texts::json;
 
-/// What a JSON value asks for by a route whose body is JSON.
-fn value_asks(route: Route, value: &Value) -> Option<Request>
-    ensures { option_map request_data result ≡ value_asks route (view value.now) }
+/// The report that a JSON value asks for. The error is want of memory.
+fn report_asks(alloc: Global, value: &Value) -> Result<Option<Request>, AllocError>
+    ensures { IfOk result (λ asked. option_map request_data asked ≡ value_asks Report (view value.now)) }
+{
+    match report(alloc, value)? {
+        Some(reported) => Ok(Some(Request::Report(reported))),
+        None => Ok(None),
+    }
+}
+
+/// The release that a JSON value asks for.
+fn release_asks(value: &Value) -> Option<Request>
+    ensures { option_map request_data result ≡ value_asks Release (view value.now) }
+{
+    Some(Request::Release(number_at(value, "ticket")?))
+}
+
+/// The transition that a JSON value asks for.
+fn transition_asks(value: &Value) -> Option<Request>
+    ensures { option_map request_data result ≡ value_asks Transition (view value.now) }
+{
+    Some(Request::Move(state(value)?))
+}
+
+/// The roll that a JSON value asks for.
+fn roll_asks(value: &Value) -> Option<Request>
+    ensures { option_map request_data result ≡ value_asks Roll (view value.now) }
+{
+    Some(Request::Roll(number_at(value, "to")?))
+}
+
+/// What a JSON value asks for by a route whose body is JSON. The error is want of memory.
+fn value_asks(alloc: Global, route: Route, value: &Value) -> Result<Option<Request>, AllocError>
+    ensures { IfOk result (λ asked. option_map request_data asked ≡ value_asks route (view value.now)) }
 {
     match route {
-        Route::Report => Some(Request::Report(report(value)?)),
-        Route::Release => Some(Request::Release(number_at(value, "ticket")?)),
-        Route::Transition => Some(Request::Move(state(value)?)),
-        Route::Roll => Some(Request::Roll(number_at(value, "to")?)),
-        _ => None,
+        Route::Report => report_asks(alloc, value),
+        Route::Release => Ok(release_asks(value)),
+        Route::Transition => Ok(transition_asks(value)),
+        Route::Roll => Ok(roll_asks(value)),
+        _ => Ok(None),
     }
 }
 
@@ -39,7 +71,7 @@ fn json_asks(
     let Some(value) = json(alloc, body)? else {
         return Ok(Err(RefusalNumber::BadJson));
     };
-    match value_asks(route, &value) {
+    match value_asks(alloc, route, &value)? {
         Some(request) => Ok(Ok(request)),
         None => Ok(Err(RefusalNumber::BadValue)),
     }

@@ -67,12 +67,12 @@ impl PackedOutcome {
     }
 
     /// The same outcome once more. The error is want of memory.
-    pub fn try_clone(&self, alloc: Global) -> Result<PackedOutcome, AllocError>
+    pub fn try_clone(&self) -> Result<PackedOutcome, AllocError>
         ensures { IfOk result (λ copy. copy ≡ self.now) }
     {
         Ok(PackedOutcome {
             marks: self.marks,
-            kept: Vec::from_slice(alloc, &self.kept)?,
+            kept: Vec::from_slice(*self.kept.allocator(), &self.kept)?,
         })
     }
 }

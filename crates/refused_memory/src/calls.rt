@@ -5,6 +5,7 @@ use book::{Book, Config, ConfigParts, Entry, Event, Reply, State};
 use bpf_profile::Layout;
 use bpf_run::judge;
 use helpers::Record;
+use packed_outcomes::PackedOutcome;
 use refusals::RefusalNumber;
 use std::alloc::{AllocError, Global};
 use std::io;
@@ -75,6 +76,20 @@ fn installed(refusals: &mut Refusals, alloc: Global) -> io::Result<Arc<Verified>
     Err(wrong())
 }
 
+/// The outcome that is reported, which takes memory; without memory it is packed again.
+fn packed(refusals: &mut Refusals, alloc: Global) -> io::Result<PackedOutcome> {
+    let Some(outcome) = Record::from_parts([0; 192], [7; 16], b"tag") else {
+        return Err(wrong());
+    };
+    for _ in 0..TRIES {
+        match PackedOutcome::pack(alloc, &outcome) {
+            Ok(outcome) => return Ok(outcome),
+            Err(_) => refusals.count(),
+        }
+    }
+    Err(wrong())
+}
+
 /// The event of a call, or the reply of the look before it.
 fn event(
     refusals: &mut Refusals,
@@ -86,9 +101,7 @@ fn event(
         Call::Acquire => Ok(Event::Acquire),
         Call::Finish(ticket) => match looked(refusals, book, ticket)? {
             Ok(program) => {
-                let Some(outcome) = Record::from_parts([0; 192], [0; 16], &[]) else {
-                    return Err(wrong());
-                };
+                let outcome = packed(refusals, alloc)?;
                 Ok(Event::Finish(judge(program, outcome), ticket))
             }
             Err(number) => Err(number),

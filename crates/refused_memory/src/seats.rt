@@ -10,6 +10,7 @@ use bpf_profile::Layout;
 use helpers::Record;
 use http_front::Answerer;
 use http_slots::SlotAnswerer;
+use packed_outcomes::PackedOutcome;
 use refusals::RefusalNumber;
 use service::{OpenGate, Report, Request, Response};
 use slot_desk::{Desk, Seat};
@@ -92,7 +93,10 @@ fn request(alloc: Global, wish: Wish) -> Option<Request> {
         Wish::Acquire => Request::Acquire,
         Wish::Report => Request::Report(Report {
             ticket: 1,
-            outcome: Record::from_parts([0; 192], [0; 16], &[])?,
+            outcome: PackedOutcome::pack(
+                alloc,
+                &Record::from_parts([0; 192], [7; 16], b"tag")?,
+            ).ok()?,
         }),
         Wish::Install => {
             let mut program = Vec::new(alloc);

@@ -26,18 +26,17 @@ wished asked = record { moment = asked.moment; want = request_data asked.request
 
 -- ---- what a line asks for
 
--- what is asked under a name other than `install`; None where nothing is, or its values can't be used
+-- what is asked under a name other than `install` and `report`; None where nothing is, or its values can't be used
 unfoldable pub plain_named : List ℕ → Data → Option RequestData
 plain_named name d =
     if bytes_eq name (codes "acquire") then Some acquire
-    else (if bytes_eq name (codes "report") then option_map report (report_of d)
     else (if bytes_eq name (codes "release") then option_map release (number_at (codes "ticket") d)
     else (if bytes_eq name (codes "transition") then option_map move (state_of d)
     else (if bytes_eq name (codes "reset") then Some reset
     else (if bytes_eq name (codes "read") then Some read
     else (if bytes_eq name (codes "cut") then Some cut
     else (if bytes_eq name (codes "roll") then option_map roll (number_at (codes "to") d)
-    else None)))))))
+    else None))))))
 
 -- the install of a program for records of a layout; None where one of them can't be used
 unfoldable pub install_of : Data → Option RequestData
@@ -46,9 +45,15 @@ install_of d = do
   layout ← layout_of d
   Some (install program layout)
 
+-- the report of an outcome under a ticket; None where one of them can't be used
+abbrev pub report_in : Data → Option RequestData
+report_in d = option_map report (report_of d)
+
 -- what is asked under a name; an install names a program and a layout
 unfoldable pub want_named : List ℕ → Data → Option RequestData
-want_named name d = if bytes_eq name (codes "install") then install_of d else plain_named name d
+want_named name d =
+    if bytes_eq name (codes "install") then install_of d
+    else (if bytes_eq name (codes "report") then report_in d else plain_named name d)
 
 -- what a JSON value asks for; None where it is no object, or a value is missing, of the wrong kind or out of range
 unfoldable pub asked_in : Data → Option Wish

@@ -3,7 +3,7 @@ ghost use Rattle.std.specs.Prelude.{◌≡◌, IfOk, option_map};
 ghost use Rattle.serde_json.specs.View.{view};
 ghost use Rattle.service_profile.specs.Answers.{map_ok};
 ghost use Rattle.service.specs.Asked.{request_data};
-ghost use Rattle.replay.specs.Asking.{wished, install_of, plain_named, want_named, asked_in, asked};
+ghost use Rattle.replay.specs.Asking.{wished, install_of, report_in, plain_named, want_named, asked_in, asked};
 
 use refusals::RefusalNumber;
 use requests::{layout, number_at, program, report, state, text_at};
@@ -33,14 +33,23 @@ fn install_of(alloc: Global, value: &Value) -> Result<Option<Request>, AllocErro
     Ok(Some(Request::Install { program, layout }))
 }
 
-/// What is asked under a name beside an install.
+/// The report that a value describes. The error is want of memory.
+fn report_in(alloc: Global, value: &Value) -> Result<Option<Request>, AllocError>
+    ensures { IfOk result (λ call. option_map request_data call ≡ report_in (view value.now)) }
+{
+    match report(alloc, value)? {
+        Some(reported) => Ok(Some(Request::Report(reported))),
+        None => Ok(None),
+    }
+}
+
+/// What is asked under a name beside an install and a report.
 #[tactic(auto, unfolding(crate::specs::Asking::plain_named))]
 fn plain_named(name: &str, value: &Value) -> Option<Request>
     ensures { option_map request_data result ≡ plain_named name.now (view value.now) }
 {
     match name {
         "acquire" => Some(Request::Acquire),
-        "report" => Some(Request::Report(report(value)?)),
         "release" => Some(Request::Release(number_at(value, "ticket")?)),
         "transition" => Some(Request::Move(state(value)?)),
         "reset" => Some(Request::Reset),
@@ -58,6 +67,7 @@ fn call_named(alloc: Global, name: &str, value: &Value) -> Result<Option<Request
 {
     match name {
         "install" => install_of(alloc, value),
+        "report" => report_in(alloc, value),
         _ => Ok(plain_named(name, value)),
     }
 }

@@ -29,11 +29,12 @@ pub fn report<P, B: BookCalls<P>, G: Gate>(
     // The reply is that to the finish, with the verdict of the program that the look found, or why it found none.
     ensures { IsReportServed (B.calls place.now) book.old moment report result book.new }
 {
-    match book.look(place, report.ticket) {
+    let Report { ticket, outcome } = report;
+    match book.look(place, ticket) {
         Ok(program) => {
-            let judged = judge(program, report.outcome);
-            gate.between(report.ticket);
-            book.apply(place, moment, Event::Finish(judged, report.ticket))
+            let judged = judge(program, outcome);
+            gate.between(ticket);
+            book.apply(place, moment, Event::Finish(judged, ticket))
         }
         Err(number) => Reply::Refused(number),
     }

@@ -1,15 +1,15 @@
 //! What a service is asked for.
 use book::State;
 use bpf_profile::Layout;
-use helpers::Record;
+use packed_outcomes::PackedOutcome;
 
 /// What is reported of a call.
-#[derive(Clone, Copy, Debug)]
+#[derive(Drop)]
 pub struct Report {
     /// The ticket under which the call was made.
     pub ticket: u64,
-    /// The record of its outcome.
-    pub outcome: Record,
+    /// Its outcome, packed where the report comes in, so that no later step wants memory for it.
+    pub outcome: PackedOutcome,
 }
 
 /// What a service is asked for.

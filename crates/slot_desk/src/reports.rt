@@ -11,7 +11,7 @@ use crate::seats::Seat;
 use crate::service_seat::ServiceSeat;
 use crate::services::ServiceId;
 use book::Reply;
-use helpers::Record;
+use packed_outcomes::PackedOutcome;
 use service::{Gate, Report, report};
 use std::mem;
 use std::sync::Wait;
@@ -26,7 +26,7 @@ impl Desk {
         service: ServiceId,
         moment: u64,
         ticket: u64,
-        outcome: Record,
+        outcome: PackedOutcome,
         gate: &G,
     ) -> Reply
         requires seat { IsSeatOf self.now seat.old }

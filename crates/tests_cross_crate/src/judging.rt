@@ -4,6 +4,7 @@ use crate::programs::bytes_of_slots;
 use bpf_profile::Layout;
 use bpf_run::{Verdict, judge, run};
 use helpers::Record;
+use packed_outcomes::PackedOutcome;
 use std::alloc::Global;
 use std::process::Abort;
 use std::sync::Arc;
@@ -96,10 +97,11 @@ fn judged_work_is_tied(rt: HostRuntime) {
     let slots = [0xb700000002000000, 0x9500000000000000];
     let program = Arc::new(alloc, verified(&rt, alloc, &slots)).expect(&rt, "ample memory");
     let outcome = outcome(&rt, 0, 500);
-    let judged = judge(program, outcome);
+    let packed = PackedOutcome::pack(alloc, &outcome).expect(&rt, "ample memory");
+    let judged = judge(program, packed);
     same(&rt, judged.verdict(), Verdict::Ignored);
     same(&rt, judged.steps(), 2);
-    same(&rt, *judged.outcome(), outcome);
+    same(&rt, judged.outcome().unpack(), outcome);
     let bytes = bytes_of_slots(&rt, alloc, &slots);
     same(&rt, judged.program().bytes(), bytes.as_slice());
 }

@@ -5,6 +5,7 @@ use book::{Book, Config, ConfigParts, Event, Fate, Reading, Reply, State};
 use bpf_profile::{Layout, Verdict};
 use bpf_run::judge;
 use helpers::Record;
+use packed_outcomes::PackedOutcome;
 use refusals::RefusalNumber;
 use service::Response;
 use std::alloc::{AllocError, Global};
@@ -231,9 +232,10 @@ fn apply(book: &mut Book, seat: u32, moment: u64, event: Event) {
 }
 
 /// The end of a ticket with the outcome of a call that was answered.
-fn finish(rt: &impl Abort, book: &Book, ticket: u64) -> Event {
+fn finish(rt: &impl Abort, alloc: Global, book: &Book, ticket: u64) -> Event {
     let program = book.look(ticket).expect(rt, "an open ticket");
-    let outcome = Record::from_parts([0; 192], [0; 16], &[]).expect(rt, "an empty tag");
+    let record = Record::from_parts([0; 192], [0; 16], &[]).expect(rt, "an empty tag");
+    let outcome = PackedOutcome::pack(alloc, &record).expect(rt, "ample memory");
     Event::Finish(judge(program, outcome), ticket)
 }
 
@@ -272,7 +274,7 @@ fn entries_are_written(rt: HostRuntime) {
     let alloc = rt.alloc();
     let mut book = book(&rt, alloc);
     apply(&mut book, 1, 1000, Event::Acquire);
-    let finished = finish(&rt, &book, 1);
+    let finished = finish(&rt, alloc, &book, 1);
     apply(&mut book, 2, 900, finished);
     apply(&mut book, 2, 0, install(&rt, alloc));
     apply(&mut book, 2, 0, Event::Acquire);

@@ -3,6 +3,7 @@ use crate::checks::{is_true, same};
 use book::{Book, Config, ConfigParts, Fate, Reply, State};
 use bpf_profile::{Layout, Verdict};
 use helpers::Record;
+use packed_outcomes::PackedOutcome;
 use refusals::RefusalNumber;
 use service::{Gate, ONLY_SEAT, OpenGate, Report, Request, Response, ask};
 use std::alloc::Global;
@@ -43,8 +44,9 @@ fn install(rt: &impl Abort, alloc: Global, bytes: &[u8]) -> Request {
 }
 
 /// A report of the outcome of a call that was answered.
-fn report(rt: &impl Abort, ticket: u64) -> Request {
-    let outcome = Record::from_parts([0; 192], [0; 16], &[]).expect(rt, "an empty tag");
+fn report(rt: &impl Abort, alloc: Global, ticket: u64) -> Request {
+    let record = Record::from_parts([0; 192], [0; 16], &[]).expect(rt, "an empty tag");
+    let outcome = PackedOutcome::pack(alloc, &record).expect(rt, "ample memory");
     Request::Report(Report { ticket, outcome })
 }
 
@@ -73,9 +75,9 @@ fn events_are_replied_to(rt: HostRuntime) {
         version: 1,
         state: closed,
     };
-    is_replied(&rt, alloc, &mut book, report(&rt, 1), finished);
+    is_replied(&rt, alloc, &mut book, report(&rt, alloc, 1), finished);
     let unknown = Reply::Refused(RefusalNumber::NoTicket);
-    is_replied(&rt, alloc, &mut book, report(&rt, 2), unknown);
+    is_replied(&rt, alloc, &mut book, report(&rt, alloc, 2), unknown);
     let spent = Reply::Refused(RefusalNumber::TicketSpent);
     is_replied(&rt, alloc, &mut book, Request::Release(1), spent);
     let opened = Reply::Moved {
@@ -204,9 +206,25 @@ fn reports_pass_the_gate_once(rt: HostRuntime) {
         seen_behind(alloc, book, Request::Acquire, &gate),
         (0, 0),
     );
-    same(&rt, seen_behind(alloc, book, report(&rt, 2), &gate), (1, 2));
+    same(
+        &rt,
+        seen_behind(alloc, book, report(&rt, alloc, 2), &gate),
+        (1, 2),
+    );
     // A look that is refused doesn't come to the gate: of a ticket that has ended, and of one that was never issued.
-    same(&rt, seen_behind(alloc, book, report(&rt, 2), &gate), (1, 2));
-    same(&rt, seen_behind(alloc, book, report(&rt, 9), &gate), (1, 2));
-    same(&rt, seen_behind(alloc, book, report(&rt, 1), &gate), (2, 1));
+    same(
+        &rt,
+        seen_behind(alloc, book, report(&rt, alloc, 2), &gate),
+        (1, 2),
+    );
+    same(
+        &rt,
+        seen_behind(alloc, book, report(&rt, alloc, 9), &gate),
+        (1, 2),
+    );
+    same(
+        &rt,
+        seen_behind(alloc, book, report(&rt, alloc, 1), &gate),
+        (2, 1),
+    );
 }

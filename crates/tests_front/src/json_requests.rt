@@ -231,7 +231,7 @@ fn other_configurations_are_refused(rt: HostRuntime) {
 
 /// The report in a text.
 fn report_in(rt: &impl Abort, alloc: Global, text: &str) -> Option<Report> {
-    report(&value(rt, alloc, text))
+    report(alloc, &value(rt, alloc, text)).expect(rt, "ample memory")
 }
 
 /// Checks that these are no reports.

@@ -8,6 +8,7 @@ use book::State;
 use bpf_profile::Layout;
 use helpers::Record;
 use http_front::{Answerer, Books};
+use packed_outcomes::PackedOutcome;
 use service::{Report, Response};
 use std::alloc::Global;
 use std::process::Abort;
@@ -29,8 +30,9 @@ fn place_of_pay(rt: &impl Abort, books: &Books) -> usize
 }
 
 /// A report of the outcome of a call that was answered.
-fn report(rt: &impl Abort, ticket: u64) -> Report {
-    let outcome = Record::from_parts([0; 192], [0; 16], &[]).expect(rt, "an empty tag");
+fn report(rt: &impl Abort, alloc: Global, ticket: u64) -> Report {
+    let record = Record::from_parts([0; 192], [0; 16], &[]).expect(rt, "an empty tag");
+    let outcome = PackedOutcome::pack(alloc, &record).expect(rt, "ample memory");
     Report { ticket, outcome }
 }
 
@@ -49,7 +51,7 @@ fn routes_ask_what_they_say(rt: HostRuntime) {
     let bytes = Vec::from_slice(alloc, &IGNORING).expect(&rt, "ample memory");
     let installed = books.install(place_of_pay(&rt, &books), 7, bytes, Layout::One);
     is_body(&rt, alloc, installed, "{\"budget\":2,\"version\":2}");
-    let reported = books.report(place_of_pay(&rt, &books), 7, report(&rt, 1));
+    let reported = books.report(place_of_pay(&rt, &books), 7, report(&rt, alloc, 1));
     let recorded =
         "{\"fate\":\"recorded\",\"state\":\"CLOSED\",\"steps\":6,\"verdict\":\"success\",\"version\":1}";
     is_body(&rt, alloc, reported, recorded);

@@ -3,7 +3,7 @@ ghost use Rattle.std.specs.Prelude.{◌≡◌, map};
 ghost use Rattle.desk.specs.Services.{service_of};
 
 use crate::checks::same;
-use crate::wishes::{Wish, program, response, shared_program};
+use crate::wishes::{Wish, outcome_of, program, shared_program};
 use book::{Book, Config, ConfigParts, Reply};
 use desk::{Desk, Gate, Offered, Seat, Unclosed};
 use refusals::RefusalNumber;
@@ -38,7 +38,7 @@ pub(crate) fn ask<L: Ledger, M: Ledger + Offered, R: Wait + Abort, G: Gate>(
     match wish {
         Wish::Acquire => desk.acquire(rt, seat, service, moment),
         Wish::Report(ticket, status) => {
-            let outcome = response(rt, status);
+            let outcome = outcome_of(rt, alloc, status);
             desk.report(rt, seat, service, moment, ticket, outcome, gate)
         }
         Wish::Release(ticket) => desk.release(rt, seat, service, moment, ticket),

@@ -1,7 +1,7 @@
 //! Histories of a book, step by step. What a book does is called through functions that promise nothing, so
 //! that the proof of a test stays short.
 use crate::checks::{is_true_at, same_at};
-use crate::wishes::{Answer, Wish, is_entry, program, reply, response, shared_program};
+use crate::wishes::{Answer, Wish, is_entry, outcome_of, program, reply, shared_program};
 use book::{Book, Config, ConfigParts, Entry, Event, Fate, Reading, Reply, State};
 use bpf_run::{Verdict, judge};
 use refusals::RefusalNumber;
@@ -115,7 +115,7 @@ pub(crate) fn ask(
 ) -> Reply {
     match wish {
         Wish::Acquire => apply(book, seat, moment, Event::Acquire),
-        Wish::Report(ticket, status) => report(rt, book, seat, moment, ticket, status),
+        Wish::Report(ticket, status) => report(rt, alloc, book, seat, moment, ticket, status),
         Wish::Release(ticket) => apply(book, seat, moment, Event::Release(ticket)),
         Wish::InstallIgnoring => install(rt, alloc, book, seat, moment, true),
         Wish::InstallDefault => install(rt, alloc, book, seat, moment, false),
@@ -131,6 +131,7 @@ fn apply(book: &mut Book, seat: u32, moment: u64, event: Event) -> Reply {
 /// Reports a response under a ticket, which the ticket's program judges.
 fn report(
     rt: &impl Abort,
+    alloc: Global,
     book: &mut Book,
     seat: u32,
     moment: u64,
@@ -138,7 +139,7 @@ fn report(
     status: u16,
 ) -> Reply {
     match book.look(ticket) {
-        Ok(program) => finish(rt, book, seat, moment, ticket, status, program),
+        Ok(program) => finish(rt, alloc, book, seat, moment, ticket, status, program),
         Err(number) => Reply::Refused(number),
     }
 }
@@ -146,6 +147,7 @@ fn report(
 /// Reports under a ticket what a program makes of a response.
 fn finish(
     rt: &impl Abort,
+    alloc: Global,
     book: &mut Book,
     seat: u32,
     moment: u64,
@@ -153,7 +155,7 @@ fn finish(
     status: u16,
     program: Arc<Verified>,
 ) -> Reply {
-    let judged = judge(program, response(rt, status));
+    let judged = judge(program, outcome_of(rt, alloc, status));
     apply(book, seat, moment, Event::Finish(judged, ticket))
 }
 
@@ -166,7 +168,7 @@ fn report_of_stranger(
     ticket: u64,
 ) -> Reply {
     let program = shared_program(rt, alloc, true);
-    finish(rt, book, 1, moment, ticket, 200, program)
+    finish(rt, alloc, book, 1, moment, ticket, 200, program)
 }
 
 /// Installs the default classifier, or the program that ignores every outcome.

@@ -4,6 +4,7 @@ use book::{Book, Config, ConfigParts, Event, Fate, Reply, State};
 use bpf_profile::{Layout, Verdict};
 use bpf_run::judge;
 use helpers::Record;
+use packed_outcomes::PackedOutcome;
 use refusals::RefusalNumber;
 use std::alloc::Global;
 use std::process::Abort;
@@ -37,12 +38,13 @@ fn book(rt: &impl Abort, alloc: Global) -> Book {
     Book::open(alloc, config, classifier).expect(rt, "ample memory")
 }
 
-/// A record with one byte of its context that is not 0.
-fn marked(rt: &impl Abort, place: usize) -> Record {
+/// An outcome with one byte of its context that is not 0.
+fn marked(rt: &impl Abort, alloc: Global, place: usize) -> PackedOutcome {
     let mut context = [0u8; 192];
     let byte = context.get_mut(place).expect(rt, "a place of the record");
     *byte = 1;
-    Record::from_parts(context, [0; 16], &[]).expect(rt, "an empty tag")
+    let record = Record::from_parts(context, [0; 16], &[]).expect(rt, "an empty tag");
+    PackedOutcome::pack(alloc, &record).expect(rt, "ample memory")
 }
 
 #[test]
@@ -81,7 +83,7 @@ fn work_for_another_layout_is_a_strangers(rt: HostRuntime) {
         (Layout::Two, ignored),
     ] {
         let program = Arc::new(alloc, program(&rt, alloc, &IGNORING, layout));
-        let judged = judge(program.expect(&rt, "ample memory"), marked(&rt, 0));
+        let judged = judge(program.expect(&rt, "ample memory"), marked(&rt, alloc, 0));
         same(&rt, book.apply(0, 0, Event::Finish(judged, 1)), reply);
     }
 }
@@ -110,7 +112,7 @@ fn bytes_behind_the_first_layout_are_judged_by_the_second(rt: HostRuntime) {
             version: 2,
             state: State::Closed,
         };
-        let judged = judge(program, marked(&rt, place));
+        let judged = judge(program, marked(&rt, alloc, place));
         same(
             &rt,
             book.apply(0, 0, Event::Finish(judged, ticket)),

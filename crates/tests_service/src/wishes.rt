@@ -3,6 +3,7 @@ use book::{Entry, Event, Fate, Reading, Reply, State};
 use bpf_profile::Layout;
 use bpf_run::Verdict;
 use helpers::Record;
+use packed_outcomes::PackedOutcome;
 use refusals::RefusalNumber;
 use service_profile::ConfigParts;
 use std::alloc::Global;
@@ -141,12 +142,17 @@ pub(crate) fn half_a_second() -> ConfigParts {
 }
 
 /// The record of a response.
-pub(crate) fn response<R: Abort>(rt: &R, status: u16) -> Record {
+fn response<R: Abort>(rt: &R, status: u16) -> Record {
     let mut context = [0u8; 192];
     let [low, high] = status.to_le_bytes();
     context[4] = low;
     context[5] = high;
     Record::from_parts(context, [0; 16], &[]).expect(rt, "an empty tag")
+}
+
+/// The outcome of a response.
+pub(crate) fn outcome_of<R: Abort>(rt: &R, alloc: Global, status: u16) -> PackedOutcome {
+    PackedOutcome::pack(alloc, &response(rt, status)).expect(rt, "ample memory")
 }
 
 /// The default classifier, or the program that ignores every outcome.
@@ -169,7 +175,7 @@ fn is_event(rt: &impl Abort, event: &Event, wish: Wish) -> bool {
         Wish::Acquire => matches!(event, Event::Acquire),
         Wish::Report(ticket, status) => match event {
             Event::Finish(judged, finished) => {
-                *finished == ticket && *judged.outcome() == response(rt, status)
+                *finished == ticket && judged.outcome().unpack() == response(rt, status)
             }
             _ => false,
         },

@@ -2,7 +2,7 @@
 ghost use Rattle.std.specs.Prelude.{◌≡◌, ◌<◌, length};
 ghost use Rattle.slot_desk.specs.Seats.{IsSeatOf};
 
-use crate::wishes::{Wish, response, shared_program};
+use crate::wishes::{Wish, outcome_of, shared_program};
 use book::{Entry, Event, Reading, Reply, State};
 use refusals::RefusalNumber;
 use service::{Gate, Request, Response};
@@ -91,7 +91,7 @@ impl<'a> Caller<'a> {
         ensures { self.new ≡ self.old }
     {
         let service = self.service(rt, name);
-        let outcome = response(rt, status);
+        let outcome = outcome_of(rt, alloc, status);
         assert!(rt; self.seat.count() < MANY);
         self.desk
             .report(rt, &mut self.seat, service, moment, ticket, outcome, gate)

@@ -5,7 +5,7 @@ use crate::callers::Caller;
 use crate::checks::{is_true, same, same_at};
 use crate::fixtures::{Entered, are_entries, close, open_desk, seat_of};
 use crate::histories::{Step, play};
-use crate::wishes::{Answer, FAILURE, FRESH, Wish, program, reply, response};
+use crate::wishes::{Answer, FAILURE, FRESH, Wish, outcome_of, program, reply};
 use book::{Reading, Reply, State};
 use bpf_profile::Layout;
 use refusals::RefusalNumber;
@@ -114,7 +114,7 @@ fn request_of<R: Abort>(rt: &R, alloc: Global, wish: Wish) -> Request {
         Wish::Acquire => Request::Acquire,
         Wish::Report(ticket, status) => Request::Report(Report {
             ticket,
-            outcome: response(rt, status),
+            outcome: outcome_of(rt, alloc, status),
         }),
         Wish::Release(ticket) => Request::Release(ticket),
         Wish::Install => install(rt, alloc, true),

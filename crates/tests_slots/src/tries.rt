@@ -4,7 +4,7 @@ ghost use Rattle.std.specs.Prelude.{◌≡◌};
 use crate::callers::Caller;
 use crate::checks::{is_true, same};
 use crate::fixtures::{are_entries, close_one, has_entries, open_desk, seat_of, two_seats};
-use crate::wishes::{Answer, FAILURE, FRESH, SPENT, Wish, reply, response, shared_program};
+use crate::wishes::{Answer, FAILURE, FRESH, SPENT, Wish, outcome_of, reply, shared_program};
 use book::{Event, Reading, Reply};
 use bpf_run::judge;
 use refusals::RefusalNumber;
@@ -38,7 +38,7 @@ fn succeed<R: Abort>(rt: &R, caller: &mut Caller<'_>, moment: u64, event: Event)
 /// A response with this status under a ticket, as the default classifier judges it.
 fn finish<R: Abort>(rt: &R, alloc: Global, ticket: u64, status: u16) -> Event {
     let program = shared_program(rt, alloc, false);
-    Event::Finish(judge(program, response(rt, status)), ticket)
+    Event::Finish(judge(program, outcome_of(rt, alloc, status)), ticket)
 }
 
 /// The entries of a ticket that is finished twice.
