@@ -1,5 +1,5 @@
 //! The record of an outcome, and the helper functions on it.
-ghost use Rattle.std.specs.Prelude.{◌≡◌, ◌≤◌, ◌<◌, ◌+◌, ◌%◌, length, drop, IsNone, IfSome, ◌↔◌, nat_eq, slice_index};
+ghost use Rattle.std.specs.Prelude.{◌≡◌, ◌≤◌, ◌<◌, ◌+◌, ◌%◌, length, drop, replicate, [], IsNone, IfSome, ◌↔◌, nat_eq, slice_index};
 ghost use Rattle.std.specs.List.{starts_with};
 ghost use Rattle.byteorder.specs.Endian.{little_number};
 ghost use Rattle.bpf_profile.specs.Limits.{record_size, front_offset, front_size, fact_count, most_tag_bytes};
@@ -93,6 +93,20 @@ impl Record {
         let mut whole = [0; RECORD_SIZE];
         whole[..SHORT_CONTEXT].copy_from_slice(&context);
         Record::from_parts(whole, facts, tag)
+    }
+
+    /// The record whose context begins with these bytes and has zeros behind them. Its facts are 0, and its tag is empty.
+    pub fn from_beginning(bytes: &[u8]) -> Record
+        requires { length bytes.now ≤ record_size }
+        ensures { result ≡ record { context = padded record_size bytes.now; facts = replicate fact_count 0; tag = [] } }
+    {
+        let mut outcome = Record {
+            context: [0; RECORD_SIZE],
+            facts: [0; FACT_COUNT],
+            tag: Tag::none(),
+        };
+        write_padded(bytes, &mut outcome.context);
+        outcome
     }
 
     /// The context's bytes.

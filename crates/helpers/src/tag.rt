@@ -1,5 +1,5 @@
 //! The tag of a record.
-ghost use Rattle.std.specs.Prelude.{◌≡◌, ◌≤◌, ◌<◌, length, IsNone, IfSome, ◌↔◌};
+ghost use Rattle.std.specs.Prelude.{◌≡◌, ◌≤◌, ◌<◌, [], length, IsNone, IfSome, ◌↔◌};
 ghost use Rattle.bpf_profile.specs.Limits.{most_tag_bytes};
 ghost use Rattle.bpf_profile.specs.Outcomes.{AreBytes};
 
@@ -48,6 +48,16 @@ impl Tag {
             bytes: room,
             count: bytes.len(),
         })
+    }
+
+    /// The empty tag.
+    pub fn none() -> Tag
+        ensures { result ≡ [] }
+    {
+        Tag {
+            bytes: [0; MOST_TAG_BYTES],
+            count: 0,
+        }
     }
 
     /// The bytes.

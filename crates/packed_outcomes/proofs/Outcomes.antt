@@ -1,16 +1,15 @@
 -- An outcome from its words.
-use Rattle.std.proofs.Common.{◌≡◌, refl, sym, ap, ◌∙◌, ℕ, zero, suc, ◌+◌, ◌-◌, ◌*◌, ◌/◌, ◌%◌, ◌^◌, ◌<◌, ◌≤◌, inl, inr, List, [], ◌∷◌, ◌++◌, length, take, drop, replicate, get_or, slice_set, min, rules, arith}
-use Rattle.std.specs.List.{AllByRecursion}
-use Rattle.std.proofs.lemmas.List.{take_at, drop_at, drop-drop, get_or-drop, take_all, take_min, length-append, length-drop, length-take-le, length-replicate, take-replicate}
+use Rattle.std.proofs.Common.{◌≡◌, refl, sym, ap, ◌∙◌, ℕ, zero, suc, ◌+◌, ◌-◌, ◌/◌, ◌%◌, ◌^◌, ◌<◌, ◌≤◌, inl, inr, List, [], ◌∷◌, ◌++◌, length, take, drop, replicate, get_or, slice_set, min, arith}
+use Rattle.std.proofs.lemmas.List.{take_at, drop_at, drop-drop, get_or-drop, take_min, length-append, length-drop, length-take-le, length-replicate, take-replicate, append_assoc}
 use Rattle.std.proofs.lemmas.Bool.{cases_eq}
 use Rattle.byteorder.specs.Endian.{little_number}
 use Rattle.helpers.specs.Padded.{padded}
 use Rattle.bpf_profile.specs.Outcomes.{Outcome, IsOutcome, AreBytes, duration_of}
-use Rattle.packed_outcomes.specs.Words.{words_in, words_of, bytes_of, outcome_of}
-use Rattle.packed_outcomes.specs.Marks.{marks_of, kept_of, spread}
+use Rattle.packed_outcomes.specs.Words.{words_in, words_of, bytes_of, outcome_of, HasNumbersAlone}
+use Rattle.packed_outcomes.specs.Marks.{spread, packed_of, unpacked_words}
 use Rattle.packed_outcomes.specs.Packed.{unpacked}
-use Rattle.packed_outcomes.proofs.WordBytes.{words_in_length, bytes_again, bytes_length, second_word}
-use Rattle.packed_outcomes.proofs.Spreading.{spread_again, spread_zero, spread_some}
+use Rattle.packed_outcomes.proofs.WordBytes.{words_in_length, bytes_again, bytes_length, second_word, words_in_two}
+use Rattle.packed_outcomes.proofs.Spreading.{unpacked_again, spread_zero, spread_some, spread_front, packed_front}
 
 pub words_length : (o : Outcome) → length o.facts ≡ 16 → length (words_of o) ≡ 45
 words_length o sixteen =
@@ -47,14 +46,10 @@ outcome_again o is long =
     parts_outcome (words_in 24 o.context) o.facts (words_in 4 (padded 32 o.tag)) (length o.tag) (words_in_length 24 o.context) is.sixteen (words_in_length 4 (padded 32 o.tag))
     ∙ (λ i. record { context = context i; facts = o.facts; tag = short i })
 
--- an outcome comes back from what is kept of it
-pub unpacked_again : (o : Outcome) → IsOutcome 192 o → length o.context ≡ 192 → unpacked (marks_of (words_of o)) (kept_of (words_of o)) ≡ o
-unpacked_again o is long =
-    ap (λ (n : ℕ). outcome_of (spread n (marks_of (words_of o)) (kept_of (words_of o)))) (sym (words_length o is.sixteen)) ∙ ap outcome_of (spread_again (words_of o)) ∙ outcome_again o is long
-
-pub packed_is : (o : Outcome) (marks : ℕ) (kept : List ℕ) → marks ≡ marks_of (words_of o) → kept ≡ kept_of (words_of o) → IsOutcome 192 o → length o.context ≡ 192 → unpacked marks kept ≡ o
-packed_is o marks kept m k is long =
-    ap (λ (n : ℕ). unpacked n kept) m ∙ ap (λ (ks : List ℕ). unpacked (marks_of (words_of o)) ks) k ∙ unpacked_again o is long
+-- an outcome comes back from what is packed of it
+pub packed_is : (o : Outcome) (packed : List ℕ) → packed ≡ packed_of (words_of o) → IsOutcome 192 o → length o.context ≡ 192 → unpacked packed ≡ o
+packed_is o packed p is long =
+    ap unpacked p ∙ ap (λ (n : ℕ). outcome_of (unpacked_words n (packed_of (words_of o)))) (sym (words_length o is.sixteen)) ∙ ap outcome_of (unpacked_again (words_of o)) ∙ outcome_again o is long
 
 -- the front of a tag filled up
 front_padded : (n k : ℕ) (tag : List ℕ) → length tag ≤ n → n ≤ length tag + k → take n (tag ++ replicate k 0) ≡ tag ++ replicate (n - length tag) 0
@@ -87,17 +82,17 @@ tag_taken words first second front back count bytes size e1 e2 e3 e4 ec eb =
 
 -- ---- the duration
 
-from_second : (m a b : ℕ) (kept rest : List ℕ) → spread 45 m kept ≡ a ∷ b ∷ rest → b < 2 ^ 64 → duration_of (unpacked m kept) ≡ b
+from_second : (m a b : ℕ) (kept rest : List ℕ) → spread 45 m kept ≡ a ∷ b ∷ rest → b < 2 ^ 64 → duration_of (outcome_of (spread 45 m kept)) ≡ b
 from_second m a b kept rest is small =
     ap (λ (words : List ℕ). little_number 8 (drop 8 (bytes_of (take 24 words)))) is ∙ second_word a b (take 22 rest) small
 
-pub duration_zero : (m : ℕ) (kept : List ℕ) → m / 2 % 2 ≡ 0 → duration_of (unpacked m kept) ≡ 0
+pub duration_zero : (m : ℕ) (kept : List ℕ) → m / 2 % 2 ≡ 0 → duration_of (outcome_of (spread 45 m kept)) ≡ 0
 duration_zero m kept even = elim (cases_eq (m % 2) 0) [
   | inl first ↦ from_second m 0 0 kept (spread 43 (m / 2 / 2) kept) (spread_zero 44 m kept first ∙ ap (λ (ws : List ℕ). 0 ∷ ws) (spread_zero 43 (m / 2) kept even)) (omega arith)
   | inr first ↦ from_second m (get_or kept 0 0) 0 kept (spread 43 (m / 2 / 2) (drop 1 kept)) (spread_some 44 m kept (omega arith) ∙ ap (λ (ws : List ℕ). get_or kept 0 0 ∷ ws) (spread_zero 43 (m / 2) (drop 1 kept) even)) (omega arith)
 ]
 
-pub duration_some : (m w : ℕ) (kept : List ℕ) → m / 2 % 2 ≡ 1 → w ≡ get_or kept (m % 2) 0 → w < 2 ^ 64 → duration_of (unpacked m kept) ≡ w
+pub duration_some : (m w : ℕ) (kept : List ℕ) → m / 2 % 2 ≡ 1 → w ≡ get_or kept (m % 2) 0 → w < 2 ^ 64 → duration_of (outcome_of (spread 45 m kept)) ≡ w
 duration_some m w kept odd is small = elim (cases_eq (m % 2) 0) [
   | inl first ↦
       let word : get_or kept 0 0 ≡ w = ap (λ (k : ℕ). get_or kept k 0) (sym first) ∙ sym is in
@@ -107,3 +102,37 @@ duration_some m w kept odd is small = elim (cases_eq (m % 2) 0) [
       let word : get_or (drop 1 kept) 0 0 ≡ w = get_or-drop 1 kept 0 0 ∙ ap (λ (k : ℕ). get_or kept k 0) (sym place) ∙ sym is in
       from_second m (get_or kept 0 0) w kept (spread 43 (m / 2 / 2) (drop 1 (drop 1 kept))) (spread_some 44 m kept place ∙ ap (λ (ws : List ℕ). get_or kept 0 0 ∷ ws) (spread_some 43 (m / 2) (drop 1 kept) odd) ∙ ap (λ (x : ℕ). get_or kept 0 0 ∷ x ∷ spread 43 (m / 2 / 2) (drop 1 (drop 1 kept))) word) small
 ]
+
+-- the duration, from the marks and the words behind them
+pub duration_split : (packed : List ℕ) (m : ℕ) (kept : List ℕ) → m ≡ get_or packed 0 0 → kept ≡ drop 1 packed → duration_of (outcome_of (spread 45 m kept)) ≡ duration_of (unpacked packed)
+duration_split packed m kept first rest =
+    ap (λ (n : ℕ). duration_of (outcome_of (spread 45 n kept))) first ∙ ap (λ (ks : List ℕ). duration_of (outcome_of (spread 45 (get_or packed 0 0) ks))) rest
+
+-- ---- outcomes of which the numbers alone are not 0
+
+zero_words : words_in 16 (replicate 128 0) ≡ replicate 16 0
+unfolding words_in
+zero_words = refl
+
+zero_tag : words_in 4 (padded 32 []) ≡ replicate 4 0
+unfolding words_in
+zero_tag = refl
+
+numbers_words : (o : Outcome) → HasNumbersAlone o → words_of o ≡ words_in 8 o.context ++ replicate 37 0
+numbers_words o alone =
+    let first : words_in 24 o.context ≡ words_in 8 o.context ++ replicate 16 0 = words_in_two 8 16 24 o.context refl ∙ ap (λ (bs : List ℕ). words_in 8 o.context ++ words_in 16 bs) alone.front ∙ ap (λ (ws : List ℕ). words_in 8 o.context ++ ws) zero_words in
+    let last : words_in 4 (padded 32 o.tag) ++ (length o.tag ∷ []) ≡ replicate 5 0 = ap (λ (t : List ℕ). words_in 4 (padded 32 t) ++ (length t ∷ [])) alone.tag ∙ ap (λ (ws : List ℕ). ws ++ (0 ∷ [])) zero_tag in
+    ap (λ (ws : List ℕ). ws ++ (o.facts ++ (words_in 4 (padded 32 o.tag) ++ (length o.tag ∷ [])))) first
+    ∙ ap (λ (fs : List ℕ). (words_in 8 o.context ++ replicate 16 0) ++ (fs ++ (words_in 4 (padded 32 o.tag) ++ (length o.tag ∷ [])))) alone.facts
+    ∙ ap (λ (ws : List ℕ). (words_in 8 o.context ++ replicate 16 0) ++ (replicate 16 0 ++ ws)) last
+    ∙ append_assoc (words_in 8 o.context) (replicate 16 0) (replicate 16 0 ++ replicate 5 0)
+
+pub packed_numbers : (o : Outcome) → HasNumbersAlone o → packed_of (words_in 8 o.context) ≡ packed_of (words_of o)
+packed_numbers o alone = sym (ap packed_of (numbers_words o alone) ∙ packed_front (words_in 8 o.context) 37)
+
+pub numbers_outcome : (words : List ℕ) → length words ≡ 8 → record { context = padded 192 (bytes_of words); facts = replicate 16 0; tag = [] } ≡ outcome_of (words ++ replicate 37 0)
+numbers_outcome (a ∷ b ∷ c ∷ d ∷ e ∷ f ∷ g ∷ h ∷ []) size = refl
+numbers_outcome words size = absurd (omega arith)
+
+pub spread_numbers : (m : ℕ) (kept : List ℕ) → m < 2 ^ 8 → outcome_of (spread 8 m kept ++ replicate 37 0) ≡ outcome_of (spread 45 m kept)
+spread_numbers m kept small = ap outcome_of (sym (spread_front 8 37 45 m kept refl small))

@@ -1,9 +1,8 @@
 -- Words as bytes and back.
-use Rattle.std.proofs.Common.{◌≡◌, refl, sym, ap, ◌∙◌, ℕ, zero, suc, ◌+◌, ◌*◌, ◌/◌, ◌%◌, ◌^◌, ◌<◌, ◌≤◌, List, [], ◌∷◌, ◌++◌, length, take, drop, get_or, arith}
-use Rattle.std.proofs.lemmas.List.{drop_at, drop-drop, length-drop, length-append}
-use Rattle.std.specs.List.{flat_map, AllByRecursion}
-use Rattle.byteorder.specs.Endian.{little_number, little_bytes, little_from, IsRead}
-use Rattle.byteorder.specs.Numbers.{little_number-reads_back, little_from-lt, length-bytes_low_first}
+use Rattle.std.proofs.Common.{◌≡◌, refl, sym, ap, ◌∙◌, ℕ, zero, suc, ◌+◌, ◌*◌, ◌/◌, ◌%◌, ◌^◌, ◌<◌, ◌≤◌, List, [], ◌∷◌, ◌++◌, length, take, drop, arith}
+use Rattle.std.proofs.lemmas.List.{drop_at, drop-drop, drop-take, length-drop, length-append}
+use Rattle.byteorder.specs.Endian.{little_number, little_bytes, IsRead}
+use Rattle.byteorder.specs.Numbers.{little_number-reads_back, little_from-take, length-bytes_low_first}
 use Rattle.bpf_profile.specs.Outcomes.{AreBytes}
 use Rattle.packed_outcomes.specs.Words.{words_in, bytes_of}
 
@@ -65,3 +64,19 @@ bytes_length (w ∷ ws) = omega (arith, length-append (little_bytes 8 w) (bytes_
 pub second_word : (a b : ℕ) (words : List ℕ) → b < 2 ^ 64 → little_number 8 (drop 8 (bytes_of (a ∷ b ∷ words))) ≡ b
 second_word a b words small =
     ap (little_number 8) (drop_at (little_bytes 8 a) (bytes_of (b ∷ words)) 8 (length-bytes_low_first 0 8 a)) ∙ little_number-reads_back 8 b (bytes_of words) (omega arith)
+
+pub words_in_two : (n k t : ℕ) (bytes : List ℕ) → t ≡ n + k → words_in t bytes ≡ words_in n bytes ++ words_in k (drop (8 * n) bytes)
+unfolding words_in
+words_in_two zero k t bytes size = let same : t ≡ k = omega arith in ap (λ (j : ℕ). words_in j bytes) same
+words_in_two (suc n) k zero bytes size = absurd (omega arith)
+words_in_two (suc n) k (suc t) bytes size =
+    ap (λ (ws : List ℕ). little_number 8 bytes ∷ ws) (words_in_two n k t (drop 8 bytes) (omega arith) ∙ ap (λ (bs : List ℕ). words_in n (drop 8 bytes) ++ words_in k bs) (drop-drop (8 * n) 8 bytes ∙ ap (λ (j : ℕ). drop j bytes) (omega arith)))
+
+-- words stand in the first bytes alone
+pub words_in_front : (n t : ℕ) (bytes : List ℕ) → t ≡ 8 * n → words_in n (take t bytes) ≡ words_in n bytes
+unfolding words_in
+words_in_front zero t bytes size = refl
+words_in_front (suc n) t bytes size =
+    let first : little_number 8 (take t bytes) ≡ little_number 8 bytes = little_from-take 0 8 t bytes (omega arith) in
+    let behind : drop 8 (take t bytes) ≡ take (8 * n) (drop 8 bytes) = ap (λ (k : ℕ). drop 8 (take k bytes)) (omega arith) ∙ drop-take 8 (8 * n) bytes in
+    ap (λ (w : ℕ). w ∷ words_in n (drop 8 (take t bytes))) first ∙ ap (λ (ws : List ℕ). little_number 8 bytes ∷ ws) (ap (words_in n) behind ∙ words_in_front n (8 * n) (drop 8 bytes) refl)

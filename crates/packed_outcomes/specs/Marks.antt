@@ -18,3 +18,15 @@ unfoldable pub spread : ℕ → ℕ → List ℕ → List ℕ
 spread zero marks kept = []
 spread (suc n) marks kept =
     if marks % 2 == 0 then 0 ∷ spread n (marks / 2) kept else get_or kept 0 0 ∷ spread n (marks / 2) (drop 1 kept)
+
+-- what is packed of words: their marks, and those that aren't 0; nothing where all are 0
+abbrev pub with_marks : ℕ → List ℕ → List ℕ
+with_marks zero kept = []
+with_marks (suc marks) kept = suc marks ∷ kept
+
+abbrev pub packed_of : List ℕ → List ℕ
+packed_of words = with_marks (marks_of words) (kept_of words)
+
+-- so many words of what is packed of them
+abbrev pub unpacked_words : ℕ → List ℕ → List ℕ
+unpacked_words n packed = spread n (get_or packed 0 0) (drop 1 packed)

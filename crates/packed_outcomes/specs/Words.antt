@@ -1,5 +1,5 @@
 -- An outcome as a list of words below 2^64: those of its context, its facts, those of its tag, and the tag's length.
-use Rattle.std.specs.Prelude.{ℕ, zero, suc, List, [], ◌∷◌, ◌++◌, length, take, drop, get_or, flat_map}
+use Rattle.std.specs.Prelude.{◌≡◌, replicate, ℕ, zero, suc, List, [], ◌∷◌, ◌++◌, length, take, drop, get_or, flat_map}
 use Rattle.byteorder.specs.Endian.{little_number, little_bytes}
 use Rattle.bpf_profile.specs.Outcomes.{Outcome}
 use Rattle.helpers.specs.Padded.{padded}
@@ -28,3 +28,9 @@ outcome_of words = record {
   facts = take 16 (drop 24 words);
   tag = take (get_or (drop 44 words) 0 0) (bytes_of (take 4 (drop 40 words)));
 }
+
+-- all is 0 or empty but the numbers at the context's front
+pub record HasNumbersAlone (o : Outcome) : Type 0 where
+  pub front : drop 64 o.context ≡ replicate 128 0
+  pub facts : o.facts ≡ replicate 16 0
+  pub tag : o.tag ≡ []

@@ -3,9 +3,9 @@ ghost use Rattle.std.specs.Prelude.{◌≡◌, IfOk};
 ghost use Rattle.bpf_profile.specs.Limits.{record_size};
 ghost use Rattle.bpf_profile.specs.Outcomes.{IsOutcome, duration_of};
 
-use crate::kept::kept_of;
-use crate::spread::{kept_at, spread};
-use crate::words::{record_of, words_of};
+use crate::kept::pack;
+use crate::spread::{MARKS_OF_NUMBERS, kept_at, split, unpack_all, unpack_numbers};
+use crate::words::know_record;
 use helpers::Record;
 use std::alloc::{AllocError, Global};
 use std::marker::Model;
@@ -14,10 +14,8 @@ use std::marker::Model;
 /// not 0 are kept, in one piece of memory of just their size. An outcome of zeros with an empty tag takes none.
 #[derive(Drop)]
 pub struct PackedOutcome {
-    /// Bit i is 1 where word i isn't 0.
-    marks: u64,
-    /// The words that aren't 0, in their order.
-    kept: Vec<u64>,
+    /// Marks, whose bit i is 1 where word i isn't 0, and the words that aren't 0, in their order; nothing where all are 0.
+    words: Vec<u64>,
 }
 
 impl Model for PackedOutcome {
@@ -28,9 +26,9 @@ impl Model for PackedOutcome {
     ghost use Rattle.bpf_profile.specs.Limits.{record_size};
     ghost use Rattle.packed_outcomes.specs.Packed.{unpacked};
 
-    ghost view = { λ packed. unpacked packed.marks packed.kept.items };
+    ghost view = { λ packed. unpacked packed.words.items };
 
-    ghost invariant = { λ packed. IsOutcome record_size (unpacked packed.marks packed.kept.items) };
+    ghost invariant = { λ packed. IsOutcome record_size (unpacked packed.words.items) };
 }
 
 impl PackedOutcome {
@@ -38,12 +36,9 @@ impl PackedOutcome {
     pub fn pack(alloc: Global, outcome: &Record) -> Result<PackedOutcome, AllocError>
         ensures { IfOk result (λ packed. packed ≡ outcome.now) }
     {
-        let found = kept_of(&words_of(outcome));
-        let kept = Vec::from_slice(alloc, &found.room[found.start..])?;
-        Ok(PackedOutcome {
-            marks: found.marks,
-            kept,
-        })
+        know_record(outcome);
+        let words = pack(alloc, outcome)?;
+        Ok(PackedOutcome { words })
     }
 
     /// The outcome's record. It takes no memory.
@@ -51,7 +46,12 @@ impl PackedOutcome {
         ensures outcome { result ≡ self.now }
         ensures fits { IsOutcome record_size self.now }
     {
-        record_of(&spread(self.marks, &self.kept))
+        let (marks, kept) = split(&self.words);
+        if marks < MARKS_OF_NUMBERS {
+            unpack_numbers(marks, kept)
+        } else {
+            unpack_all(marks, kept)
+        }
     }
 
     /// How long the call took, in milliseconds.
@@ -59,10 +59,11 @@ impl PackedOutcome {
         ensures duration { result ≡ duration_of self.now }
         ensures fits { IsOutcome record_size self.now }
     {
-        if self.marks / 2 % 2 == 0 {
+        let (marks, kept) = split(&self.words);
+        if marks / 2 % 2 == 0 {
             0
         } else {
-            kept_at(&self.kept, (self.marks % 2) as usize)
+            kept_at(kept, (marks % 2) as usize)
         }
     }
 
@@ -71,8 +72,7 @@ impl PackedOutcome {
         ensures { IfOk result (λ copy. copy ≡ self.now) }
     {
         Ok(PackedOutcome {
-            marks: self.marks,
-            kept: Vec::from_slice(*self.kept.allocator(), &self.kept)?,
+            words: Vec::from_slice(*self.words.allocator(), &self.words)?,
         })
     }
 }

@@ -1,5 +1,5 @@
 //! A record as a list of words, and back.
-ghost use Rattle.std.specs.Prelude.{◌≡◌, ◌≤◌, ◌<◌, ◌*◌, ◌^◌, length};
+ghost use Rattle.std.specs.Prelude.{◌≡◌, ◌≤◌, ◌<◌, ◌*◌, ◌^◌, ◌++◌, length, replicate};
 ghost use Rattle.std.specs.List.{AllByRecursion};
 ghost use Rattle.bpf_profile.specs.Limits.{record_size};
 ghost use Rattle.bpf_profile.specs.Outcomes.{IsOutcome};
@@ -11,6 +11,11 @@ use helpers::Record;
 
 /// How many words a record's context is.
 const CONTEXT_WORDS: usize = 24;
+
+/// How many words of numbers a record's context begins with, and how many bytes these are.
+pub const NUMBER_WORDS: usize = 8;
+
+pub const NUMBER_BYTES: usize = 64;
 
 /// How many words the bytes of a tag are.
 const TAG_WORDS: usize = 4;
@@ -26,8 +31,17 @@ fn read_words(bytes: &[u8], words: &mut [u64])
     LittleEndian::read_u64_into(bytes, words);
 }
 
+/// Writes the words of the numbers that a record's context begins with.
+pub fn read_numbers(outcome: &Record, words: &mut [u64])
+    requires { length words.old ≡ 8 }
+    ensures words { words.new ≡ words_in 8 outcome.now.context }
+{
+    let (numbers, _) = outcome.context().split_at(NUMBER_BYTES);
+    read_words(numbers, words);
+}
+
 /// Writes a record's words.
-fn write_words(outcome: &Record, words: &mut [u64])
+pub fn write_words(outcome: &Record, words: &mut [u64])
     requires { length words.old ≡ word_count }
     ensures { words.new ≡ words_of outcome.now }
 {
@@ -46,16 +60,22 @@ fn show_size(context: &[u8; RECORD_SIZE])
     ensures { length context.now ≡ record_size }
 {}
 
-/// The words of a record.
-pub fn words_of(outcome: &Record) -> [u64; WORD_COUNT]
-    ensures words { result ≡ words_of outcome.now }
+/// A record is an outcome, and its context has its size.
+pub fn know_record(outcome: &Record)
     ensures fits { IsOutcome record_size outcome.now }
     ensures size { length outcome.now.context ≡ record_size }
 {
     show_size(outcome.context());
-    let mut words = [0; WORD_COUNT];
-    write_words(outcome, &mut words);
-    words
+}
+
+/// The record of these numbers, which has zeros behind them.
+pub fn record_of_numbers(words: &[u64]) -> Record
+    requires words { length words.now ≡ 8 }
+    ensures { result ≡ outcome_of (words.now ++ replicate 37 0) }
+{
+    let mut bytes = [0; NUMBER_BYTES];
+    LittleEndian::write_u64_into(words, &mut bytes);
+    Record::from_beginning(&bytes)
 }
 
 /// The record of these words.

@@ -1,5 +1,5 @@
-use Rattle.std.proofs.Common.{rules, ◌≡◌, length, take, drop, get_or, List, ◌∷◌, [], ◌++◌, ◌∙◌, sym, ap, ℕ, arith}
-use Rattle.packed_outcomes.specs.Words.{bytes_of, outcome_of}
+use Rattle.std.proofs.Common.{◌≡◌, take, drop, get_or, ◌∙◌, ap}
+use Rattle.packed_outcomes.specs.Words.{bytes_of}
 use Rattle.packed_outcomes.proofs.Outcomes.{tag_taken}
 use Rattle.packed_outcomes.proofs.words.record_of.Goals as goal
 

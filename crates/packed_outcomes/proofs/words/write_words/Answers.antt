@@ -1,4 +1,4 @@
-use Rattle.std.proofs.Common.{rules, ◌≡◌, length, slice_set, List, ◌∷◌, [], ◌++◌, ◌∙◌, refl, sym, ap, ℕ}
+use Rattle.std.proofs.Common.{rules, ◌≡◌, length, slice_set, ◌∷◌, [], ◌∙◌, refl, ap, ℕ}
 use Rattle.helpers.specs.Padded.{padded}
 use Rattle.packed_outcomes.specs.Words.{words_in}
 use Rattle.packed_outcomes.proofs.Outcomes.{tag_padded, only_one}
