@@ -82,6 +82,7 @@ impl<'a> Caller<'a> {
     fn report<R: Wait + Abort, G: Gate>(
         &mut self,
         rt: &R,
+        alloc: Global,
         name: &str,
         moment: u64,
         ticket: u64,
@@ -156,7 +157,9 @@ impl<'a> Caller<'a> {
     {
         match wish {
             Wish::Acquire => self.acquire(rt, name, moment),
-            Wish::Report(ticket, status) => self.report(rt, name, moment, ticket, status, gate),
+            Wish::Report(ticket, status) => self.report(
+                rt, alloc, name, moment, ticket, status, gate,
+            ),
             Wish::Release(ticket) => self.release(rt, name, moment, ticket),
             Wish::Install => self.install(rt, name, moment, shared_program(rt, alloc, true)),
             Wish::InstallDefault => {
