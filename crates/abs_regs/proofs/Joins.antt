@@ -55,6 +55,24 @@ joined_more f one other now i x y v p h g e = record {
   above = λ k d le. (let away : k ≢ i = omega arith in get_or-set_other now i k v d away ∙ p.above k d (omega arith));
 }
 
+-- an element that its join leaves as it is
+pub joined_kept : {A : Type 0} (f : A → A → A) (one other now : List A) (i : ℕ) (d : A) → JoinedTo f one other now i → i < length one
+    → ((b : A) → f (get_or now i d) b ≡ get_or now i d) → JoinedTo f one other now (i + 1)
+joined_kept f one other now i d p h kept = record {
+  same = p.same;
+  below = λ k e lt. elim (cases_lt k i) [
+    | inl before ↦ p.below k e before
+    | inr after ↦
+        (let same : k ≡ i = omega arith in
+        let within : i < length now = (let s = p.same in omega (arith, s, h)) in
+        let here = get_or-default now k i e d (sym same) (omega (arith, same, within)) in
+        here
+        ∙ (sym (kept (get_or other k e))
+        ∙ ap (λ (a : _). f a (get_or other k e)) (sym here ∙ p.above k e after)))
+  ];
+  above = λ k e le. p.above k e (omega arith);
+}
+
 pub joined_all : {A : Type 0} (f : A → A → A) (one other now : List A) (i : ℕ) → JoinedTo f one other now i → length one ≡ length other → length one ≤ i → now ≡ joined_by f one other
 joined_all f one other now i p same all =
     same_lists _ _ (p.same ∙ sym (length-joined f one other same))

@@ -80,12 +80,15 @@ impl<D: Domain> RegFile<D> {
     }
 }
 
-/// Joins values into others, each with the one in its place.
+/// Joins values into others, each with the one in its place. A value of which nothing is known stays as it
+/// is, as most are in most programs.
 fn join_values<D: Domain>(values: &mut [AbsVal<D>], others: &[AbsVal<D>])
     requires { length values.old ≡ length others.now }
     ensures { values.new ≡ joined_values ⟦<D as Domain>⟧ values.old others.now }
 {
     for i in 0..values.len() {
-        values[i] = values[i].join(others[i]);
+        if !matches!(values[i], AbsVal::Unset) {
+            values[i] = values[i].join(others[i]);
+        }
     }
 }
