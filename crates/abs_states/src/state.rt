@@ -1,10 +1,11 @@
 //! The abstract state of the machine before an instruction.
-ghost use Rattle.std.specs.Prelude.{◌≡◌};
+ghost use Rattle.std.specs.Prelude.{◌≡◌, IfOk};
 ghost use Rattle.abs_states.specs.States.{entry_state, joined_state};
 
 use abs_domain::Domain;
 use abs_regs::RegFile;
 use stack_track::StackState;
+use std::alloc::{AllocError, Global};
 
 /// An abstract state: what is known of the registers and of the stack on all paths to an instruction.
 #[derive(Drop)]
@@ -14,14 +15,14 @@ pub struct AbsState<D> {
 }
 
 impl<D: Domain> AbsState<D> {
-    /// The state before the first instruction.
-    pub fn entry() -> Self
-        ensures { result ≡ entry_state ⟦<D as Domain>⟧ }
+    /// The state before the first instruction. It takes the memory that the state will ever want.
+    pub fn entry(alloc: Global) -> Result<Self, AllocError>
+        ensures { IfOk result (λ state. state ≡ entry_state ⟦<D as Domain>⟧) }
     {
-        AbsState {
+        Ok(AbsState {
+            stack: StackState::entry(alloc)?,
             registers: RegFile::entry(),
-            stack: StackState::entry(),
-        }
+        })
     }
 
     /// Joins another state into this one: what is known where two paths meet.

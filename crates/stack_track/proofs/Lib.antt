@@ -1,7 +1,7 @@
 pub mod Bytes
+pub mod Held
 pub mod Known
 pub mod Loads
-pub mod Lowest
 pub mod Placed
 pub mod Runs
 pub mod Stores

@@ -1,5 +1,5 @@
 -- The abstract stack: 64 cells of eight bytes, the lowest offsets first.
-use Rattle.std.specs.Prelude.{◌≡◌, ℕ, ◌<◌, ◌≤◌, ◌-◌, ◌*◌, ◌%◌, ◌^◌, ◌==◌, Bool, List, length, map, replicate, slice_index_or, bit_and}
+use Rattle.std.specs.Prelude.{ℕ, ◌-◌, ◌*◌, ◌%◌, ◌^◌, ◌==◌, Bool, List, map, replicate, slice_index_or, bit_and}
 use Rattle.std.specs.List.{zip}
 use Rattle.abs_domain.specs.declared.domain.Domain.{Ghosts}
 use Rattle.abs_regs.specs.declared.value.AbsVal.{AbsVal}
@@ -32,11 +32,6 @@ joined_cells {X} domain a b = map (λ (p : Cell X × Cell X). joined_cell domain
 
 abbrev pub cell_in : {X : Type 0} → List (Cell X) → ℕ → Cell X
 cell_in cells k = slice_index_or cells k (cell.Bytes 0)
-
--- nothing is known of the cells before one
-pub record AreUnsetBelow {X : Type 0} (cells : List (Cell X)) (lowest : ℕ) : Type 0 where
-  pub within : lowest ≤ length cells
-  pub each : (k : ℕ) → k < lowest → cell_in cells k ≡ cell.Bytes 0
 
 -- the entry state: no byte of the stack is set
 abbrev pub entry_cells : {X : Type 0} → List (Cell X)

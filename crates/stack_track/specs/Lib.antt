@@ -1,3 +1,4 @@
 pub mod Cells
+pub mod Held
 pub mod Accesses
 pub mod Steps

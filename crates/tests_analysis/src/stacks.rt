@@ -46,9 +46,14 @@ fn load_context<D: Domain>(
     state.load(context_size, address, Extension::Sign, size)
 }
 
+/// The stack before the first instruction.
+fn at_entry<D: Domain>(rt: &impl Abort, alloc: Global) -> StackState<D> {
+    StackState::entry(alloc).expect(rt, "memory for a stack")
+}
+
 /// The same stack once more.
-fn copy<D: Domain>(state: &StackState<D>) -> StackState<D> {
-    let mut copied = StackState::entry();
+fn copy<D: Domain>(rt: &impl Abort, alloc: Global, state: &StackState<D>) -> StackState<D> {
+    let mut copied = at_entry(rt, alloc);
     copied.copy_from(state);
     copied
 }
@@ -66,12 +71,14 @@ fn store<D: Domain>(
 
 /// Why a store of this value is refused, if it is.
 fn refusal_of_store<D: Domain>(
+    rt: &impl Abort,
+    alloc: Global,
     state: &StackState<D>,
     address: Address<D>,
     value: AbsVal<D>,
     size: Size,
 ) -> Option<RefusalNumber> {
-    copy(state).store(address, value, size).err()
+    copy(rt, alloc, state).store(address, value, size).err()
 }
 
 /// The list of the cells in the text of a state.
@@ -106,11 +113,11 @@ fn has_cell(
 }
 
 /// A stack of which only the last cell is known, as this one.
-fn last_cell(cell: Cell<Flat>) -> StackState<Flat> {
+fn last_cell(rt: &impl Abort, alloc: Global, cell: Cell<Flat>) -> StackState<Flat> {
     match cell {
-        Cell::Kept(value) => store(StackState::entry(), 8, value, Size::DoubleWord),
+        Cell::Kept(value) => store(at_entry(rt, alloc), 8, value, Size::DoubleWord),
         Cell::Bytes(mask) => {
-            let mut state = StackState::entry();
+            let mut state = at_entry(rt, alloc);
             for place in 0..8u64 {
                 if mask >> place & 1 == 1 {
                     state = store(state, 8 - place, number(0), Size::Byte);
@@ -122,74 +129,82 @@ fn last_cell(cell: Cell<Flat>) -> StackState<Flat> {
 }
 
 /// Checks what is loaded of a seven that was stored in some size.
-fn is_loaded(rt: &impl Abort, size: Size, read: Size, wanted: Loaded<Flat>) {
-    let state = store(StackState::entry(), 16, number(7), size);
+fn is_loaded(rt: &impl Abort, alloc: Global, size: Size, read: Size, wanted: Loaded<Flat>) {
+    let state = store(at_entry(rt, alloc), 16, number(7), size);
     same_at(rt, load(&state, 16, read), wanted, (&size, &read));
 }
 
 /// Checks what each size loads of a seven that was stored in some size.
-fn are_loaded(rt: &impl Abort, size: Size, wanted: [Loaded<Flat>; 4]) {
-    is_loaded(rt, size, Size::Byte, wanted[0]);
-    is_loaded(rt, size, Size::HalfWord, wanted[1]);
-    is_loaded(rt, size, Size::Word, wanted[2]);
-    is_loaded(rt, size, Size::DoubleWord, wanted[3]);
+fn are_loaded(rt: &impl Abort, alloc: Global, size: Size, wanted: [Loaded<Flat>; 4]) {
+    is_loaded(rt, alloc, size, Size::Byte, wanted[0]);
+    is_loaded(rt, alloc, size, Size::HalfWord, wanted[1]);
+    is_loaded(rt, alloc, size, Size::Word, wanted[2]);
+    is_loaded(rt, alloc, size, Size::DoubleWord, wanted[3]);
 }
 
 /// Checks that a store sets nothing beside its own bytes.
-fn bytes_beside_are_unset(rt: &impl Abort, size: Size) {
+fn bytes_beside_are_unset(rt: &impl Abort, alloc: Global, size: Size) {
     let unset = Err(RefusalNumber::UnsetStack);
-    let state = store(StackState::entry(), 16, number::<Flat>(7), size);
+    let state = store(at_entry(rt, alloc), 16, number::<Flat>(7), size);
     same_at(rt, load(&state, 8, Size::Byte), unset, &size);
     same_at(rt, load(&state, 17, Size::Byte), unset, &size);
 }
 
 #[test]
 fn numbers_load_in_each_size(rt: HostRuntime) -> Result<(), Fail> {
+    let alloc = rt.alloc();
     let any = Ok(ANY);
     let seven = Ok(number(7));
     let unset = Err(RefusalNumber::UnsetStack);
-    are_loaded(&rt, Size::Byte, [any, unset, unset, unset]);
-    are_loaded(&rt, Size::HalfWord, [any, any, unset, unset]);
-    are_loaded(&rt, Size::Word, [any, any, any, unset]);
-    are_loaded(&rt, Size::DoubleWord, [any, any, any, seven]);
-    bytes_beside_are_unset(&rt, Size::Byte);
-    bytes_beside_are_unset(&rt, Size::HalfWord);
-    bytes_beside_are_unset(&rt, Size::Word);
-    bytes_beside_are_unset(&rt, Size::DoubleWord);
+    are_loaded(&rt, alloc, Size::Byte, [any, unset, unset, unset]);
+    are_loaded(&rt, alloc, Size::HalfWord, [any, any, unset, unset]);
+    are_loaded(&rt, alloc, Size::Word, [any, any, any, unset]);
+    are_loaded(&rt, alloc, Size::DoubleWord, [any, any, any, seven]);
+    bytes_beside_are_unset(&rt, alloc, Size::Byte);
+    bytes_beside_are_unset(&rt, alloc, Size::HalfWord);
+    bytes_beside_are_unset(&rt, alloc, Size::Word);
+    bytes_beside_are_unset(&rt, alloc, Size::DoubleWord);
     Ok(())
 }
 
 /// Checks that of a pointer in the last cell no part is loaded, and that no part of one is stored.
-fn has_no_part(rt: &impl Abort, pointer: AbsVal<Flat>, bytes_before: u64, size: Size) {
+fn has_no_part(
+    rt: &impl Abort,
+    alloc: Global,
+    pointer: AbsVal<Flat>,
+    bytes_before: u64,
+    size: Size,
+) {
     let used = RefusalNumber::PointerUsed;
-    let state = store(StackState::entry(), 8, pointer, Size::DoubleWord);
+    let state = store(at_entry(rt, alloc), 8, pointer, Size::DoubleWord);
     same_at(rt, load(&state, bytes_before, size), Err(used), &size);
     let address = Address::Stack(before(bytes_before));
-    let refused = refusal_of_store(&state, address, pointer, size);
+    let refused = refusal_of_store(rt, alloc, &state, address, pointer, size);
     same_at(rt, refused, Some(used), &size);
 }
 
 /// Checks that a pointer is stored and loaded whole, or not at all.
-fn is_loaded_whole(rt: &impl Abort, pointer: AbsVal<Flat>) {
-    let state = store(StackState::entry(), 8, pointer, Size::DoubleWord);
+fn is_loaded_whole(rt: &impl Abort, alloc: Global, pointer: AbsVal<Flat>) {
+    let state = store(at_entry(rt, alloc), 8, pointer, Size::DoubleWord);
     same(rt, load(&state, 8, Size::DoubleWord), Ok(pointer));
-    has_no_part(rt, pointer, 8, Size::Word);
-    has_no_part(rt, pointer, 4, Size::Word);
-    has_no_part(rt, pointer, 2, Size::HalfWord);
-    has_no_part(rt, pointer, 1, Size::Byte);
+    has_no_part(rt, alloc, pointer, 8, Size::Word);
+    has_no_part(rt, alloc, pointer, 4, Size::Word);
+    has_no_part(rt, alloc, pointer, 2, Size::HalfWord);
+    has_no_part(rt, alloc, pointer, 1, Size::Byte);
 }
 
 #[test]
 fn pointers_load_whole(rt: HostRuntime) -> Result<(), Fail> {
-    is_loaded_whole(&rt, AbsVal::Stack(before(24)));
-    is_loaded_whole(&rt, AbsVal::Context(Flat::One(4)));
+    let alloc = rt.alloc();
+    is_loaded_whole(&rt, alloc, AbsVal::Stack(before(24)));
+    is_loaded_whole(&rt, alloc, AbsVal::Context(Flat::One(4)));
     Ok(())
 }
 
 /// Checks why nothing is loaded from an offset of the stack at the entry, and that nothing is stored there
 /// for the same reason, unless it is that nothing was.
-fn is_refused(rt: &impl Abort, offset: u64, size: Size, expected: RefusalNumber) {
-    let state = StackState::<Flat>::entry();
+fn is_refused(rt: &impl Abort, alloc: Global, offset: u64, size: Size, expected: RefusalNumber) {
+    let state: StackState<Flat> = at_entry(rt, alloc);
     let found = state.load(CONTEXT, Address::Stack(offset), Extension::Zero, size);
     same_at(rt, found, Err(expected), (&offset, &size));
     let stored = if expected == RefusalNumber::UnsetStack {
@@ -197,22 +212,22 @@ fn is_refused(rt: &impl Abort, offset: u64, size: Size, expected: RefusalNumber)
     } else {
         Some(expected)
     };
-    let refused = refusal_of_store(&state, Address::Stack(offset), number(1), size);
+    let refused = refusal_of_store(rt, alloc, &state, Address::Stack(offset), number(1), size);
     same_at(rt, refused, stored, (&offset, &size));
 }
 
 /// Checks why each size is refused at an offset.
-fn are_refused(rt: &impl Abort, offset: u64, refusals: &[RefusalNumber; 4]) {
-    is_refused(rt, offset, Size::Byte, refusals[0]);
-    is_refused(rt, offset, Size::HalfWord, refusals[1]);
-    is_refused(rt, offset, Size::Word, refusals[2]);
-    is_refused(rt, offset, Size::DoubleWord, refusals[3]);
+fn are_refused(rt: &impl Abort, alloc: Global, offset: u64, refusals: &[RefusalNumber; 4]) {
+    is_refused(rt, alloc, offset, Size::Byte, refusals[0]);
+    is_refused(rt, alloc, offset, Size::HalfWord, refusals[1]);
+    is_refused(rt, alloc, offset, Size::Word, refusals[2]);
+    is_refused(rt, alloc, offset, Size::DoubleWord, refusals[3]);
 }
 
 /// Checks why each size is refused at offsets that lie so many bytes before the stack's end.
-fn are_refused_before(rt: &impl Abort, rows: &[(u64, [RefusalNumber; 4])]) {
+fn are_refused_before(rt: &impl Abort, alloc: Global, rows: &[(u64, [RefusalNumber; 4])]) {
     for row in rows {
-        are_refused(rt, before(row.0), &row.1);
+        are_refused(rt, alloc, before(row.0), &row.1);
     }
 }
 
@@ -230,8 +245,10 @@ const ALL_BUT_ONE: [RefusalNumber; 4] = [IS_OUTSIDE, IS_MISALIGNED, IS_MISALIGNE
 
 #[test]
 fn offsets_are_aligned_and_inside(rt: HostRuntime) -> Result<(), Fail> {
+    let alloc = rt.alloc();
     are_refused_before(
         &rt,
+        alloc,
         &[
             (520, ALL_OUTSIDE),
             (513, ALL_BUT_ONE),
@@ -241,9 +258,9 @@ fn offsets_are_aligned_and_inside(rt: HostRuntime) -> Result<(), Fail> {
             (1, [NOT_SET, IS_MISALIGNED, IS_MISALIGNED, IS_MISALIGNED]),
         ],
     );
-    are_refused(&rt, 0, &ALL_OUTSIDE);
-    are_refused(&rt, 1, &ALL_BUT_ONE);
-    are_refused(&rt, 1 << 63, &ALL_OUTSIDE);
+    are_refused(&rt, alloc, 0, &ALL_OUTSIDE);
+    are_refused(&rt, alloc, 1, &ALL_BUT_ONE);
+    are_refused(&rt, alloc, 1 << 63, &ALL_OUTSIDE);
     Ok(())
 }
 
@@ -251,8 +268,8 @@ fn offsets_are_aligned_and_inside(rt: HostRuntime) -> Result<(), Fail> {
 type OfContext = (u64, Flat, Size, Loaded<Flat>);
 
 /// Checks what is loaded from contexts.
-fn are_loaded_of_context(rt: &impl Abort, rows: &[OfContext]) {
-    let state = StackState::entry();
+fn are_loaded_of_context(rt: &impl Abort, alloc: Global, rows: &[OfContext]) {
+    let state = at_entry(rt, alloc);
     for row in rows {
         let (context_size, offset, size, expected) = *row;
         let found = load_context(&state, context_size, offset, size);
@@ -268,8 +285,10 @@ const MISALIGNED: Loaded<Flat> = Err(RefusalNumber::Misaligned);
 
 #[test]
 fn the_context_is_aligned_inside_and_read_only(rt: HostRuntime) -> Result<(), Fail> {
+    let alloc = rt.alloc();
     are_loaded_of_context(
         &rt,
+        alloc,
         &[
             (CONTEXT, Flat::One(0), Size::DoubleWord, Ok(ANY)),
             (CONTEXT, Flat::One(120), Size::DoubleWord, Ok(ANY)),
@@ -287,30 +306,51 @@ fn the_context_is_aligned_inside_and_read_only(rt: HostRuntime) -> Result<(), Fa
         ],
     );
     let offset = Address::Context(Flat::One(1));
-    let written = refusal_of_store(&StackState::entry(), offset, AbsVal::Unset, Size::Word);
+    let written = refusal_of_store(
+        &rt,
+        alloc,
+        &at_entry(&rt, alloc),
+        offset,
+        AbsVal::Unset,
+        Size::Word,
+    );
     same(&rt, written, Some(RefusalNumber::ContextWrite));
     Ok(())
 }
 
 /// Checks why an unset value is not stored at an offset.
-fn unset_is_not_stored(rt: &impl Abort, size: Size, offset: u64, wanted: RefusalNumber) {
-    let state = StackState::<Flat>::entry();
-    let refused = refusal_of_store(&state, Address::Stack(offset), AbsVal::Unset, size);
+fn unset_is_not_stored(
+    rt: &impl Abort,
+    alloc: Global,
+    size: Size,
+    offset: u64,
+    wanted: RefusalNumber,
+) {
+    let state: StackState<Flat> = at_entry(rt, alloc);
+    let refused = refusal_of_store(
+        rt,
+        alloc,
+        &state,
+        Address::Stack(offset),
+        AbsVal::Unset,
+        size,
+    );
     same_at(rt, refused, Some(wanted), (&size, &offset));
 }
 
 #[test]
 fn unset_values_are_not_stored(rt: HostRuntime) -> Result<(), Fail> {
+    let alloc = rt.alloc();
     for size in &SIZES {
-        unset_is_not_stored(&rt, *size, before(8), RefusalNumber::UnsetRegister);
-        unset_is_not_stored(&rt, *size, 8, RefusalNumber::OutOfBounds);
+        unset_is_not_stored(&rt, alloc, *size, before(8), RefusalNumber::UnsetRegister);
+        unset_is_not_stored(&rt, alloc, *size, 8, RefusalNumber::OutOfBounds);
     }
     Ok(())
 }
 
 /// Checks what is left of a value in the last cell once one byte of it is stored.
 fn part_is_kept(rt: &impl Abort, alloc: Global, old: AbsVal<Flat>, mask: u8) {
-    let kept = store(StackState::entry(), 8, old, Size::DoubleWord);
+    let kept = store(at_entry(rt, alloc), 8, old, Size::DoubleWord);
     let state = store(kept, 6, number(1), Size::Byte);
     has_cell(rt, alloc, &state, 63, Cell::Bytes(mask));
     has_cell(rt, alloc, &state, 62, Cell::Bytes(0));
@@ -336,7 +376,7 @@ fn parts_keep_the_bytes_that_were_set(rt: HostRuntime) -> Result<(), Fail> {
     part_is_kept(&rt, alloc, number(5), 255);
     part_is_kept(&rt, alloc, AbsVal::Stack(before(8)), 4);
     part_is_kept(&rt, alloc, AbsVal::Context(Flat::One(0)), 4);
-    let state = StackState::entry();
+    let state = at_entry(&rt, alloc);
     let state = zeros_are_stored(&rt, alloc, state, 8, Size::Byte, 0x01);
     let state = zeros_are_stored(&rt, alloc, state, 6, Size::HalfWord, 0x0d);
     let state = zeros_are_stored(&rt, alloc, state, 4, Size::Word, 0xfd);
@@ -349,8 +389,8 @@ fn parts_keep_the_bytes_that_were_set(rt: HostRuntime) -> Result<(), Fail> {
 
 /// Checks the join of two stacks of which the last cell is known.
 fn is_joined(rt: &impl Abort, alloc: Global, a: Cell<Flat>, b: Cell<Flat>, joined: Cell<Flat>) {
-    let mut state = last_cell(a);
-    state.join(&last_cell(b));
+    let mut state = last_cell(rt, alloc, a);
+    state.join(&last_cell(rt, alloc, b));
     has_cell(rt, alloc, &state, 63, joined);
 }
 
@@ -388,6 +428,7 @@ const NONE: Cell<Flat> = Cell::Bytes(0);
 
 #[test]
 fn cells_are_joined_by_kind(rt: HostRuntime) -> Result<(), Fail> {
+    let alloc = rt.alloc();
     are_joined(
         &rt,
         rt.alloc(),
@@ -419,9 +460,9 @@ fn joined(mut state: StackState<Flat>, other: &StackState<Flat>) -> StackState<F
 #[test]
 fn stacks_are_joined_cell_by_cell(rt: HostRuntime) -> Result<(), Fail> {
     let alloc = rt.alloc();
-    let one = store(StackState::entry(), 8, number(1), Size::DoubleWord);
-    let both = store(copy(&one), 512, number(2), Size::Word);
-    let state = joined(copy(&both), &one);
+    let one = store(at_entry(&rt, alloc), 8, number(1), Size::DoubleWord);
+    let both = store(copy(&rt, alloc, &one), 512, number(2), Size::Word);
+    let state = joined(copy(&rt, alloc, &both), &one);
     has_cell(&rt, alloc, &state, 63, Cell::Kept(number(1)));
     has_cell(&rt, alloc, &state, 0, Cell::Bytes(0));
     let again = joined(both, &store(one, 510, number(3), Size::HalfWord));
@@ -441,8 +482,8 @@ fn stretch_is_set(rt: &impl Abort, state: &StackState<Flat>, place: u64, count: 
 #[test]
 fn stretches_cross_cells(rt: HostRuntime) -> Result<(), Fail> {
     let alloc = rt.alloc();
-    let state = store(StackState::entry(), 504, number(1), Size::DoubleWord);
-    let mut written = copy(&state);
+    let state = store(at_entry(&rt, alloc), 504, number(1), Size::DoubleWord);
+    let mut written = copy(&rt, alloc, &state);
     written.write_stretch(6, 13);
     has_cell(&rt, alloc, &written, 0, Cell::Bytes(0xc0));
     has_cell(&rt, alloc, &written, 1, Cell::Bytes(0xff));

@@ -17,6 +17,8 @@ use abs_regs::{AbsVal, Address};
 use abs_states::AbsState;
 use bpf_profile::{Extension, Instruction, Operand, Register, Size};
 use refusals::RefusalNumber;
+use std::alloc::Global;
+use std::process::Abort;
 
 /// The bytes of a context.
 const CONTEXT_SIZE: u64 = 128;
@@ -76,28 +78,41 @@ fn register(number: u8) -> Operand
     Operand::Register(Register::new(number))
 }
 
+/// The state before the first instruction.
+fn at_entry(rt: &impl Abort, alloc: Global) -> AbsState<Flat> {
+    AbsState::entry(alloc).expect(rt, "memory for a state")
+}
+
 /// The same state once more.
-fn copy(state: &AbsState<Flat>) -> AbsState<Flat> {
-    let mut copied = AbsState::entry();
+fn copy(rt: &impl Abort, alloc: Global, state: &AbsState<Flat>) -> AbsState<Flat> {
+    let mut copied = at_entry(rt, alloc);
     copied.copy_from(state);
     copied
 }
 
 /// The same state, but for one register.
-fn with(state: &AbsState<Flat>, register: Register, value: AbsVal<Flat>) -> AbsState<Flat> {
-    let mut changed = copy(state);
+fn with(
+    rt: &impl Abort,
+    alloc: Global,
+    state: &AbsState<Flat>,
+    register: Register,
+    value: AbsVal<Flat>,
+) -> AbsState<Flat> {
+    let mut changed = copy(rt, alloc, state);
     changed.registers.set(register, value);
     changed
 }
 
 /// The state with a value stored so many bytes before the stack's end; the same where that is refused.
 fn stored_before(
+    rt: &impl Abort,
+    alloc: Global,
     state: &AbsState<Flat>,
     bytes: u64,
     value: AbsVal<Flat>,
     size: Size,
 ) -> AbsState<Flat> {
-    let mut changed = copy(state);
+    let mut changed = copy(rt, alloc, state);
     let _refused = changed
         .stack
         .store(Address::Stack(minus(bytes)), value, size);
@@ -106,19 +121,21 @@ fn stored_before(
 
 /// What an instruction makes of a state.
 fn transferred(
+    rt: &impl Abort,
+    alloc: Global,
     state: &AbsState<Flat>,
     context_size: u64,
     taken: bool,
     instruction: &Instruction,
 ) -> Found {
-    let mut after = copy(state);
+    let mut after = copy(rt, alloc, state);
     after.transfer(context_size, taken, instruction)?;
     Ok(after)
 }
 
 /// A state with R0 and R6 to R9 unset, in R2 eight, in R3 any number, and pointers in the others.
-fn sample() -> AbsState<Flat> {
-    let entry = AbsState::entry();
+fn sample(rt: &impl Abort, alloc: Global) -> AbsState<Flat> {
+    let entry = at_entry(rt, alloc);
     AbsState {
         registers: entry
             .registers
@@ -190,13 +207,18 @@ fn agree(found: &Found, wanted: &Found) -> bool {
 
 /// Whether an instruction makes what is wanted of a state, on both ways.
 fn makes(
+    rt: &impl Abort,
+    alloc: Global,
     state: &AbsState<Flat>,
     context_size: u64,
     instruction: &Instruction,
     wanted: &Found,
 ) -> bool {
     agree(
-        &transferred(state, context_size, false, instruction),
+        &transferred(rt, alloc, state, context_size, false, instruction),
         wanted,
-    ) && agree(&transferred(state, context_size, true, instruction), wanted)
+    ) && agree(
+        &transferred(rt, alloc, state, context_size, true, instruction),
+        wanted,
+    )
 }

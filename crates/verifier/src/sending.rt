@@ -23,7 +23,7 @@ fn boxed_entry<D: Domain>(alloc: Global) -> Result<Box<AbsState<D>>, AllocError>
     requires { StateFits D.row }
     ensures { IfOk result (λ state. box_value state ≡ entry_state ⟦<D as Domain>⟧) }
 {
-    let state = Box::new(alloc, AbsState::entry())?;
+    let state = Box::new(alloc, AbsState::entry(alloc)?)?;
     Ok(state)
 }
 

@@ -5,35 +5,50 @@ use abs_domain::Flat;
 use abs_regs::AbsVal;
 use bpf_profile::{Instruction, Register};
 use refusals::RefusalNumber;
+use std::alloc::Global;
 use std::process::Abort;
 use std::test::*;
 
 /// Checks that a program may end with this answer, which changes nothing.
-fn is_answer(rt: &impl Abort, answer: u64) {
-    let state = with(&sample(), Register::new(0), number(answer));
-    let wanted = Ok(copy(&state));
-    let found = makes(&state, CONTEXT_SIZE, &Instruction::Exit, &wanted);
+fn is_answer(rt: &impl Abort, alloc: Global, answer: u64) {
+    let state = with(
+        rt,
+        alloc,
+        &sample(rt, alloc),
+        Register::new(0),
+        number(answer),
+    );
+    let wanted = Ok(copy(rt, alloc, &state));
+    let found = makes(rt, alloc, &state, CONTEXT_SIZE, &Instruction::Exit, &wanted);
     is_true_at(rt, found, &answer);
 }
 
 /// Checks why a program may not end with this answer.
-fn is_no_answer(rt: &impl Abort, answer: AbsVal<Flat>, refusal: RefusalNumber) {
-    let state = with(&sample(), Register::new(0), answer);
-    let found = makes(&state, CONTEXT_SIZE, &Instruction::Exit, &Err(refusal));
+fn is_no_answer(rt: &impl Abort, alloc: Global, answer: AbsVal<Flat>, refusal: RefusalNumber) {
+    let state = with(rt, alloc, &sample(rt, alloc), Register::new(0), answer);
+    let found = makes(
+        rt,
+        alloc,
+        &state,
+        CONTEXT_SIZE,
+        &Instruction::Exit,
+        &Err(refusal),
+    );
     is_true_at(rt, found, &answer);
 }
 
 #[test]
 fn answers_are_numbers_of_at_most_two(rt: HostRuntime) -> Result<(), Fail> {
-    is_answer(&rt, 0);
-    is_answer(&rt, 1);
-    is_answer(&rt, 2);
-    is_no_answer(&rt, UNSET, RefusalNumber::UnsetRegister);
-    is_no_answer(&rt, STACK, RefusalNumber::PointerUsed);
-    is_no_answer(&rt, AbsVal::Stack(0), RefusalNumber::PointerUsed);
-    is_no_answer(&rt, CONTEXT, RefusalNumber::PointerUsed);
-    is_no_answer(&rt, number(3), RefusalNumber::AnswerRange);
-    is_no_answer(&rt, number(u64::MAX), RefusalNumber::AnswerRange);
-    is_no_answer(&rt, ANY, RefusalNumber::AnswerRange);
+    let alloc = rt.alloc();
+    is_answer(&rt, alloc, 0);
+    is_answer(&rt, alloc, 1);
+    is_answer(&rt, alloc, 2);
+    is_no_answer(&rt, alloc, UNSET, RefusalNumber::UnsetRegister);
+    is_no_answer(&rt, alloc, STACK, RefusalNumber::PointerUsed);
+    is_no_answer(&rt, alloc, AbsVal::Stack(0), RefusalNumber::PointerUsed);
+    is_no_answer(&rt, alloc, CONTEXT, RefusalNumber::PointerUsed);
+    is_no_answer(&rt, alloc, number(3), RefusalNumber::AnswerRange);
+    is_no_answer(&rt, alloc, number(u64::MAX), RefusalNumber::AnswerRange);
+    is_no_answer(&rt, alloc, ANY, RefusalNumber::AnswerRange);
     Ok(())
 }

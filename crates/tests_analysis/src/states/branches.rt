@@ -9,6 +9,7 @@ use abs_regs::AbsVal;
 use abs_states::AbsState;
 use bpf_profile::{Comparison, Instruction, Operand, Register, Size, Width};
 use refusals::RefusalNumber;
+use std::alloc::Global;
 use std::process::Abort;
 use std::test::*;
 
@@ -27,23 +28,28 @@ fn branch(comparison: Comparison, width: Width, right: Operand) -> Instruction {
 }
 
 /// The sample with values in R2 and R3, and the last cell of the stack set.
-fn compared(two: AbsVal<Flat>, three: AbsVal<Flat>) -> AbsState<Flat> {
-    let state = with(&sample(), Register::new(2), two);
-    let state = with(&state, Register::new(3), three);
-    stored_before(&state, 8, EIGHT, Size::DoubleWord)
+fn compared(
+    rt: &impl Abort,
+    alloc: Global,
+    two: AbsVal<Flat>,
+    three: AbsVal<Flat>,
+) -> AbsState<Flat> {
+    let state = with(rt, alloc, &sample(rt, alloc), Register::new(2), two);
+    let state = with(rt, alloc, &state, Register::new(3), three);
+    stored_before(rt, alloc, &state, 8, EIGHT, Size::DoubleWord)
 }
 
 /// A comparison, its width, whether it jumps, and what is left of R2 and R3.
 type Left = (Comparison, Width, bool, Pair);
 
 /// Checks what comparisons of any number in R2 with an eight in R3 leave of them.
-fn are_left(rt: &impl Abort, rows: &[Left]) {
-    let state = compared(ANY, EIGHT);
+fn are_left(rt: &impl Abort, alloc: Global, rows: &[Left]) {
+    let state = compared(rt, alloc, ANY, EIGHT);
     for row in rows {
         let (comparison, width, taken, after) = *row;
         let instruction = branch(comparison, width, register(3));
-        let found = transferred(&state, CONTEXT_SIZE, taken, &instruction);
-        let wanted = Ok(compared(after.0, after.1));
+        let found = transferred(rt, alloc, &state, CONTEXT_SIZE, taken, &instruction);
+        let wanted = Ok(compared(rt, alloc, after.0, after.1));
         is_true_at(rt, agree(&found, &wanted), row);
     }
 }
@@ -54,8 +60,10 @@ const EIGHTS: Pair = (EIGHT, EIGHT);
 
 #[test]
 fn the_comparison_holds_at_the_target_alone(rt: HostRuntime) -> Result<(), Fail> {
+    let alloc = rt.alloc();
     are_left(
         &rt,
+        alloc,
         &[
             (Comparison::Equal, Width::Bits64, true, EIGHTS),
             (Comparison::Equal, Width::Bits64, false, ANY_AND_EIGHT),
@@ -74,47 +82,56 @@ fn the_comparison_holds_at_the_target_alone(rt: HostRuntime) -> Result<(), Fail>
 /// Checks what a comparison of any number in R2 with the word 7 leaves in R2, on one way.
 fn leaves_one(
     rt: &impl Abort,
+    alloc: Global,
     comparison: Comparison,
     three: AbsVal<Flat>,
     taken: bool,
     two: AbsVal<Flat>,
 ) {
-    let state = compared(ANY, three);
+    let state = compared(rt, alloc, ANY, three);
     let instruction = branch(comparison, Width::Bits64, Operand::Immediate(7));
-    let found = transferred(&state, CONTEXT_SIZE, taken, &instruction);
-    let wanted = Ok(compared(two, three));
+    let found = transferred(rt, alloc, &state, CONTEXT_SIZE, taken, &instruction);
+    let wanted = Ok(compared(rt, alloc, two, three));
     is_true_at(rt, agree(&found, &wanted), (&comparison, &three, &taken));
 }
 
 /// Checks what a comparison of R2 with a word leaves at the target and next to it, whatever is in R3.
-fn tells_of_one(rt: &impl Abort, comparison: Comparison, target: AbsVal<Flat>, next: AbsVal<Flat>) {
-    leaves_one(rt, comparison, UNSET, true, target);
-    leaves_one(rt, comparison, UNSET, false, next);
-    leaves_one(rt, comparison, ANY, true, target);
-    leaves_one(rt, comparison, ANY, false, next);
-    leaves_one(rt, comparison, STACK, true, target);
-    leaves_one(rt, comparison, STACK, false, next);
+fn tells_of_one(
+    rt: &impl Abort,
+    alloc: Global,
+    comparison: Comparison,
+    target: AbsVal<Flat>,
+    next: AbsVal<Flat>,
+) {
+    leaves_one(rt, alloc, comparison, UNSET, true, target);
+    leaves_one(rt, alloc, comparison, UNSET, false, next);
+    leaves_one(rt, alloc, comparison, ANY, true, target);
+    leaves_one(rt, alloc, comparison, ANY, false, next);
+    leaves_one(rt, alloc, comparison, STACK, true, target);
+    leaves_one(rt, alloc, comparison, STACK, false, next);
 }
 
 #[test]
 fn a_comparison_with_a_word_tells_of_one_register(rt: HostRuntime) -> Result<(), Fail> {
-    tells_of_one(&rt, Comparison::Equal, number(7), ANY);
-    tells_of_one(&rt, Comparison::NotEqual, ANY, number(7));
-    tells_of_one(&rt, Comparison::SignedGreater, ANY, ANY);
+    let alloc = rt.alloc();
+    tells_of_one(&rt, alloc, Comparison::Equal, number(7), ANY);
+    tells_of_one(&rt, alloc, Comparison::NotEqual, ANY, number(7));
+    tells_of_one(&rt, alloc, Comparison::SignedGreater, ANY, ANY);
     Ok(())
 }
 
 /// Checks why R2 and R3 aren't compared.
 fn is_refused(
     rt: &impl Abort,
+    alloc: Global,
     comparison: Comparison,
     width: Width,
     before: Pair,
     refusal: RefusalNumber,
 ) {
     let instruction = branch(comparison, width, register(3));
-    let state = compared(before.0, before.1);
-    let found = makes(&state, CONTEXT_SIZE, &instruction, &Err(refusal));
+    let state = compared(rt, alloc, before.0, before.1);
+    let found = makes(rt, alloc, &state, CONTEXT_SIZE, &instruction, &Err(refusal));
     is_true_at(rt, found, (&comparison, &before));
 }
 
@@ -122,21 +139,37 @@ fn is_refused(
 type Refused = (AbsVal<Flat>, AbsVal<Flat>, RefusalNumber);
 
 /// Checks why R2 and R3 aren't compared in any of four ways.
-fn are_refused(rt: &impl Abort, rows: &[Refused]) {
+fn are_refused(rt: &impl Abort, alloc: Global, rows: &[Refused]) {
     for row in rows {
         let (two, three, refusal) = *row;
         let before = (two, three);
-        is_refused(rt, Comparison::Equal, Width::Bits32, before, refusal);
-        is_refused(rt, Comparison::Equal, Width::Bits64, before, refusal);
-        is_refused(rt, Comparison::BitsSet, Width::Bits32, before, refusal);
-        is_refused(rt, Comparison::BitsSet, Width::Bits64, before, refusal);
+        is_refused(rt, alloc, Comparison::Equal, Width::Bits32, before, refusal);
+        is_refused(rt, alloc, Comparison::Equal, Width::Bits64, before, refusal);
+        is_refused(
+            rt,
+            alloc,
+            Comparison::BitsSet,
+            Width::Bits32,
+            before,
+            refusal,
+        );
+        is_refused(
+            rt,
+            alloc,
+            Comparison::BitsSet,
+            Width::Bits64,
+            before,
+            refusal,
+        );
     }
 }
 
 #[test]
 fn only_numbers_are_compared(rt: HostRuntime) -> Result<(), Fail> {
+    let alloc = rt.alloc();
     are_refused(
         &rt,
+        alloc,
         &[
             (UNSET, EIGHT, RefusalNumber::UnsetRegister),
             (EIGHT, UNSET, RefusalNumber::UnsetRegister),

@@ -2,8 +2,8 @@
 ghost use Rattle.std.specs.Prelude.{◌<◌};
 
 use super::{
-    ANY, CONTEXT, EIGHT, STACK, UNSET, cell_of, copy, number, registers_are_alike, sample,
-    set_bytes_are, stacks_are_alike, stored_before,
+    ANY, CONTEXT, EIGHT, STACK, UNSET, at_entry, cell_of, copy, number, registers_are_alike,
+    sample, set_bytes_are, stacks_are_alike, stored_before,
 };
 use crate::checks::{is_true, same_at};
 use abs_domain::Flat;
@@ -12,14 +12,27 @@ use abs_states::AbsState;
 use bpf_profile::{Register, Size};
 use refusals::RefusalNumber;
 use stack_track::StackState;
+use std::alloc::Global;
 use std::process::Abort;
 use std::test::*;
 
 /// The same state with these values stored into cells 0 to 3.
-fn with_cells(state: &AbsState<Flat>, values: [AbsVal<Flat>; 4]) -> AbsState<Flat> {
-    let mut changed = copy(state);
+fn with_cells(
+    rt: &impl Abort,
+    alloc: Global,
+    state: &AbsState<Flat>,
+    values: [AbsVal<Flat>; 4],
+) -> AbsState<Flat> {
+    let mut changed = copy(rt, alloc, state);
     for i in 0..4usize {
-        changed = stored_before(&changed, 512 - 8 * i as u64, values[i], Size::DoubleWord);
+        changed = stored_before(
+            rt,
+            alloc,
+            &changed,
+            512 - 8 * i as u64,
+            values[i],
+            Size::DoubleWord,
+        );
     }
     changed
 }
@@ -49,7 +62,8 @@ fn no_cell_is_known(rt: &impl Abort, state: &AbsState<Flat>) {
 
 #[test]
 fn at_the_entry_two_pointers_are_known(rt: HostRuntime) -> Result<(), Fail> {
-    let entry = AbsState::entry();
+    let alloc = rt.alloc();
+    let entry = at_entry(&rt, alloc);
     are_known(
         &rt,
         &entry,
@@ -61,21 +75,21 @@ fn at_the_entry_two_pointers_are_known(rt: HostRuntime) -> Result<(), Fail> {
     Ok(())
 }
 
-fn first_path() -> AbsState<Flat> {
-    with_cells(&sample(), [EIGHT, EIGHT, STACK, EIGHT])
+fn first_path(rt: &impl Abort, alloc: Global) -> AbsState<Flat> {
+    with_cells(rt, alloc, &sample(rt, alloc), [EIGHT, EIGHT, STACK, EIGHT])
 }
 
-fn second_path() -> AbsState<Flat> {
-    let registers = AbsState::entry()
+fn second_path(rt: &impl Abort, alloc: Global) -> AbsState<Flat> {
+    let registers = at_entry(rt, alloc)
         .registers
         .with(Register::new(2), number(9))
         .with(Register::new(4), STACK)
         .with(Register::new(5), EIGHT);
     let state = AbsState {
         registers,
-        stack: StackState::entry(),
+        stack: at_entry(rt, alloc).stack,
     };
-    with_cells(&state, [EIGHT, number(9), STACK, CONTEXT])
+    with_cells(rt, alloc, &state, [EIGHT, number(9), STACK, CONTEXT])
 }
 
 /// The join of two states.
@@ -115,21 +129,34 @@ fn is_joined(rt: &impl Abort, state: &AbsState<Flat>) {
 
 #[test]
 fn registers_and_stacks_are_joined(rt: HostRuntime) -> Result<(), Fail> {
-    is_joined(&rt, &joined(first_path(), &second_path()));
-    is_joined(&rt, &joined(second_path(), &first_path()));
+    let alloc = rt.alloc();
+    is_joined(
+        &rt,
+        &joined(first_path(&rt, alloc), &second_path(&rt, alloc)),
+    );
+    is_joined(
+        &rt,
+        &joined(second_path(&rt, alloc), &first_path(&rt, alloc)),
+    );
     Ok(())
 }
 
 #[test]
 fn a_copy_is_the_same(rt: HostRuntime) -> Result<(), Fail> {
-    let state = with_cells(&sample(), [EIGHT, ANY, STACK, CONTEXT]);
-    let copied = copy(&state);
+    let alloc = rt.alloc();
+    let state = with_cells(
+        &rt,
+        alloc,
+        &sample(&rt, alloc),
+        [EIGHT, ANY, STACK, CONTEXT],
+    );
+    let copied = copy(&rt, alloc, &state);
     is_true(&rt, registers_are_alike(&copied, &state));
     is_true(&rt, stacks_are_alike(&copied, &state));
     // What was there before is forgotten.
-    let mut other = second_path();
-    other.copy_from(&AbsState::entry());
-    is_true(&rt, registers_are_alike(&other, &AbsState::entry()));
-    is_true(&rt, stacks_are_alike(&other, &AbsState::entry()));
+    let mut other = second_path(&rt, alloc);
+    other.copy_from(&at_entry(&rt, alloc));
+    is_true(&rt, registers_are_alike(&other, &at_entry(&rt, alloc)));
+    is_true(&rt, stacks_are_alike(&other, &at_entry(&rt, alloc)));
     Ok(())
 }

@@ -9,6 +9,7 @@ use abs_regs::AbsVal;
 use abs_states::AbsState;
 use bpf_profile::{Extension, Instruction, Register, Size};
 use refusals::RefusalNumber;
+use std::alloc::Global;
 use std::process::Abort;
 use std::test::*;
 
@@ -24,35 +25,44 @@ fn load(size: Size, extension: Extension, offset: u64) -> Instruction {
 }
 
 /// The sample with this value in R4.
-fn based(base: AbsVal<Flat>) -> AbsState<Flat> {
-    with(&sample(), Register::new(4), base)
+fn based(rt: &impl Abort, alloc: Global, base: AbsVal<Flat>) -> AbsState<Flat> {
+    with(rt, alloc, &sample(rt, alloc), Register::new(4), base)
 }
 
 /// The sample with the end of the stack in R4, in the cell before it a value, and in the cell before that
 /// a word of four bytes.
-fn stored(value: AbsVal<Flat>) -> AbsState<Flat> {
-    let state = based(AbsVal::Stack(0));
-    let state = stored_before(&state, 8, value, Size::DoubleWord);
-    stored_before(&state, 16, EIGHT, Size::Word)
+fn stored(rt: &impl Abort, alloc: Global, value: AbsVal<Flat>) -> AbsState<Flat> {
+    let state = based(rt, alloc, AbsVal::Stack(0));
+    let state = stored_before(rt, alloc, &state, 8, value, Size::DoubleWord);
+    stored_before(rt, alloc, &state, 16, EIGHT, Size::Word)
 }
 
 /// A base, a size, an offset, and why a load of these is refused.
 type Refused = (AbsVal<Flat>, Size, u64, RefusalNumber);
 
 /// Checks why loads are refused.
-fn are_refused(rt: &impl Abort, rows: &[Refused]) {
+fn are_refused(rt: &impl Abort, alloc: Global, rows: &[Refused]) {
     for row in rows {
         let (base, size, offset, refusal) = *row;
         let instruction = load(size, Extension::Zero, offset);
-        let found = makes(&based(base), CONTEXT_SIZE, &instruction, &Err(refusal));
+        let found = makes(
+            rt,
+            alloc,
+            &based(rt, alloc, base),
+            CONTEXT_SIZE,
+            &instruction,
+            &Err(refusal),
+        );
         is_true_at(rt, found, row);
     }
 }
 
 #[test]
 fn addresses_are_refused(rt: HostRuntime) -> Result<(), Fail> {
+    let alloc = rt.alloc();
     are_refused(
         &rt,
+        alloc,
         &[
             (UNSET, Size::Word, 1, RefusalNumber::UnsetRegister),
             (EIGHT, Size::Word, 1, RefusalNumber::NotPointer),
@@ -115,13 +125,13 @@ fn addresses_are_refused(rt: HostRuntime) -> Result<(), Fail> {
 type OfLoad = (AbsVal<Flat>, Size, Extension, u64);
 
 /// Checks that loads make any number.
-fn make_any_number(rt: &impl Abort, rows: &[OfLoad]) {
+fn make_any_number(rt: &impl Abort, alloc: Global, rows: &[OfLoad]) {
     for row in rows {
         let (base, size, extension, offset) = *row;
-        let state = based(base);
-        let wanted = Ok(with(&state, Register::new(2), ANY));
+        let state = based(rt, alloc, base);
+        let wanted = Ok(with(rt, alloc, &state, Register::new(2), ANY));
         let instruction = load(size, extension, offset);
-        let found = makes(&state, CONTEXT_SIZE, &instruction, &wanted);
+        let found = makes(rt, alloc, &state, CONTEXT_SIZE, &instruction, &wanted);
         is_true_at(rt, found, row);
     }
 }
@@ -131,8 +141,10 @@ const MINUS_24: u64 = 0xffff_ffff_ffff_ffe8;
 
 #[test]
 fn numbers_are_loaded_from_the_context(rt: HostRuntime) -> Result<(), Fail> {
+    let alloc = rt.alloc();
     make_any_number(
         &rt,
+        alloc,
         &[
             (
                 AbsVal::Context(Flat::One(0)),
@@ -181,23 +193,25 @@ fn numbers_are_loaded_from_the_context(rt: HostRuntime) -> Result<(), Fail> {
 type OfContext = (u64, u64, bool);
 
 /// Checks which bytes contexts have.
-fn have_bytes(rt: &impl Abort, rows: &[OfContext]) {
-    let state = based(AbsVal::Context(Flat::One(0)));
-    let loaded = Ok(with(&state, Register::new(2), ANY));
+fn have_bytes(rt: &impl Abort, alloc: Global, rows: &[OfContext]) {
+    let state = based(rt, alloc, AbsVal::Context(Flat::One(0)));
+    let loaded = Ok(with(rt, alloc, &state, Register::new(2), ANY));
     let outside = Err(RefusalNumber::OutOfBounds);
     for row in rows {
         let (context_size, offset, is_inside) = *row;
         let wanted = if is_inside { &loaded } else { &outside };
         let instruction = load(Size::Byte, Extension::Zero, offset);
-        let found = makes(&state, context_size, &instruction, wanted);
+        let found = makes(rt, alloc, &state, context_size, &instruction, wanted);
         is_true_at(rt, found, row);
     }
 }
 
 #[test]
 fn the_context_has_so_many_bytes(rt: HostRuntime) -> Result<(), Fail> {
+    let alloc = rt.alloc();
     have_bytes(
         &rt,
+        alloc,
         &[
             (128, 127, true),
             (128, 128, false),
@@ -213,18 +227,19 @@ fn the_context_has_so_many_bytes(rt: HostRuntime) -> Result<(), Fail> {
 /// Checks what is loaded where a value was stored.
 fn loads(
     rt: &impl Abort,
+    alloc: Global,
     kept: AbsVal<Flat>,
     size: Size,
     offset: u64,
     loaded: Result<AbsVal<Flat>, RefusalNumber>,
 ) {
-    let state = stored(kept);
+    let state = stored(rt, alloc, kept);
     let wanted = match loaded {
-        Ok(value) => Ok(with(&state, Register::new(2), value)),
+        Ok(value) => Ok(with(rt, alloc, &state, Register::new(2), value)),
         Err(refusal) => Err(refusal),
     };
     let instruction = load(size, Extension::Sign, offset);
-    let found = makes(&state, CONTEXT_SIZE, &instruction, &wanted);
+    let found = makes(rt, alloc, &state, CONTEXT_SIZE, &instruction, &wanted);
     is_true_at(rt, found, (&kept, &size, &offset));
 }
 
@@ -232,10 +247,10 @@ fn loads(
 type Loaded = (AbsVal<Flat>, Size, u64, Result<AbsVal<Flat>, RefusalNumber>);
 
 /// Checks what is loaded.
-fn are_loaded(rt: &impl Abort, rows: &[Loaded]) {
+fn are_loaded(rt: &impl Abort, alloc: Global, rows: &[Loaded]) {
     for row in rows {
         let (kept, size, offset, loaded) = *row;
-        loads(rt, kept, size, offset, loaded);
+        loads(rt, alloc, kept, size, offset, loaded);
     }
 }
 
@@ -260,8 +275,10 @@ const MINUS_20: u64 = 0xffff_ffff_ffff_ffec;
 
 #[test]
 fn values_are_loaded_from_the_stack(rt: HostRuntime) -> Result<(), Fail> {
+    let alloc = rt.alloc();
     are_loaded(
         &rt,
+        alloc,
         &[
             (EIGHT, Size::DoubleWord, MINUS_8, Ok(EIGHT)),
             (EIGHT, Size::Word, MINUS_4, Ok(ANY)),
@@ -285,6 +302,7 @@ fn values_are_loaded_from_the_stack(rt: HostRuntime) -> Result<(), Fail> {
 
 #[test]
 fn a_load_may_replace_its_base(rt: HostRuntime) -> Result<(), Fail> {
+    let alloc = rt.alloc();
     let four = Register::new(4);
     let instruction = Instruction::Load {
         size: Size::DoubleWord,
@@ -293,8 +311,11 @@ fn a_load_may_replace_its_base(rt: HostRuntime) -> Result<(), Fail> {
         base: four,
         offset: MINUS_8,
     };
-    let state = stored(CONTEXT);
-    let wanted = Ok(with(&state, four, CONTEXT));
-    is_true(&rt, makes(&state, CONTEXT_SIZE, &instruction, &wanted));
+    let state = stored(&rt, alloc, CONTEXT);
+    let wanted = Ok(with(&rt, alloc, &state, four, CONTEXT));
+    is_true(
+        &rt,
+        makes(&rt, alloc, &state, CONTEXT_SIZE, &instruction, &wanted),
+    );
     Ok(())
 }

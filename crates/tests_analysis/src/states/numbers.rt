@@ -9,24 +9,40 @@ use abs_domain::Flat;
 use abs_regs::AbsVal;
 use bpf_profile::{ByteOrder, Instruction, Operand, Operation, Register, Size, Width};
 use refusals::RefusalNumber;
+use std::alloc::Global;
 use std::process::Abort;
 use std::test::*;
 
 /// Checks what an instruction puts into its destination.
 fn has_result(
     rt: &impl Abort,
+    alloc: Global,
     instruction: &Instruction,
     destination: Register,
     value: AbsVal<Flat>,
 ) {
-    let wanted = Ok(with(&sample(), destination, value));
-    let found = makes(&sample(), CONTEXT_SIZE, instruction, &wanted);
+    let wanted = Ok(with(rt, alloc, &sample(rt, alloc), destination, value));
+    let found = makes(
+        rt,
+        alloc,
+        &sample(rt, alloc),
+        CONTEXT_SIZE,
+        instruction,
+        &wanted,
+    );
     is_true_at(rt, found, instruction);
 }
 
 /// Checks why an instruction is refused.
-fn is_refused(rt: &impl Abort, instruction: &Instruction, refusal: RefusalNumber) {
-    let found = makes(&sample(), CONTEXT_SIZE, instruction, &Err(refusal));
+fn is_refused(rt: &impl Abort, alloc: Global, instruction: &Instruction, refusal: RefusalNumber) {
+    let found = makes(
+        rt,
+        alloc,
+        &sample(rt, alloc),
+        CONTEXT_SIZE,
+        instruction,
+        &Err(refusal),
+    );
     is_true_at(rt, found, instruction);
 }
 
@@ -34,7 +50,7 @@ fn is_refused(rt: &impl Abort, instruction: &Instruction, refusal: RefusalNumber
 type OfRegisters = (Operation, u8, u8, AbsVal<Flat>);
 
 /// Checks what operations make of two registers.
-fn registers_are_computed(rt: &impl Abort, rows: &[OfRegisters]) {
+fn registers_are_computed(rt: &impl Abort, alloc: Global, rows: &[OfRegisters]) {
     for row in rows {
         let (operation, destination, source, wanted) = *row;
         assert!(rt; destination < 11);
@@ -46,7 +62,7 @@ fn registers_are_computed(rt: &impl Abort, rows: &[OfRegisters]) {
             destination,
             operand: register(source),
         };
-        has_result(rt, &instruction, destination, wanted);
+        has_result(rt, alloc, &instruction, destination, wanted);
     }
 }
 
@@ -54,7 +70,7 @@ fn registers_are_computed(rt: &impl Abort, rows: &[OfRegisters]) {
 type OfWords = (Operation, Width, u8, u64, u64);
 
 /// Checks what operations make of a register and a word.
-fn words_are_computed(rt: &impl Abort, rows: &[OfWords]) {
+fn words_are_computed(rt: &impl Abort, alloc: Global, rows: &[OfWords]) {
     for row in rows {
         let (operation, width, destination, word, wanted) = *row;
         assert!(rt; destination < 11);
@@ -65,7 +81,7 @@ fn words_are_computed(rt: &impl Abort, rows: &[OfWords]) {
             destination,
             operand: Operand::Immediate(word),
         };
-        has_result(rt, &instruction, destination, number(wanted));
+        has_result(rt, alloc, &instruction, destination, number(wanted));
     }
 }
 
@@ -80,8 +96,10 @@ const BEFORE_24: AbsVal<Flat> = AbsVal::Stack(0xffff_ffff_ffff_ffe8);
 
 #[test]
 fn a_result_is_in_its_destination(rt: HostRuntime) -> Result<(), Fail> {
+    let alloc = rt.alloc();
     words_are_computed(
         &rt,
+        alloc,
         &[
             (Operation::Add, Width::Bits64, 2, 4, 12),
             (Operation::Add, Width::Bits64, 2, MINUS_16, MINUS_8),
@@ -92,6 +110,7 @@ fn a_result_is_in_its_destination(rt: HostRuntime) -> Result<(), Fail> {
     );
     registers_are_computed(
         &rt,
+        alloc,
         &[
             (Operation::ShiftLeft, 2, 2, AbsVal::Number(Flat::One(0x800))),
             (Operation::Add, 4, 2, BEFORE_8),
@@ -109,6 +128,7 @@ fn a_result_is_in_its_destination(rt: HostRuntime) -> Result<(), Fail> {
 /// Checks why an operation with an operand is refused.
 fn computes_nothing(
     rt: &impl Abort,
+    alloc: Global,
     operation: Operation,
     width: Width,
     destination: u8,
@@ -122,19 +142,19 @@ fn computes_nothing(
         destination: Register::new(destination),
         operand,
     };
-    is_refused(rt, &instruction, refusal);
+    is_refused(rt, alloc, &instruction, refusal);
 }
 
 /// An operation, its width, the registers of its destination and of its operand, and why it is refused.
 type Refused = (Operation, Width, u8, u8, RefusalNumber);
 
 /// Checks why operations are refused.
-fn registers_are_refused(rt: &impl Abort, rows: &[Refused]) {
+fn registers_are_refused(rt: &impl Abort, alloc: Global, rows: &[Refused]) {
     for row in rows {
         let (operation, width, destination, source, refusal) = *row;
         assert!(rt; source < 11);
         let operand = register(source);
-        computes_nothing(rt, operation, width, destination, operand, refusal);
+        computes_nothing(rt, alloc, operation, width, destination, operand, refusal);
     }
 }
 
@@ -146,12 +166,14 @@ const BAD_SUM: RefusalNumber = RefusalNumber::BadPointerSum;
 
 #[test]
 fn operands_are_refused(rt: HostRuntime) -> Result<(), Fail> {
+    let alloc = rt.alloc();
     let (half, whole) = (Width::Bits32, Width::Bits64);
     let (one, eight) = (Operand::Immediate(1), Operand::Immediate(8));
-    computes_nothing(&rt, Operation::Add, whole, 6, one, UNSET_REGISTER);
-    computes_nothing(&rt, Operation::Add, half, 4, eight, USED);
+    computes_nothing(&rt, alloc, Operation::Add, whole, 6, one, UNSET_REGISTER);
+    computes_nothing(&rt, alloc, Operation::Add, half, 4, eight, USED);
     registers_are_refused(
         &rt,
+        alloc,
         &[
             (Operation::Add, Width::Bits64, 2, 6, UNSET_REGISTER),
             // An unset operand is refused before a pointer.
@@ -195,77 +217,100 @@ fn convert(order: ByteOrder, size: Size, destination: Register) -> Instruction {
 }
 
 /// Checks what an instruction makes of a number in R2.
-fn converts(rt: &impl Abort, instruction: &Instruction, destination: Register, wanted: u64) {
-    let state = with(&sample(), Register::new(2), number(0x1234_8091));
-    let wanted = Ok(with(&state, destination, number(wanted)));
-    let found = makes(&state, CONTEXT_SIZE, instruction, &wanted);
+fn converts(
+    rt: &impl Abort,
+    alloc: Global,
+    instruction: &Instruction,
+    destination: Register,
+    wanted: u64,
+) {
+    let state = with(
+        rt,
+        alloc,
+        &sample(rt, alloc),
+        Register::new(2),
+        number(0x1234_8091),
+    );
+    let wanted = Ok(with(rt, alloc, &state, destination, number(wanted)));
+    let found = makes(rt, alloc, &state, CONTEXT_SIZE, instruction, &wanted);
     is_true_at(rt, found, instruction);
 }
 
 #[test]
 fn numbers_are_negated_extended_and_reordered(rt: HostRuntime) -> Result<(), Fail> {
+    let alloc = rt.alloc();
     let two = Register::new(2);
     let six = Register::new(6);
-    converts(&rt, &negate(two), two, minus(0x1234_8091));
+    converts(&rt, alloc, &negate(two), two, minus(0x1234_8091));
     let whole = move_signed(Width::Bits64, Size::HalfWord, six, two);
-    converts(&rt, &whole, six, 0xffff_ffff_ffff_8091);
+    converts(&rt, alloc, &whole, six, 0xffff_ffff_ffff_8091);
     let half = move_signed(Width::Bits32, Size::Byte, six, two);
-    converts(&rt, &half, six, 0xffff_ff91);
+    converts(&rt, alloc, &half, six, 0xffff_ff91);
     let big = convert(ByteOrder::Big, Size::Word, two);
-    converts(&rt, &big, two, 0x9180_3412);
+    converts(&rt, alloc, &big, two, 0x9180_3412);
     let little = convert(ByteOrder::Little, Size::HalfWord, two);
-    converts(&rt, &little, two, 0x8091);
+    converts(&rt, alloc, &little, two, 0x8091);
     Ok(())
 }
 
 /// Checks why what is in a register is neither negated, extended nor reordered.
-fn is_no_number(rt: &impl Abort, source: u8, refusal: RefusalNumber)
+fn is_no_number(rt: &impl Abort, alloc: Global, source: u8, refusal: RefusalNumber)
     requires { source < 11 }
 {
     let source = Register::new(source);
-    is_refused(rt, &negate(source), refusal);
+    is_refused(rt, alloc, &negate(source), refusal);
     let moved = move_signed(Width::Bits64, Size::Word, Register::new(2), source);
-    is_refused(rt, &moved, refusal);
+    is_refused(rt, alloc, &moved, refusal);
     let swapped = convert(ByteOrder::Swap, Size::DoubleWord, source);
-    is_refused(rt, &swapped, refusal);
+    is_refused(rt, alloc, &swapped, refusal);
 }
 
 #[test]
 fn only_numbers_are_negated_extended_and_reordered(rt: HostRuntime) -> Result<(), Fail> {
-    is_no_number(&rt, 6, RefusalNumber::UnsetRegister);
-    is_no_number(&rt, 4, RefusalNumber::PointerUsed);
-    is_no_number(&rt, 5, RefusalNumber::PointerUsed);
+    let alloc = rt.alloc();
+    is_no_number(&rt, alloc, 6, RefusalNumber::UnsetRegister);
+    is_no_number(&rt, alloc, 4, RefusalNumber::PointerUsed);
+    is_no_number(&rt, alloc, 5, RefusalNumber::PointerUsed);
     Ok(())
 }
 
 /// Checks that an immediate of 64 bits is in its destination.
-fn is_replaced(rt: &impl Abort, destination: Register, value: u64) {
+fn is_replaced(rt: &impl Abort, alloc: Global, destination: Register, value: u64) {
     let instruction = Instruction::LoadImmediate { destination, value };
-    has_result(rt, &instruction, destination, number(value));
+    has_result(rt, alloc, &instruction, destination, number(value));
 }
 
 #[test]
 fn an_immediate_of_64_bits_replaces_any_value(rt: HostRuntime) -> Result<(), Fail> {
+    let alloc = rt.alloc();
     // R10 is never written.
     for register_number in 0..10u8 {
         let destination = Register::new(register_number);
-        is_replaced(&rt, destination, 0);
-        is_replaced(&rt, destination, 0x1_0000_0001);
-        is_replaced(&rt, destination, u64::MAX);
+        is_replaced(&rt, alloc, destination, 0);
+        is_replaced(&rt, alloc, destination, 0x1_0000_0001);
+        is_replaced(&rt, alloc, destination, u64::MAX);
     }
     Ok(())
 }
 
 /// Checks that a jump changes nothing.
-fn changes_nothing(rt: &impl Abort, width: Width) {
+fn changes_nothing(rt: &impl Abort, alloc: Global, width: Width) {
     let instruction = Instruction::Jump { width, distance: 3 };
-    let found = makes(&sample(), CONTEXT_SIZE, &instruction, &Ok(sample()));
+    let found = makes(
+        rt,
+        alloc,
+        &sample(rt, alloc),
+        CONTEXT_SIZE,
+        &instruction,
+        &Ok(sample(rt, alloc)),
+    );
     is_true_at(rt, found, &width);
 }
 
 #[test]
 fn a_jump_changes_nothing(rt: HostRuntime) -> Result<(), Fail> {
-    changes_nothing(&rt, Width::Bits32);
-    changes_nothing(&rt, Width::Bits64);
+    let alloc = rt.alloc();
+    changes_nothing(&rt, alloc, Width::Bits32);
+    changes_nothing(&rt, alloc, Width::Bits64);
     Ok(())
 }

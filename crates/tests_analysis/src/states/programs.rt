@@ -1,9 +1,10 @@
 //! Some instructions in a row, each from what is known after the one before.
-use super::{CONTEXT_SIZE, Found, minus, register};
+use super::{CONTEXT_SIZE, Found, at_entry, minus, register};
 use crate::checks::same;
 use abs_states::AbsState;
 use bpf_profile::{Comparison, Extension, Instruction, Operand, Operation, Register, Size, Width};
 use refusals::RefusalNumber;
+use std::alloc::Global;
 use std::process::Abort;
 use std::test::*;
 
@@ -27,8 +28,8 @@ fn arithmetic(operation: Operation, destination: Register, operand: Operand) -> 
 }
 
 /// What is known after all of these instructions, on the way to the next slot each.
-fn followed(instructions: &[Instruction]) -> Found {
-    let mut state = AbsState::entry();
+fn followed(rt: &impl Abort, alloc: Global, instructions: &[Instruction]) -> Found {
+    let mut state = at_entry(rt, alloc);
     for instruction in instructions {
         state.transfer(CONTEXT_SIZE, false, instruction)?;
     }
@@ -43,8 +44,13 @@ fn refusal_of(found: Found) -> Option<RefusalNumber> {
 }
 
 /// Checks why some instructions are refused, if they are.
-fn ends(rt: &impl Abort, instructions: &[Instruction], wanted: Option<RefusalNumber>) {
-    same(rt, refusal_of(followed(instructions)), wanted);
+fn ends(
+    rt: &impl Abort,
+    alloc: Global,
+    instructions: &[Instruction],
+    wanted: Option<RefusalNumber>,
+) {
+    same(rt, refusal_of(followed(rt, alloc, instructions)), wanted);
 }
 
 /// The last eight bytes of the stack are pointed at by R1.
@@ -65,8 +71,10 @@ fn count_two() -> Instruction {
 
 #[test]
 fn a_tag_is_compared_with_two_bytes(rt: HostRuntime) -> Result<(), Fail> {
+    let alloc = rt.alloc();
     ends(
         &rt,
+        alloc,
         &[
             store_byte(8, 112),
             store_byte(7, 97),
@@ -80,6 +88,7 @@ fn a_tag_is_compared_with_two_bytes(rt: HostRuntime) -> Result<(), Fail> {
     // Without the second byte.
     ends(
         &rt,
+        alloc,
         &[
             store_byte(8, 112),
             point(),
@@ -115,30 +124,47 @@ fn branch(comparison: Comparison) -> Instruction {
 }
 
 /// Checks whether a byte may be the answer once it is compared.
-fn answers(rt: &impl Abort, comparison: Comparison, wanted: Option<RefusalNumber>) {
+fn answers(rt: &impl Abort, alloc: Global, comparison: Comparison, wanted: Option<RefusalNumber>) {
     let load = load(Size::Byte, Register::new(0), Register::new(1), 64);
-    ends(rt, &[load, branch(comparison), Instruction::Exit], wanted);
+    ends(
+        rt,
+        alloc,
+        &[load, branch(comparison), Instruction::Exit],
+        wanted,
+    );
 }
 
 #[test]
 fn an_answer_is_known_where_it_was_compared(rt: HostRuntime) -> Result<(), Fail> {
-    answers(&rt, Comparison::NotEqual, None);
-    answers(&rt, Comparison::Equal, Some(RefusalNumber::AnswerRange));
+    let alloc = rt.alloc();
+    answers(&rt, alloc, Comparison::NotEqual, None);
+    answers(
+        &rt,
+        alloc,
+        Comparison::Equal,
+        Some(RefusalNumber::AnswerRange),
+    );
     Ok(())
 }
 
 /// Checks whether the context is still at hand in a register, once R6 keeps it and a helper is called.
-fn is_kept(rt: &impl Abort, base: Register, wanted: Option<RefusalNumber>) {
+fn is_kept(rt: &impl Abort, alloc: Global, base: Register, wanted: Option<RefusalNumber>) {
     let keep = arithmetic(Operation::Move, Register::new(6), register(1));
     let fact = arithmetic(Operation::Move, Register::new(1), Operand::Immediate(15));
     let call = Instruction::Call { helper: 1 };
     let load = load(Size::DoubleWord, Register::new(7), base, 8);
-    ends(rt, &[keep, fact, call, load], wanted);
+    ends(rt, alloc, &[keep, fact, call, load], wanted);
 }
 
 #[test]
 fn the_context_is_kept_over_a_call(rt: HostRuntime) -> Result<(), Fail> {
-    is_kept(&rt, Register::new(6), None);
-    is_kept(&rt, Register::new(1), Some(RefusalNumber::UnsetRegister));
+    let alloc = rt.alloc();
+    is_kept(&rt, alloc, Register::new(6), None);
+    is_kept(
+        &rt,
+        alloc,
+        Register::new(1),
+        Some(RefusalNumber::UnsetRegister),
+    );
     Ok(())
 }

@@ -12,6 +12,7 @@ use abs_regs::AbsVal;
 use abs_states::AbsState;
 use bpf_profile::{Instruction, Operand, Register, Size};
 use refusals::RefusalNumber;
+use std::alloc::Global;
 use std::process::Abort;
 use std::test::*;
 
@@ -28,14 +29,27 @@ fn store(size: Size, offset: u64, operand: Operand) -> Instruction {
 }
 
 /// The sample with a base in R4 and a value in R6.
-fn based(base: AbsVal<Flat>, value: AbsVal<Flat>) -> AbsState<Flat> {
-    let state = with(&sample(), Register::new(4), base);
-    with(&state, Register::new(6), value)
+fn based(
+    rt: &impl Abort,
+    alloc: Global,
+    base: AbsVal<Flat>,
+    value: AbsVal<Flat>,
+) -> AbsState<Flat> {
+    let state = with(rt, alloc, &sample(rt, alloc), Register::new(4), base);
+    with(rt, alloc, &state, Register::new(6), value)
 }
 
 /// What is known once R6 is stored.
-fn stored(state: &AbsState<Flat>, size: Size, offset: u64) -> Found {
+fn stored(
+    rt: &impl Abort,
+    alloc: Global,
+    state: &AbsState<Flat>,
+    size: Size,
+    offset: u64,
+) -> Found {
     transferred(
+        rt,
+        alloc,
         state,
         CONTEXT_SIZE,
         false,
@@ -46,6 +60,7 @@ fn stored(state: &AbsState<Flat>, size: Size, offset: u64) -> Found {
 /// Checks why a store is refused.
 fn is_refused(
     rt: &impl Abort,
+    alloc: Global,
     base: AbsVal<Flat>,
     value: AbsVal<Flat>,
     size: Size,
@@ -53,34 +68,38 @@ fn is_refused(
     refusal: RefusalNumber,
 ) {
     let instruction = store(size, offset, register(6));
-    let state = based(base, value);
-    let found = makes(&state, CONTEXT_SIZE, &instruction, &Err(refusal));
+    let state = based(rt, alloc, base, value);
+    let found = makes(rt, alloc, &state, CONTEXT_SIZE, &instruction, &Err(refusal));
     is_true_at(rt, found, (&base, &value, &size, &offset));
 }
 
 /// Checks that a store with one of these unset is refused for that, whatever its size and its offset.
-fn is_unset(rt: &impl Abort, base: AbsVal<Flat>, value: AbsVal<Flat>) {
+fn is_unset(rt: &impl Abort, alloc: Global, base: AbsVal<Flat>, value: AbsVal<Flat>) {
     let unset = RefusalNumber::UnsetRegister;
     for size in &SIZES {
-        is_refused(rt, base, value, *size, 0, unset);
-        is_refused(rt, base, value, *size, 1, unset);
-        is_refused(rt, base, value, *size, 16, unset);
+        is_refused(rt, alloc, base, value, *size, 0, unset);
+        is_refused(rt, alloc, base, value, *size, 1, unset);
+        is_refused(rt, alloc, base, value, *size, 16, unset);
     }
 }
 
 #[test]
 fn base_and_value_are_set_before_all_else(rt: HostRuntime) -> Result<(), Fail> {
-    is_unset(&rt, UNSET, UNSET);
-    is_unset(&rt, UNSET, EIGHT);
-    is_unset(&rt, UNSET, STACK);
-    is_unset(&rt, EIGHT, UNSET);
-    is_unset(&rt, CONTEXT, UNSET);
-    is_unset(&rt, STACK, UNSET);
+    let alloc = rt.alloc();
+    is_unset(&rt, alloc, UNSET, UNSET);
+    is_unset(&rt, alloc, UNSET, EIGHT);
+    is_unset(&rt, alloc, UNSET, STACK);
+    is_unset(&rt, alloc, EIGHT, UNSET);
+    is_unset(&rt, alloc, CONTEXT, UNSET);
+    is_unset(&rt, alloc, STACK, UNSET);
     // So it is with an immediate, which is set.
     let instruction = store(Size::Byte, 0, Operand::Immediate(1));
     let unset = Err(RefusalNumber::UnsetRegister);
-    let state = based(UNSET, EIGHT);
-    is_true(&rt, makes(&state, CONTEXT_SIZE, &instruction, &unset));
+    let state = based(&rt, alloc, UNSET, EIGHT);
+    is_true(
+        &rt,
+        makes(&rt, alloc, &state, CONTEXT_SIZE, &instruction, &unset),
+    );
     Ok(())
 }
 
@@ -88,17 +107,19 @@ fn base_and_value_are_set_before_all_else(rt: HostRuntime) -> Result<(), Fail> {
 type Refused = (AbsVal<Flat>, AbsVal<Flat>, Size, u64, RefusalNumber);
 
 /// Checks why stores are refused.
-fn are_refused(rt: &impl Abort, rows: &[Refused]) {
+fn are_refused(rt: &impl Abort, alloc: Global, rows: &[Refused]) {
     for row in rows {
         let (base, value, size, offset, refusal) = *row;
-        is_refused(rt, base, value, size, offset, refusal);
+        is_refused(rt, alloc, base, value, size, offset, refusal);
     }
 }
 
 #[test]
 fn faults_come_in_their_order(rt: HostRuntime) -> Result<(), Fail> {
+    let alloc = rt.alloc();
     are_refused(
         &rt,
+        alloc,
         &[
             (EIGHT, STACK, Size::Word, 1, RefusalNumber::NotPointer),
             (ANY, EIGHT, Size::DoubleWord, 0, RefusalNumber::NotPointer),
@@ -155,15 +176,22 @@ fn faults_come_in_their_order(rt: HostRuntime) -> Result<(), Fail> {
 
 /// Checks that a value is in its cell once it is stored, that its bytes are set where it is a number, and
 /// that no register is changed.
-fn is_stored(rt: &impl Abort, base: AbsVal<Flat>, offset: u64, cell: u64, value: AbsVal<Flat>)
+fn is_stored(
+    rt: &impl Abort,
+    alloc: Global,
+    base: AbsVal<Flat>,
+    offset: u64,
+    cell: u64,
+    value: AbsVal<Flat>,
+)
     requires { cell < 64 }
 {
-    let state = based(base, value);
+    let state = based(rt, alloc, base, value);
     let (first, end) = match value {
         AbsVal::Number(_) => (8 * cell, 8 * cell + 8),
         _ => (0, 0),
     };
-    match stored(&state, Size::DoubleWord, offset) {
+    match stored(rt, alloc, &state, Size::DoubleWord, offset) {
         Ok(after) => {
             same_at(rt, cell_of(&after, cell), Ok(value), (&base, &offset));
             is_true_at(rt, registers_are_alike(&after, &state), (&base, &offset));
@@ -174,30 +202,31 @@ fn is_stored(rt: &impl Abort, base: AbsVal<Flat>, offset: u64, cell: u64, value:
 }
 
 /// Checks that values of each kind are stored.
-fn are_stored(rt: &impl Abort, base: AbsVal<Flat>, offset: u64, cell: u64)
+fn are_stored(rt: &impl Abort, alloc: Global, base: AbsVal<Flat>, offset: u64, cell: u64)
     requires { cell < 64 }
 {
-    is_stored(rt, base, offset, cell, EIGHT);
-    is_stored(rt, base, offset, cell, ANY);
-    is_stored(rt, base, offset, cell, STACK);
-    is_stored(rt, base, offset, cell, CONTEXT);
+    is_stored(rt, alloc, base, offset, cell, EIGHT);
+    is_stored(rt, alloc, base, offset, cell, ANY);
+    is_stored(rt, alloc, base, offset, cell, STACK);
+    is_stored(rt, alloc, base, offset, cell, CONTEXT);
 }
 
 #[test]
 fn values_are_stored_whole(rt: HostRuntime) -> Result<(), Fail> {
-    are_stored(&rt, END, MINUS_8, 63);
-    are_stored(&rt, END, MINUS_512, 0);
-    are_stored(&rt, STACK, 0, 62);
-    are_stored(&rt, STACK, 8, 63);
-    are_stored(&rt, START, 16, 2);
+    let alloc = rt.alloc();
+    are_stored(&rt, alloc, END, MINUS_8, 63);
+    are_stored(&rt, alloc, END, MINUS_512, 0);
+    are_stored(&rt, alloc, STACK, 0, 62);
+    are_stored(&rt, alloc, STACK, 8, 63);
+    are_stored(&rt, alloc, START, 16, 2);
     Ok(())
 }
 
 /// Checks that a word is in its cell once it is stored, and that no register is changed.
-fn immediate_is_stored(rt: &impl Abort, word: u64) {
-    let state = based(STACK, UNSET);
+fn immediate_is_stored(rt: &impl Abort, alloc: Global, word: u64) {
+    let state = based(rt, alloc, STACK, UNSET);
     let instruction = store(Size::DoubleWord, 8, Operand::Immediate(word));
-    match transferred(&state, CONTEXT_SIZE, true, &instruction) {
+    match transferred(rt, alloc, &state, CONTEXT_SIZE, true, &instruction) {
         Ok(after) => {
             same_at(rt, cell_of(&after, 63), Ok(number(word)), &word);
             is_true_at(rt, registers_are_alike(&after, &state), &word);
@@ -208,16 +237,25 @@ fn immediate_is_stored(rt: &impl Abort, word: u64) {
 
 #[test]
 fn an_immediate_is_stored_whole(rt: HostRuntime) -> Result<(), Fail> {
-    immediate_is_stored(&rt, 0);
-    immediate_is_stored(&rt, 7);
-    immediate_is_stored(&rt, u64::MAX);
+    let alloc = rt.alloc();
+    immediate_is_stored(&rt, alloc, 0);
+    immediate_is_stored(&rt, alloc, 7);
+    immediate_is_stored(&rt, alloc, u64::MAX);
     Ok(())
 }
 
 /// Checks which bytes are set once the low ones of a number are stored, and that no register is changed.
-fn sets_bytes(rt: &impl Abort, value: AbsVal<Flat>, size: Size, offset: u64, first: u64, end: u64) {
-    let state = based(STACK, value);
-    match stored(&state, size, offset) {
+fn sets_bytes(
+    rt: &impl Abort,
+    alloc: Global,
+    value: AbsVal<Flat>,
+    size: Size,
+    offset: u64,
+    first: u64,
+    end: u64,
+) {
+    let state = based(rt, alloc, STACK, value);
+    match stored(rt, alloc, &state, size, offset) {
         Ok(after) => {
             is_true_at(rt, set_bytes_are(&after, first, end), (&size, &offset));
             is_true_at(rt, registers_are_alike(&after, &state), (&size, &offset));
@@ -227,17 +265,18 @@ fn sets_bytes(rt: &impl Abort, value: AbsVal<Flat>, size: Size, offset: u64, fir
 }
 
 /// Checks which bytes are set once the low ones of a number are stored, whether it is known or not.
-fn both_set_bytes(rt: &impl Abort, size: Size, offset: u64, first: u64, end: u64) {
-    sets_bytes(rt, EIGHT, size, offset, first, end);
-    sets_bytes(rt, ANY, size, offset, first, end);
+fn both_set_bytes(rt: &impl Abort, alloc: Global, size: Size, offset: u64, first: u64, end: u64) {
+    sets_bytes(rt, alloc, EIGHT, size, offset, first, end);
+    sets_bytes(rt, alloc, ANY, size, offset, first, end);
 }
 
 #[test]
 fn low_bytes_of_numbers_are_stored(rt: HostRuntime) -> Result<(), Fail> {
-    both_set_bytes(&rt, Size::Byte, 15, 511, 512);
-    both_set_bytes(&rt, Size::Byte, 0, 496, 497);
-    both_set_bytes(&rt, Size::HalfWord, 2, 498, 500);
-    both_set_bytes(&rt, Size::Word, 4, 500, 504);
-    both_set_bytes(&rt, Size::Word, minus(496), 0, 4);
+    let alloc = rt.alloc();
+    both_set_bytes(&rt, alloc, Size::Byte, 15, 511, 512);
+    both_set_bytes(&rt, alloc, Size::Byte, 0, 496, 497);
+    both_set_bytes(&rt, alloc, Size::HalfWord, 2, 498, 500);
+    both_set_bytes(&rt, alloc, Size::Word, 4, 500, 504);
+    both_set_bytes(&rt, alloc, Size::Word, minus(496), 0, 4);
     Ok(())
 }

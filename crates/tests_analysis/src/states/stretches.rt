@@ -2,8 +2,8 @@
 use super::calls::{after_call, called_with};
 use super::{
     ANY, BEFORE_START, CONTEXT, CONTEXT_SIZE, EIGHT, END, Found, MINUS_1, STACK, UNSET, agree,
-    before, makes, number, registers_are_alike, sample, set_bytes_are, stored_before, transferred,
-    with,
+    at_entry, before, makes, number, registers_are_alike, sample, set_bytes_are, stored_before,
+    transferred, with,
 };
 use crate::checks::is_true_at;
 use abs_domain::Flat;
@@ -11,32 +11,47 @@ use abs_regs::AbsVal;
 use abs_states::AbsState;
 use bpf_profile::{Instruction, Register, Size};
 use refusals::RefusalNumber;
+use std::alloc::Global;
 use std::process::Abort;
 use std::test::*;
 
 /// A state with nothing known of the stack but for a value in the cell 16 bytes before its end.
-fn kept(value: AbsVal<Flat>, one: AbsVal<Flat>, two: AbsVal<Flat>) -> AbsState<Flat> {
-    let mut state = AbsState::entry();
+fn kept(
+    rt: &impl Abort,
+    alloc: Global,
+    value: AbsVal<Flat>,
+    one: AbsVal<Flat>,
+    two: AbsVal<Flat>,
+) -> AbsState<Flat> {
+    let mut state = at_entry(rt, alloc);
     state.registers.set(Register::new(1), one);
     state.registers.set(Register::new(2), two);
-    stored_before(&state, 16, value, Size::DoubleWord)
+    stored_before(rt, alloc, &state, 16, value, Size::DoubleWord)
 }
 
-fn call(state: &AbsState<Flat>, helper: u32) -> Found {
-    transferred(state, CONTEXT_SIZE, false, &Instruction::Call { helper })
+fn call(rt: &impl Abort, alloc: Global, state: &AbsState<Flat>, helper: u32) -> Found {
+    transferred(
+        rt,
+        alloc,
+        state,
+        CONTEXT_SIZE,
+        false,
+        &Instruction::Call { helper },
+    )
 }
 
 /// Checks why a helper refuses its arguments.
 fn helper_refuses(
     rt: &impl Abort,
+    alloc: Global,
     helper: u32,
     one: AbsVal<Flat>,
     two: AbsVal<Flat>,
     refusal: RefusalNumber,
 ) {
-    let state = called_with(one, two);
+    let state = called_with(rt, alloc, one, two);
     let instruction = Instruction::Call { helper };
-    let found = makes(&state, CONTEXT_SIZE, &instruction, &Err(refusal));
+    let found = makes(rt, alloc, &state, CONTEXT_SIZE, &instruction, &Err(refusal));
     is_true_at(rt, found, (&helper, &one, &two));
 }
 
@@ -44,11 +59,11 @@ fn helper_refuses(
 type Refused = (AbsVal<Flat>, AbsVal<Flat>, RefusalNumber);
 
 /// Checks why both helpers refuse their arguments.
-fn are_refused(rt: &impl Abort, rows: &[Refused]) {
+fn are_refused(rt: &impl Abort, alloc: Global, rows: &[Refused]) {
     for row in rows {
         let (one, two, refusal) = *row;
-        helper_refuses(rt, 3, one, two, refusal);
-        helper_refuses(rt, 4, one, two, refusal);
+        helper_refuses(rt, alloc, 3, one, two, refusal);
+        helper_refuses(rt, alloc, 4, one, two, refusal);
     }
 }
 
@@ -68,8 +83,10 @@ const BEFORE_520: AbsVal<Flat> = AbsVal::Stack(0xffff_ffff_ffff_fdf8);
 
 #[test]
 fn arguments_are_refused_in_their_order(rt: HostRuntime) -> Result<(), Fail> {
+    let alloc = rt.alloc();
     are_refused(
         &rt,
+        alloc,
         &[
             (UNSET, UNSET, RefusalNumber::UnsetRegister),
             (
@@ -143,15 +160,15 @@ fn arguments_are_refused_in_their_order(rt: HostRuntime) -> Result<(), Fail> {
 }
 
 /// Checks which bytes a copied tag sets, and what is known of the registers then.
-fn sets_bytes(rt: &impl Abort, bytes_before: u64, count: u64, first: u64, end: u64) {
+fn sets_bytes(rt: &impl Abort, alloc: Global, bytes_before: u64, count: u64, first: u64, end: u64) {
     let state = AbsState {
-        registers: called_with(before(bytes_before), number(count)).registers,
-        stack: sample().stack,
+        registers: called_with(rt, alloc, before(bytes_before), number(count)).registers,
+        stack: sample(rt, alloc).stack,
     };
     let at = (bytes_before, count);
-    match call(&state, 3) {
+    match call(rt, alloc, &state, 3) {
         Ok(after) => {
-            let called = after_call(&state);
+            let called = after_call(rt, alloc, &state);
             is_true_at(rt, set_bytes_are(&after, first, end), at);
             is_true_at(rt, registers_are_alike(&after, &called), at);
         }
@@ -161,17 +178,19 @@ fn sets_bytes(rt: &impl Abort, bytes_before: u64, count: u64, first: u64, end: u
 
 /// Checks which bytes copied tags set: where they lie before the stack's end, how many are copied, and
 /// the first of these and the end.
-fn set_bytes(rt: &impl Abort, rows: &[(u64, u64, u64, u64)]) {
+fn set_bytes(rt: &impl Abort, alloc: Global, rows: &[(u64, u64, u64, u64)]) {
     for row in rows {
         let (bytes_before, count, first, end) = *row;
-        sets_bytes(rt, bytes_before, count, first, end);
+        sets_bytes(rt, alloc, bytes_before, count, first, end);
     }
 }
 
 #[test]
 fn a_copied_tag_sets_its_bytes_alone(rt: HostRuntime) -> Result<(), Fail> {
+    let alloc = rt.alloc();
     set_bytes(
         &rt,
+        alloc,
         &[
             (1, 1, 511, 512),
             (16, 1, 496, 497),
@@ -189,14 +208,15 @@ fn a_copied_tag_sets_its_bytes_alone(rt: HostRuntime) -> Result<(), Fail> {
 /// Checks which bytes are set once a tag is copied over a part of a kept value.
 fn leaves_bytes(
     rt: &impl Abort,
+    alloc: Global,
     value: AbsVal<Flat>,
     bytes_before: u64,
     count: u64,
     first: u64,
     end: u64,
 ) {
-    let state = kept(value, before(bytes_before), number(count));
-    match call(&state, 3) {
+    let state = kept(rt, alloc, value, before(bytes_before), number(count));
+    match call(rt, alloc, &state, 3) {
         Ok(after) => is_true_at(
             rt,
             set_bytes_are(&after, first, end),
@@ -208,19 +228,20 @@ fn leaves_bytes(
 
 #[test]
 fn a_copied_tag_leaves_of_a_kept_value_what_it_does_not_cover(rt: HostRuntime) -> Result<(), Fail> {
-    leaves_bytes(&rt, EIGHT, 14, 2, 496, 504);
-    leaves_bytes(&rt, EIGHT, 8, 4, 496, 508);
-    leaves_bytes(&rt, ANY, 20, 4, 492, 504);
-    leaves_bytes(&rt, STACK, 14, 2, 498, 500);
-    leaves_bytes(&rt, CONTEXT, 20, 8, 492, 500);
-    leaves_bytes(&rt, STACK, 8, 4, 504, 508);
+    let alloc = rt.alloc();
+    leaves_bytes(&rt, alloc, EIGHT, 14, 2, 496, 504);
+    leaves_bytes(&rt, alloc, EIGHT, 8, 4, 496, 508);
+    leaves_bytes(&rt, alloc, ANY, 20, 4, 492, 504);
+    leaves_bytes(&rt, alloc, STACK, 14, 2, 498, 500);
+    leaves_bytes(&rt, alloc, CONTEXT, 20, 8, 492, 500);
+    leaves_bytes(&rt, alloc, STACK, 8, 4, 504, 508);
     Ok(())
 }
 
 /// What is wanted of a comparison in a state: its answer isn't known, or a byte isn't set.
-fn compared(state: &AbsState<Flat>, are_set: bool) -> Found {
+fn compared(rt: &impl Abort, alloc: Global, state: &AbsState<Flat>, are_set: bool) -> Found {
     if are_set {
-        Ok(after_call(state))
+        Ok(after_call(rt, alloc, state))
     } else {
         Err(RefusalNumber::HelperArgument)
     }
@@ -230,21 +251,23 @@ fn compared(state: &AbsState<Flat>, are_set: bool) -> Found {
 type Compared = (AbsVal<Flat>, u64, u64, bool);
 
 /// Checks which bytes around a kept value can be compared.
-fn are_compared(rt: &impl Abort, rows: &[Compared]) {
+fn are_compared(rt: &impl Abort, alloc: Global, rows: &[Compared]) {
     for row in rows {
         let (value, bytes_before, count, are_set) = *row;
-        let state = kept(value, before(bytes_before), number(count));
-        let wanted = compared(&state, are_set);
+        let state = kept(rt, alloc, value, before(bytes_before), number(count));
+        let wanted = compared(rt, alloc, &state, are_set);
         let instruction = Instruction::Call { helper: 4 };
-        let found = makes(&state, CONTEXT_SIZE, &instruction, &wanted);
+        let found = makes(rt, alloc, &state, CONTEXT_SIZE, &instruction, &wanted);
         is_true_at(rt, found, row);
     }
 }
 
 #[test]
 fn bytes_that_are_compared_are_set(rt: HostRuntime) -> Result<(), Fail> {
+    let alloc = rt.alloc();
     are_compared(
         &rt,
+        alloc,
         &[
             (EIGHT, 16, 8, true),
             (ANY, 16, 8, true),
@@ -267,13 +290,22 @@ fn bytes_that_are_compared_are_set(rt: HostRuntime) -> Result<(), Fail> {
 }
 
 /// Checks whether bytes around those that helper 3 wrote can be compared.
-fn is_read(rt: &impl Abort, place: u64, count: u64, are_set: bool) {
-    match call(&called_with(before(40), number(10)), 3) {
+fn is_read(rt: &impl Abort, alloc: Global, place: u64, count: u64, are_set: bool) {
+    match call(
+        rt,
+        alloc,
+        &called_with(rt, alloc, before(40), number(10)),
+        3,
+    ) {
         Ok(after) => {
-            let state = with(&after, Register::new(1), before(place));
-            let state = with(&state, Register::new(2), number(count));
-            let wanted = compared(&state, are_set);
-            is_true_at(rt, agree(&call(&state, 4), &wanted), (&place, &count));
+            let state = with(rt, alloc, &after, Register::new(1), before(place));
+            let state = with(rt, alloc, &state, Register::new(2), number(count));
+            let wanted = compared(rt, alloc, &state, are_set);
+            is_true_at(
+                rt,
+                agree(&call(rt, alloc, &state, 4), &wanted),
+                (&place, &count),
+            );
         }
         Err(refusal) => is_true_at(rt, false, &refusal),
     }
@@ -281,10 +313,11 @@ fn is_read(rt: &impl Abort, place: u64, count: u64, are_set: bool) {
 
 #[test]
 fn what_helper_3_wrote_helper_4_reads(rt: HostRuntime) -> Result<(), Fail> {
-    is_read(&rt, 40, 10, true);
-    is_read(&rt, 36, 6, true);
-    is_read(&rt, 41, 10, false);
-    is_read(&rt, 40, 11, false);
-    is_read(&rt, 30, 1, false);
+    let alloc = rt.alloc();
+    is_read(&rt, alloc, 40, 10, true);
+    is_read(&rt, alloc, 36, 6, true);
+    is_read(&rt, alloc, 41, 10, false);
+    is_read(&rt, alloc, 40, 11, false);
+    is_read(&rt, alloc, 30, 1, false);
     Ok(())
 }

@@ -1,5 +1,7 @@
-use Rattle.stack_track.proofs.Lowest.{all_unset}
+use Rattle.std.proofs.Common.{ap, ◌∙◌}
+use Rattle.stack_track.specs.Held.{spread}
+use Rattle.stack_track.proofs.Held.{spread_none}
 use Rattle.stack_track.proofs.stack.StackState.entry.Goals as goal
 
-pub invariant_of-result : goal.invariant_of-result
-invariant_of-result g c = all_unset 64
+pub returns : goal.returns
+returns g c = ap (spread 64) c.in_ok-with_capacity.ensures.items ∙ spread_none 64
