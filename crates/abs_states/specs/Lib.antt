@@ -1,4 +1,5 @@
 pub mod States
 pub mod Calls
+pub mod Joining
 pub mod Transfers
 pub mod Steps

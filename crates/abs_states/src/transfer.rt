@@ -1,12 +1,13 @@
 //! The transfer function: the abstract state after an instruction.
 ghost use Rattle.std.specs.Prelude.{◌≡◌, slice_set, Ok, Err, IfErr, OnOk, OnErr};
+ghost use Rattle.abs_states.specs.Joining.{joined_with};
 ghost use Rattle.abs_states.specs.Transfers.{stores_in, branches_in, calls_in, exits_in, transfer_in};
 
 use crate::calls::{Answered, answer, write};
 use crate::state::AbsState;
 use abs_domain::Domain;
 use abs_regs::AbsVal;
-use bpf_profile::{Instruction, Operand, Register, Size};
+use bpf_profile::{Comparison, Instruction, Operand, Register, Size, Width};
 use refusals::RefusalNumber;
 
 impl<D: Domain> AbsState<D> {
@@ -53,6 +54,29 @@ impl<D: Domain> AbsState<D> {
         if answer.bounds().high > 2 {
             return Err(RefusalNumber::AnswerRange);
         }
+        Ok(())
+    }
+
+    /// Joins into another state the one on an edge of a conditional jump, the jump edge if `taken`, else
+    /// fall-through. This state stays as it is, and no second one is made. It is refused as `transfer` is;
+    /// the other state is then as before.
+    pub fn join_branch(
+        &self,
+        other: &mut AbsState<D>,
+        comparison: Comparison,
+        width: Width,
+        taken: bool,
+        left: Register,
+        right: &Operand,
+    ) -> Result<(), RefusalNumber>
+        ensures joined { OnOk result (joined_with ⟦<D as Domain>⟧ other.old (branches_in ⟦<D as Domain>⟧ self.now taken comparison width left right.now) ≡ Ok other.new) }
+        ensures refused { IfErr result (λ number. branches_in ⟦<D as Domain>⟧ self.now taken comparison width left right.now ≡ Err number) }
+        ensures unchanged { OnErr result (other.new ≡ other.old) }
+    {
+        let mut registers = self.registers;
+        registers.branch(comparison, width, taken, left, right)?;
+        other.registers.join(&registers);
+        other.stack.join(&self.stack);
         Ok(())
     }
 

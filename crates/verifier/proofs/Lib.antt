@@ -6,6 +6,7 @@ pub mod Forms
 pub mod Held
 pub mod JoinedStates
 pub mod JoinOf
+mod JumpFirst
 pub mod Known
 pub mod KnownJoin
 pub mod Sound

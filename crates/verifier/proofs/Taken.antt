@@ -21,7 +21,7 @@ use Rattle.verifier.proofs.Delivered.{length-delivered, delivered_all_at, sent_a
 use Rattle.verifier.proofs.Edges.{GoesForward}
 use Rattle.verifier.proofs.Known.{Sent, none_sent, sent_goes, within_all, fails_here, fault_ends, get_or-default}
 
-set_twice : {A : Type 0} (xs : List A) (i : ℕ) (a b : A) → slice_set (slice_set xs i a) i b ≡ slice_set xs i b
+pub set_twice : {A : Type 0} (xs : List A) (i : ℕ) (a b : A) → slice_set (slice_set xs i a) i b ≡ slice_set xs i b
 set_twice [] i a b = refl
 set_twice (x ∷ xs) zero a b = refl
 set_twice (x ∷ xs) (suc i) a b = ap (λ (more : List _). x ∷ more) (set_twice xs i a b)
@@ -53,7 +53,7 @@ length-seen states = length-map states (option_map box_value)
 pub seen_at : {X Z : Type 0} (states : List (Option (Box (AbsState X) Z))) (i : ℕ) → state_of (seen states) i ≡ option_map box_value (get_or states i None)
 seen_at states i = get_or-map (option_map box_value) states i None
 
-seen_twice : {X Z : Type 0} (states : List (Option (Box X Z))) (i : ℕ) (a b : Option (Box X Z)) → seen (slice_set (slice_set states i a) i b) ≡ slice_set (slice_set (seen states) i (option_map box_value a)) i (option_map box_value b)
+pub seen_twice : {X Z : Type 0} (states : List (Option (Box X Z))) (i : ℕ) (a b : Option (Box X Z)) → seen (slice_set (slice_set states i a) i b) ≡ slice_set (slice_set (seen states) i (option_map box_value a)) i (option_map box_value b)
 seen_twice {X} states i a b = seen_set (slice_set states i a) i b ∙ ap (λ (s : List (Option X)). slice_set s i (option_map box_value b)) (seen_set states i a)
 
 pub box_joined_in : {X Z : Type 0} (domain : Ghosts X) (states : List (Option (Box (AbsState X) Z))) (to : ℕ) (taken : Option (Box (AbsState X) Z)) (before joined : Box (AbsState X) Z) (state : AbsState X)

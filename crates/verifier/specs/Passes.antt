@@ -1,8 +1,10 @@
 -- What one pass over the slots does to its list of abstract states: each slot is sent what its predecessors send, and joins it.
-use Rattle.std.specs.Prelude.{ℕ, List, [], ◌∷◌, map, replicate, slice_set, slice_index_or, Option, Some, None, option_map, Box, box_value}
+use Rattle.std.specs.Prelude.{◌≡◌, ℕ, true, List, [], ◌∷◌, map, replicate, slice_set, slice_index_or, Option, Some, None, option_map, Ok, Box, box_value}
 use Rattle.abs_domain.specs.declared.domain.Domain.{Ghosts}
 use Rattle.abs_states.specs.declared.state.AbsState.{AbsState}
 use Rattle.abs_states.specs.States.{entry_state}
+use Rattle.abs_states.specs.Transfers.{transfer_in}
+use Rattle.bpf_profile.specs.declared.instruction.Instruction.{Instruction}
 use Rattle.verifier.specs.Analysis.{Message, joined_into}
 
 abbrev pub state_of : {X : Type 0} → List (Option (AbsState X)) → ℕ → Option (AbsState X)
@@ -26,3 +28,7 @@ delivered domain states message = slice_set states message.to (Some (joined_into
 abbrev pub delivered_all : {X : Type 0} → Ghosts X → List (Option (AbsState X)) → List (Message X) → List (Option (AbsState X))
 delivered_all domain states [] = states
 delivered_all domain states (message ∷ more) = delivered_all domain (delivered domain states message) more
+
+-- the state on the jump edge of an instruction was joined into the one at a slot
+abbrev pub IsJumpJoined : {X : Type 0} → Ghosts X → List (Option (AbsState X)) → ℕ → AbsState X → Instruction → List (Option (AbsState X)) → Type 0
+IsJumpJoined {X} domain before target a i after = (s : AbsState X) × ((context : ℕ) → transfer_in domain context a true i ≡ Ok s) × (after ≡ delivered domain before (record { to = target; state = s }))

@@ -1,12 +1,12 @@
 //! The abstract states that a pass over the slots sends along the edges of each. Each state is in memory of
 //! its own, so that it is passed on without a copy.
-ghost use Rattle.std.specs.Prelude.{◌≡◌, ◌⊎◌, ◌<◌, ◌++◌, length, true, false, Some, None, Ok, Err, IfSome, IfOk, IfErr, OnOk, box_value};
+ghost use Rattle.std.specs.Prelude.{◌≡◌, ◌≢◌, ◌⊎◌, ℕ, ◌<◌, ◌++◌, length, true, false, Some, None, Ok, Err, IfSome, IfOk, IfErr, OnOk, box_value};
 ghost use Rattle.bpf_profile.specs.Layouts.{context_size};
 ghost use Rattle.abs_states.specs.States.{entry_state};
 ghost use Rattle.abs_states.specs.Transfers.{transfer_in};
 ghost use Rattle.verifier.specs.Analysis.{message_to, fault_in};
 ghost use Rattle.verifier.specs.Memory.{StateFits};
-ghost use Rattle.verifier.specs.Passes.{entry_states, seen, delivered, delivered_all};
+ghost use Rattle.verifier.specs.Passes.{entry_states, seen, delivered, delivered_all, IsJumpJoined};
 ghost use Rattle.verifier.specs.Verifying.{out_of_memory};
 
 use crate::nones::nones;
@@ -101,6 +101,7 @@ fn follow<D: Domain>(
 }
 
 /// Sends the state after an instruction that goes one way at most, or ends the program.
+#[inline(always)]
 fn send_one<D: Domain>(
     states: &mut [Option<Box<AbsState<D>>>],
     mut state: Box<AbsState<D>>,
@@ -119,8 +120,8 @@ fn send_one<D: Domain>(
     Ok(())
 }
 
-/// Sends the states after a jump, of which there is a second one for its target.
-fn send_two<D: Domain>(
+/// Sends the states after a jump, of which a second one is made for its target.
+fn send_copied<D: Domain>(
     alloc: Global,
     states: &mut [Option<Box<AbsState<D>>>],
     mut state: Box<AbsState<D>>,
@@ -143,6 +144,89 @@ fn send_two<D: Domain>(
     deliver(states, next, state);
     join_at(states, target as usize, other);
     Ok(())
+}
+
+/// Joins the state on the jump edge of a conditional jump into the one that is held for its target, so that
+/// no second state is made. Answers whether it did: it changes nothing where no state is held yet, where the
+/// instruction is no conditional jump, and where it is refused.
+fn join_jump<D: Domain>(
+    states: &mut [Option<Box<AbsState<D>>>],
+    target: usize,
+    state: &AbsState<D>,
+    instruction: &Instruction,
+) -> bool
+    requires { target < length states.old }
+    ensures joined { result ≡ true → IsJumpJoined ⟦<D as Domain>⟧ (seen states.old) target state.now instruction.now (seen states.new) }
+    ensures kept { result ≡ false → seen states.new ≡ seen states.old }
+{
+    let Instruction::Branch {
+        comparison,
+        width,
+        left,
+        ref right,
+        ..
+    } = *instruction
+    else {
+        return false;
+    };
+    let Some(mut before) = states[target].take() else {
+        return false;
+    };
+    match state.join_branch(&mut before, comparison, width, true, left, right) {
+        Ok(()) => {
+            states[target] = Some(before);
+            true
+        }
+        Err(_) => {
+            states[target] = Some(before);
+            false
+        }
+    }
+}
+
+/// Whether an edge leads to another slot than this one, if it is there.
+fn leads_elsewhere(next: Option<u32>, target: u32) -> bool
+    ensures { result ≡ true → (slot : ℕ) → next ≡ Some slot → slot ≢ target }
+{
+    match next {
+        Some(slot) => slot != target,
+        None => true,
+    }
+}
+
+/// Sends the states after a jump. Where a state is held for its target already, and the other edge leads
+/// elsewhere, the one on the jump edge is joined into that; else there is a second one for the target.
+#[inline(never)]
+fn send_two<D: Domain>(
+    alloc: Global,
+    states: &mut [Option<Box<AbsState<D>>>],
+    mut state: Box<AbsState<D>>,
+    instruction: &Instruction,
+    slot: u32,
+    next: Option<u32>,
+    target: u32,
+    layout: Layout,
+) -> Result<(), Refusal>
+    requires fits { StateFits D.row }
+    requires next { IfSome next (λ to. to < length states.old) }
+    requires target { target < length states.old }
+    ensures passed { OnOk result (fault_in (transfer_in ⟦<D as Domain>⟧ (context_size layout) (box_value state) false instruction.now) ≡ None) }
+    ensures sent { OnOk result (seen states.new ≡ delivered_all ⟦<D as Domain>⟧ (seen states.old) (message_to next (transfer_in ⟦<D as Domain>⟧ (context_size layout) (box_value state) false instruction.now) ++ message_to (Some target) (transfer_in ⟦<D as Domain>⟧ (context_size layout) (box_value state) true instruction.now))) }
+    ensures fault { IfErr result (λ e. (e ≡ out_of_memory) ⊎ ((transfer_in ⟦<D as Domain>⟧ (context_size layout) (box_value state) false instruction.now ≡ Err e.number) × (e.slot ≡ slot))) }
+{
+    if leads_elsewhere(next, target) && join_jump(states, target as usize, &state, instruction) {
+        return send_one(states, state, instruction, slot, next, layout);
+    }
+    send_copied(
+        alloc,
+        states,
+        state,
+        instruction,
+        slot,
+        next,
+        target,
+        layout,
+    )
 }
 
 /// Sends the states after an instruction along its edges. The state before it becomes the one on the
