@@ -28,8 +28,8 @@ pub enum Event {
 }
 
 impl Event {
-    /// The same event once more, under one more owner of the program that it brings. The error comes
-    /// where that program can have no more owners.
+    /// The same event once more, under one more owner of the program that it brings. The error comes where there is no
+    /// memory for the outcome that it brings, or where that program can have no more owners.
     pub fn try_clone(&self) -> Result<Event, AllocError>
         ensures { IfOk result (λ copy. seen copy ≡ seen self.now) }
     {
@@ -78,7 +78,8 @@ impl Entry {
         }
     }
 
-    /// The same entry once more. The error comes where a program can have no more owners.
+    /// The same entry once more. The error comes where there is no memory for an outcome, or where a program can have no
+    /// more owners.
     pub fn try_clone(&self) -> Result<Entry, AllocError>
         ensures { IfOk result (λ copy. copy ≡ self.now) }
     {
