@@ -56,7 +56,7 @@ fn other_routes_ignore_their_body(rt: HostRuntime) {
 /// Each body is the program that is to be installed.
 fn are_programs(rt: &impl Abort, alloc: Global, bodies: &[&[u8]]) {
     for body in bodies {
-        match asked(rt, alloc, Route::Program, None, body) {
+        match &asked(rt, alloc, Route::Program, None, body) {
             Ok(Request::Install { program, .. }) => same(rt, program.as_slice(), *body),
             _ => is_true_at(rt, false, body),
         }
