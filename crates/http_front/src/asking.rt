@@ -11,6 +11,7 @@ use http_serving::HttpRequest;
 use refusals::RefusalNumber;
 use service::Request;
 use std::alloc::{AllocError, Global};
+use texts::JsonReader;
 
 /// What a request asks for.
 #[derive(Drop)]
@@ -24,6 +25,7 @@ pub(crate) enum Asking {
 /// What a request asks for. The error is want of memory.
 pub(crate) fn asked<A: Answerer>(
     alloc: Global,
+    json: &mut JsonReader,
     routes: &Routes,
     answerer: &A,
     request: &HttpRequest<'_>,
@@ -41,7 +43,7 @@ pub(crate) fn asked<A: Answerer>(
         return Ok(Asking::Refuses(RefusalNumber::NoService, None));
     };
     let query = query_of(request.target);
-    match body_asks(alloc, found.route, found.number, query, request.body)? {
+    match body_asks(alloc, json, found.route, found.number, query, request.body)? {
         Ok(wanted) => Ok(Asking::Asks(place, wanted)),
         Err(number) => Ok(Asking::Refuses(number, None)),
     }

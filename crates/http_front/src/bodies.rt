@@ -14,7 +14,7 @@ use requests::{number_at, report, state};
 use serde_json::Value;
 use service::Request;
 use std::alloc::{AllocError, Global};
-use texts::json;
+use texts::JsonReader;
 
 /// The report that a JSON value asks for. The error is want of memory.
 fn report_asks(alloc: Global, value: &Value) -> Result<Option<Request>, AllocError>
@@ -63,12 +63,13 @@ fn value_asks(alloc: Global, route: Route, value: &Value) -> Result<Option<Reque
 /// What a body of JSON asks for. The outer error is want of memory.
 fn json_asks(
     alloc: Global,
+    json: &mut JsonReader,
     route: Route,
     body: &[u8],
 ) -> Result<Result<Request, RefusalNumber>, AllocError>
     ensures { IfOk result (λ asked. map_ok request_data asked ≡ json_asks route (json_of body.now)) }
 {
-    let Some(value) = json(alloc, body)? else {
+    let Some(value) = json.read(alloc, body)? else {
         return Ok(Err(RefusalNumber::BadJson));
     };
     match value_asks(alloc, route, &value)? {
@@ -113,6 +114,7 @@ fn page_asks(number: Option<&str>) -> Result<Request, RefusalNumber>
 /// query names another layout or two that differ. The outer error is want of memory.
 pub fn body_asks(
     alloc: Global,
+    json: &mut JsonReader,
     route: Route,
     number: Option<&str>,
     query: &[u8],
@@ -124,7 +126,7 @@ pub fn body_asks(
     match route {
         Route::Acquire => Ok(Ok(Request::Acquire)),
         Route::Report | Route::Release | Route::Transition | Route::Roll => {
-            json_asks(alloc, route, body)
+            json_asks(alloc, json, route, body)
         }
         Route::Reset => Ok(Ok(Request::Reset)),
         Route::Cut => Ok(Ok(Request::Cut)),

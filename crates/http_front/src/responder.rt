@@ -11,20 +11,38 @@ use http_routes::Routes;
 use http_serving::{HttpRequest, Responder};
 use service::Response;
 use std::alloc::{AllocError, Global};
+use std::cell::Cell;
+use texts::JsonReader;
 
 /// Answers messages over HTTP: finds what a message asks for of which service, asks the answerer for it, and writes
-/// its response as text. It holds what answering needs beside the answerer, and is made once for many connections.
+/// its response as text. It holds what answering needs beside the answerer, among it memory for reading bodies, and is made
+/// once for many connections.
 #[derive(Drop)]
 pub struct HttpResponder {
     alloc: Global,
     routes: Routes,
+    /// What reads bodies, but while it is lent.
+    json: Cell<Option<Box<JsonReader>>>,
 }
 
 impl HttpResponder {
     /// A responder with the table of routes. The error is want of memory.
     pub fn new(alloc: Global) -> Result<HttpResponder, AllocError> {
         let routes = Routes::new(alloc)?;
-        Ok(HttpResponder { alloc, routes })
+        let json = Box::new(alloc, JsonReader::new(alloc))?;
+        Ok(HttpResponder {
+            alloc,
+            routes,
+            json: Cell::new(Some(json)),
+        })
+    }
+
+    /// Lends what reads bodies.
+    fn lend_json(&self) -> Result<Box<JsonReader>, AllocError> {
+        match self.json.take() {
+            Some(json) => Ok(json),
+            None => Ok(Box::new(self.alloc, JsonReader::new(self.alloc))?),
+        }
     }
 }
 
@@ -44,7 +62,10 @@ impl<A: Answerer> Responder<A> for HttpResponder {
         request: &HttpRequest<'_>,
         text: &mut Vec<u8>,
     ) -> Result<(), AllocError> {
-        match asked(self.alloc, &self.routes, state, request)? {
+        let mut json = self.lend_json()?;
+        let asking = asked(self.alloc, &mut json, &self.routes, state, request);
+        self.json.set(Some(json));
+        match asking? {
             Asking::Refuses(number, allow) => {
                 let refusal = Response::Reply(Reply::Refused(number));
                 write_response(self.alloc, text, request, &refusal, allow)

@@ -15,6 +15,8 @@ mod json_layouts;
 #[cfg(test)]
 mod json_requests;
 #[cfg(test)]
+mod kept_readers;
+#[cfg(test)]
 mod longest_stays;
 #[cfg(test)]
 mod replayed_events;

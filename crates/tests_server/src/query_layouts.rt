@@ -8,6 +8,7 @@ use service::Request;
 use std::alloc::Global;
 use std::process::Abort;
 use std::sync::Wait;
+use texts::JsonReader;
 
 /// Asks for byte 64 of the body's front, and answers a failure where it is 128 or more.
 const BY_BYTE_64: &[u8] =
@@ -43,7 +44,8 @@ fn queries_stand_behind_a_question_mark(rt: HostRuntime) {
 
 /// The number of the layout for which a program is to be installed.
 fn layout(rt: &impl Abort, alloc: Global, query: &[u8]) -> Result<u64, RefusalNumber> {
-    let asked = body_asks(alloc, Route::Program, None, query, BY_BYTE_64);
+    let mut json = JsonReader::new(alloc);
+    let asked = body_asks(alloc, &mut json, Route::Program, None, query, BY_BYTE_64);
     match asked.expect(rt, "ample memory")? {
         Request::Install { program, layout } => {
             same_at(rt, program.as_slice(), BY_BYTE_64, query);
@@ -128,8 +130,10 @@ fn other_layouts_are_bad_values(rt: HostRuntime) {
 
 /// A route is asked with each of these queries, and refuses none.
 fn ignores(rt: &impl Abort, alloc: Global, route: Route, number: Option<&str>, body: &[u8]) {
+    let mut json = JsonReader::new(alloc);
     for query in [b"layout=2".as_slice(), b"layout=3", b"layout=1&layout=2"] {
-        let asked = body_asks(alloc, route, number, query, body).expect(rt, "ample memory");
+        let asked = body_asks(alloc, &mut json, route, number, query, body);
+        let asked = asked.expect(rt, "ample memory");
         is_true_at(rt, asked.is_ok(), (route, query));
     }
 }

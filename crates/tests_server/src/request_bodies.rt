@@ -7,6 +7,7 @@ use refusals::RefusalNumber;
 use service::Request;
 use std::alloc::Global;
 use std::process::Abort;
+use texts::JsonReader;
 
 /// What is asked for where there is no query, with ample memory.
 fn asked(
@@ -16,7 +17,8 @@ fn asked(
     number: Option<&str>,
     body: &[u8],
 ) -> Result<Request, RefusalNumber> {
-    body_asks(alloc, route, number, b"", body).expect(rt, "ample memory")
+    let mut json = JsonReader::new(alloc);
+    body_asks(alloc, &mut json, route, number, b"", body).expect(rt, "ample memory")
 }
 
 /// Whether a request is the one of a route that needs no body; that for a page is of page 7.

@@ -1,1 +1,2 @@
 pub mod JsonTexts
+pub mod OwnedValues
