@@ -16,8 +16,11 @@ use std::io::ErrorKind;
 use std::net::{TcpListener, TcpStream};
 use std::os::fd::AsRawFd;
 
-/// For how many milliseconds a worker above its share lets others accept first.
-const TO_GIVE_WAY: u64 = 2;
+/// For how many milliseconds a worker above its share lets others accept first, and how often in a row at most: once more
+/// where a further connection comes meanwhile.
+const TO_GIVE_WAY: u64 = 10;
+
+const MOST_TIMES: u32 = 4;
 
 /// For how many milliseconds a worker waits where as many connections are open as may be, and none of its own is idle.
 const TO_FIND_ROOM: u64 = 20;
@@ -48,8 +51,11 @@ pub(crate) struct Accepting {
     pub(crate) failure: Option<ListenerFailed>,
     /// Whether a connection may wait at the listener.
     is_waiting: bool,
-    /// Whether it has let others accept the connection that waits.
+    /// Whether it lets others accept the connection that waits, until which moment, and how often in a row it did. Where it
+    /// isn't above its share any more, it accepts at once.
     has_given_way: bool,
+    gives_way_until: u64,
+    gave_way: u32,
     /// How often in a row it has looked in vain whether its own connection is the one that has been idle for longest.
     tries: u32,
     /// Before this moment it doesn't accept, in milliseconds of the system's clock.
@@ -66,15 +72,21 @@ impl Accepting {
             failure: None,
             is_waiting: true,
             has_given_way: false,
+            gives_way_until: 0,
+            gave_way: 0,
             tries: 0,
             not_before: 0,
         }
     }
 
-    /// Says that connections came to the listener.
+    /// Says that connections came to the listener. Others are to accept these first too, as far as the worker is above its
+    /// share: those who woke for a connection a moment ago may sleep again.
     pub(crate) fn wake(&mut self) {
         self.is_waiting = true;
         self.tries = 0;
+        if self.gave_way < MOST_TIMES {
+            self.has_given_way = false;
+        }
     }
 
     /// Whether it accepts further connections.
@@ -89,11 +101,15 @@ impl Accepting {
 
     /// For how many milliseconds the worker may wait until it accepts.
     pub(crate) fn wait(&self, limits: Limits, now: u64) -> u64 {
-        if self.goes_on(limits) {
-            self.not_before.saturating_sub(now).min(LONGEST_WAIT)
-        } else {
-            LONGEST_WAIT
+        if !self.goes_on(limits) {
+            return LONGEST_WAIT;
         }
+        let until = if self.has_given_way {
+            self.gives_way_until.max(self.not_before)
+        } else {
+            self.not_before
+        };
+        until.saturating_sub(now).min(LONGEST_WAIT)
     }
 
     /// Waits for so many milliseconds before it accepts again.
@@ -107,12 +123,18 @@ impl Accepting {
         if !self.goes_on(limits) || now < self.not_before {
             return false;
         }
-        if !self.has_given_way && shared.is_above_share(own) {
-            self.has_given_way = true;
-            self.pause(now, TO_GIVE_WAY);
-            return false;
+        if shared.is_above_share(own) {
+            if !self.has_given_way {
+                self.has_given_way = true;
+                self.gives_way_until = now.saturating_add(TO_GIVE_WAY);
+                self.gave_way = self.gave_way.saturating_add(1);
+            }
+            if now < self.gives_way_until {
+                return false;
+            }
         }
         self.has_given_way = false;
+        self.gave_way = 0;
         true
     }
 
@@ -217,12 +239,14 @@ fn find_room(
     }
 }
 
-/// Closes the connection whose place is taken, if one is.
-fn take_place(hub: &mut Hub, room: Room)
+/// Takes a place for a connection that was accepted: a free one, or that of a connection which is closed for it.
+fn take_place(hub: &mut Hub, shared: &SharedCounts, room: Room)
     ensures { HasNoOther hub.old hub.new }
 {
-    if let Room::Of(key) = room {
-        make_room(hub, key);
+    match room {
+        Room::Free => shared.come(),
+        Room::Of(key) => make_room(hub, key),
+        Room::None => {}
     }
 }
 
@@ -239,7 +263,7 @@ fn refuse(
     ensures { HasNoOther hub.old hub.new }
 {
     if let Room::Free = room {
-        shared.leave();
+        shared.give_back();
     }
     if !accepting.fail(error, now) {
         return;
@@ -277,7 +301,7 @@ pub(crate) fn accept_next(
     match listener.accept() {
         Ok((stream, _)) => {
             accepting.number = shared.draw();
-            take_place(hub, room);
+            take_place(hub, shared, room);
             admit(alloc, poll, shared, hub, stream, now);
         }
         Err(error) => refuse(hub, shared, accepting, room, &error, now),

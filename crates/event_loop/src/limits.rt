@@ -23,11 +23,13 @@ pub(crate) fn is_left(connections: u64, number: u64) -> bool
     connections == 0 || number < connections
 }
 
-/// What the workers of one listener share: how many numbers of connections were drawn, how many connections are open,
-/// how many workers began and how many are at work, and which of them has the connection that has been idle for longest.
+/// What the workers of one listener share: how many numbers of connections were drawn, how many places are taken by
+/// connections that are open or about to be accepted, how many are open, how many workers began and how many are at work,
+/// and which of them has the connection that has been idle for longest.
 #[derive(Drop)]
 pub struct SharedCounts {
     numbers: AtomicU64,
+    places: AtomicU64,
     open: AtomicU64,
     begun: AtomicU64,
     workers: AtomicU64,
@@ -40,6 +42,7 @@ impl SharedCounts {
     pub fn new(workers: u64) -> Self {
         SharedCounts {
             numbers: AtomicU64::new(0),
+            places: AtomicU64::new(0),
             open: AtomicU64::new(0),
             begun: AtomicU64::new(0),
             workers: AtomicU64::new(0),
@@ -68,21 +71,33 @@ impl SharedCounts {
         self.workers.fetch_sub(1, Ordering::SeqCst);
     }
 
-    /// Takes the place of one more open connection, if one is free of so many.
+    /// Takes a place for one more connection, if one is free of so many.
     pub(crate) fn enter(&self, most: u64) -> bool {
-        if self.open.fetch_add(1, Ordering::SeqCst) < most {
+        if self.places.fetch_add(1, Ordering::SeqCst) < most {
             return true;
         }
-        self.leave();
+        self.give_back();
         false
+    }
+
+    /// Gives back a place to which no connection came.
+    pub(crate) fn give_back(&self) {
+        self.places.fetch_sub(1, Ordering::SeqCst);
+    }
+
+    /// Says that a connection came to a place that was taken.
+    pub(crate) fn come(&self) {
+        self.open.fetch_add(1, Ordering::SeqCst);
     }
 
     /// Gives back the place of an open connection.
     pub(crate) fn leave(&self) {
         self.open.fetch_sub(1, Ordering::SeqCst);
+        self.give_back();
     }
 
-    /// Whether a worker with so many open connections has more than its share of all that are open.
+    /// Whether a worker with so many open connections has more than its share of all that are open. Places that others took
+    /// to look whether a connection waits don't count: all are awake when one comes.
     pub(crate) fn is_above_share(&self, own: u64) -> bool {
         let workers = self.workers.load(Ordering::SeqCst);
         own.saturating_mul(workers) > self.open.load(Ordering::SeqCst)
