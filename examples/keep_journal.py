@@ -8,7 +8,8 @@ line of JSON in FILE. With SECONDS this takes a turn after so many seconds, for 
 
 In a turn it appends the entries that are not in FILE yet, and rolls the journal up to the last one that is durably
 written: the sidecar drops those entries, and changes nothing else. So no entry is lost, whatever is asked meanwhile,
-and breaker and tickets go on. A turn of a second keeps the journal of 10,000 calls a second below half.
+and breaker and tickets go on. The next entries are read while the disk writes. A turn of a second keeps the journal of
+10,000 calls a second below three quarters.
 
 A turn that fails rolls no further than FILE goes, and the next one goes on from there: so it is where the sidecar
 can't be reached, and where FILE can't be written, as on a full disk. A sidecar that was started anew numbers its
@@ -21,11 +22,15 @@ import json
 import os
 import sys
 import time
+from concurrent.futures import ThreadPoolExecutor, wait
 
 SECONDS_TO_ANSWER = 5
 ENTRIES_OF_A_PAGE = 100
-# So many entries are written at a time: a disk may take longer to write a page durably than the sidecar to answer it.
-ENTRIES_OF_A_BATCH = 5_000
+# At least so many entries are written at a time, where there are so many: a disk may take longer to write a page durably
+# than the sidecar to answer it.
+ENTRIES_OF_A_BATCH = 10_000
+# After so many seconds it reads on that has read all there was, while a batch is written.
+SECONDS_TO_LOOK_AGAIN = 0.05
 # No entry is as long as this many bytes.
 LONGEST_ENTRY = 4096
 
@@ -91,6 +96,8 @@ class File:
 
     def __enter__(self):
         self.file = os.open(self.name, os.O_RDWR | os.O_CREAT | os.O_APPEND, 0o644)
+        if self.size() == 0:
+            keep_name(self.name)
         self.last = self.last_whole()
         return self
 
@@ -118,6 +125,8 @@ class File:
 
     def append(self, entries):
         """Appends entries durably, or leaves the file as it was."""
+        if not entries:
+            return
         size = self.size()
         text = memoryview("".join(json.dumps(entry) + "\n" for entry in entries).encode())
         try:
@@ -127,8 +136,6 @@ class File:
         except OSError:
             os.ftruncate(self.file, size)
             raise
-        if size == 0:
-            keep_name(self.name)
         self.kept += len(entries)
         self.last = entries[-1]
 
@@ -168,33 +175,41 @@ def number_to_keep(journal, last):
     return last["number"] + 1
 
 
-def batch(journal, number):
-    """Returns the entries that are held from a number on, up to a batch, and whether there may be more."""
-    entries = []
-    while len(entries) < ENTRIES_OF_A_BATCH:
+def batch(journal, number, writing):
+    """Returns the entries that are held from a number on, and whether there may be many more: a batch of them, and all
+    that come until those before them are written."""
+    entries, is_full = [], True
+    while not writing.done() or is_full and len(entries) < ENTRIES_OF_A_BATCH:
         page = journal.page(number)
         entries += page
-        if len(page) < ENTRIES_OF_A_PAGE:
-            return entries, False
-        number = page[-1]["number"] + 1
-    return entries, True
+        is_full = len(page) == ENTRIES_OF_A_PAGE
+        if page:
+            number = page[-1]["number"] + 1
+        if not is_full:
+            wait([writing], SECONDS_TO_LOOK_AGAIN)
+    return entries, len(entries) >= ENTRIES_OF_A_BATCH
 
 
-def take_turn(journal, file):
-    """Keeps what is new, a batch at a time, and returns how many entries the sidecar dropped."""
-    number = number_to_keep(journal, file.last)
-    dropped, has_more = 0, True
-    while has_more:
-        entries, has_more = batch(journal, number)
-        if entries:
-            missing = entries[-1]["number"] + 1 - number - len(entries)
-            if file.last and missing > 0:
-                say(f"{missing} entries from number {number} on were dropped before they were kept")
-            file.append(entries)
-            number = entries[-1]["number"] + 1
-        # Up to the last one that was written, in this turn or in an earlier one.
-        dropped += journal.roll(number - 1)
-    return dropped
+def take_turn(journal, file, goes_on):
+    """Keeps what is new, a batch at a time, and returns how many entries the sidecar dropped. A batch is read while the
+    one before it is written. Where it goes on, it also keeps what comes meanwhile, as long as that fills batches."""
+    number, end = number_to_keep(journal, file.last), journal.last_number()
+    dropped, last, has_more = 0, file.last, True
+    with ThreadPoolExecutor(1) as disk:
+        writing = disk.submit(file.append, [])
+        while has_more and (goes_on or number <= end):
+            entries, has_more = batch(journal, number, writing)
+            writing.result()
+            # Up to the last one that was written, in this turn or in an earlier one.
+            dropped += journal.roll(number - 1)
+            if entries:
+                missing = entries[-1]["number"] + 1 - number - len(entries)
+                if last and missing > 0:
+                    say(f"{missing} entries from number {number} on were dropped before they were kept")
+                writing, last = disk.submit(file.append, entries), entries[-1]
+                number = last["number"] + 1
+        writing.result()
+    return dropped + journal.roll(number - 1)
 
 
 def main():
@@ -203,7 +218,7 @@ def main():
     while True:
         try:
             with Journal(address, service) as journal, File(name) as file:
-                dropped = take_turn(journal, file)
+                dropped = take_turn(journal, file, bool(seconds))
             if failure or not seconds:
                 say(f"kept {file.kept} entries, rolled {dropped}")
             failure = None
