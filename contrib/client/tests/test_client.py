@@ -520,7 +520,7 @@ class WhereConnectionsBreak(Case):
             self.assertLess(time.monotonic() - begun, 3)
 
     def test_a_sidecar_that_hangs_leaves_no_ticket_open(self) -> None:
-        breaker = self.breaker_at(self.server.address, seconds=0.1)
+        breaker = self.breaker_at(self.server.address, seconds=0.25)
         with breaker.call():
             pass
         self.server.signal(signal.SIGSTOP)
@@ -540,14 +540,19 @@ class WhereConnectionsBreak(Case):
         self.assertEqual((self.server.state("open"), len(released)), ([0], acquired - 1))
 
     def test_a_report_to_a_sidecar_that_hangs_arrives_once(self) -> None:
-        breaker = self.breaker_at(self.server.address, seconds=0.2)
+        breaker = self.breaker_at(self.server.address, seconds=0.5)
         with breaker.call() as call:
             self.server.signal(signal.SIGSTOP)
             call.outcome(status=500)
         self.assertEqual(call.result, "not reported: no answer: timed out")
         self.server.signal(signal.SIGCONT)
         wait_for(lambda: breaker.sidecar.settle(now=True) == 0, "the report is settled")
-        self.assertEqual(self.server.state("open", "failed", "entries"), [0, 1, 2])
+        # It was sent more than once. Where two workers judge it at the same time, one of them records it, and the other's
+        # refusal is an entry too.
+        reports = self.replies("report")
+        self.assertEqual([reply["fate"] for reply in reports if "fate" in reply], ["recorded"])
+        self.assertLessEqual({reply.get("error") for reply in reports if "fate" not in reply}, {34})
+        self.assertEqual(self.server.state("open", "total", "failed"), [0, 1, 1])
 
     def test_tickets_of_an_earlier_run_are_dropped(self) -> None:
         old = [self.breaker.sidecar.acquire() for _ in range(3)]

@@ -1,10 +1,14 @@
-"""Keeps journals: asks for pages, writes them durably, and rolls up to the last entry that is written."""
+"""Keeps journals: asks for pages, writes them durably, and rolls up to the last entry that is written.
 
+A disk may take long to write durably. So the next entries are read while it writes."""
+
+import contextlib
 import fcntl
 import json
 import os
 import time
 from collections.abc import Callable
+from concurrent.futures import Executor, Future, ThreadPoolExecutor
 from typing import Any
 
 from delvoumi.connection import Connection
@@ -16,7 +20,7 @@ from .tickets import OpenTickets, open_tickets
 SECONDS_TO_ANSWER = 5.0
 ENTRIES_OF_A_PAGE = 100
 # So many entries are written at a time: a disk may take longer to write durably than the sidecar to answer.
-ENTRIES_OF_A_BATCH = 5_000
+ENTRIES_OF_A_BATCH = 10_000
 # Nor are entries read for longer before they are written.
 SECONDS_OF_A_BATCH = 0.5
 
@@ -74,9 +78,11 @@ class ServiceKeeper:
         self._journal = Journal(folder, service, most_bytes)
         self._release_after = release_after
         self._tickets = OpenTickets() if release_after is None else open_tickets(folder, service)
-        # The last entry that was kept of this run of the sidecar.
+        # The last entry that was kept of this run of the sidecar, and the number of the next one to read.
         self._last = self._journal.last
         self._next = 1
+        # The batch that is being written.
+        self._writing: tuple[Future[None], list[Entry]] | None = None
         self.kept = self.rolled = 0
         if self._journal.repaired:
             say(f"{service}: the last line was written in part: its {self._journal.repaired} bytes are taken off")
@@ -89,22 +95,42 @@ class ServiceKeeper:
             self._tickets = OpenTickets()
         self._next = 1 if self._last is None else self._last["number"] + 1
 
-    def keep_batch(self, service: Service) -> bool:
-        """Keeps a batch of entries, and rolls up to the last one. Returns whether there may be more."""
+    def keep_batch(self, service: Service, disk: Executor) -> bool:
+        """Reads a batch of entries, while the one before it is written, and has the disk write it. Returns whether there
+        may be more."""
         entries, has_more = service.batch(self._next)
+        if self._writing is not None:
+            self.roll(service)
         if entries:
             missing = entries[0]["number"] - self._next
             if missing > 0 and self._journal.last is not None:
                 self._say(f"{self.service}: {missing} entries from {self._next} on were dropped before they were kept")
-            self._journal.append(entries)
-            self._last = entries[-1]
+            self._writing = disk.submit(self._journal.append, entries), entries
             self._next = entries[-1]["number"] + 1
+        return has_more
+
+    def wait_for_disk(self) -> None:
+        """Waits until the batch that is being written is durable, and notes what of it is kept."""
+        if self._writing is None:
+            return
+        written, entries = self._writing
+        self._writing = None
+        if written.exception() is not None:
+            # The entries of one day may be written, and those of the next one not.
+            places = [place for place, entry in enumerate(entries, 1) if entry is self._journal.last]
+            entries = entries[: places[0] if places else 0]
+        if entries:
+            self._last = entries[-1]
             self.kept += len(entries)
             if self._release_after is not None:
                 self._tickets.note(entries)
-        # Up to the last one that was written, in this turn or in an earlier one.
-        self.rolled += service.ask("POST", "roll", {"to": self._next - 1})["entries"]
-        return has_more
+        written.result()
+
+    def roll(self, service: Service) -> None:
+        """Rolls up to the last entry that was written, in this turn or in an earlier one."""
+        self.wait_for_disk()
+        number = 0 if self._last is None else self._last["number"]
+        self.rolled += service.ask("POST", "roll", {"to": number})["entries"]
 
     def release_old(self, service: Service) -> None:
         """Releases the tickets that are open for too long, and says which."""
@@ -143,19 +169,25 @@ class Keeper:
     def turn(self) -> str:
         """Keeps all that is new, a batch of each service at a time, and returns how much that was."""
         connection = Connection(self._address, SECONDS_TO_ANSWER, reopened=False)
-        try:
-            connection.open()
-            services = {keeper: Service(connection, keeper.service) for keeper in self._keepers}
-            for keeper, service in services.items():
-                keeper.kept = keeper.rolled = 0
-                keeper.begin_turn(service)
-            left = list(services)
-            while left:
-                left = [keeper for keeper in left if keeper.keep_batch(services[keeper])]
-            for keeper, service in services.items():
-                keeper.release_old(service)
-        finally:
-            connection.close()
+        services = {keeper: Service(connection, keeper.service) for keeper in self._keepers}
+        with ThreadPoolExecutor(max_workers=1) as disk:
+            try:
+                connection.open()
+                for keeper, service in services.items():
+                    keeper.kept = keeper.rolled = 0
+                    keeper.begin_turn(service)
+                left = list(services)
+                while left:
+                    left = [keeper for keeper in left if keeper.keep_batch(services[keeper], disk)]
+                for keeper, service in services.items():
+                    keeper.roll(service)
+                    keeper.release_old(service)
+            finally:
+                connection.close()
+                # Where the turn failed, what the disk still writes is kept too.
+                for keeper in services:
+                    with contextlib.suppress(OSError):
+                        keeper.wait_for_disk()
         told = (f"{keeper.service}: kept {keeper.kept} entries, rolled {keeper.rolled}" for keeper in self._keepers)
         return "\n".join(told)
 

@@ -1,6 +1,7 @@
 """Shows against a server that each entry is kept once, whatever happens meanwhile."""
 
 import contextlib
+import errno
 import gzip
 import io
 import json
@@ -13,6 +14,8 @@ import tempfile
 import threading
 import time
 import unittest
+import unittest.mock
+from collections.abc import Sequence
 from typing import Any
 
 import delvoumi
@@ -156,6 +159,55 @@ class EntriesAreKept(WithServer):
         self.assertRegex(lines[0], r"^this turn failed: \[Errno ")
         self.assertEqual((self.numbers(), len(self.server.journal())), ([], 5))
         self.assertEqual(self.keep("pay")[0], 0)
+        self.assertEqual((self.numbers(), self.server.journal()), ([1, 2, 3, 4, 5], []))
+
+    def test_what_the_disk_writes_while_a_turn_fails_is_kept_once(self) -> None:
+        for _ in range(250):
+            self.server.ask("POST", "reset")
+        relay = Relay(self.server)
+        self.addCleanup(relay.close)
+        keeper = Keeper(self.folder, relay.address, ["pay"], 1_000_000, None, print)
+        self.addCleanup(keeper.close)
+        append = Journal.append
+
+        def slow(journal: Journal, entries: Sequence[dict[str, Any]]) -> None:
+            time.sleep(0.2)
+            append(journal, entries)
+
+        # The second page is asked for while the first one is written, and its answer is lost.
+        relay.lose_answer_to = b"journal/101"
+        with (
+            unittest.mock.patch("delvoumi_journal.keeper.ENTRIES_OF_A_BATCH", 100),
+            unittest.mock.patch.object(Journal, "append", slow),
+            self.assertRaises(delvoumi.NoAnswer),
+        ):
+            keeper.turn()
+        self.assertEqual((self.numbers(), len(self.server.journal())), (list(range(1, 101)), 250))
+        self.assertEqual(keeper.turn(), "pay: kept 150 entries, rolled 250")
+        self.assertEqual((self.numbers(), self.server.journal()), (list(range(1, 251)), []))
+
+    def test_a_day_that_is_written_before_the_disk_is_full_is_kept_once(self) -> None:
+        for _ in range(5):
+            self.server.ask("POST", "reset")
+        keeper = Keeper(self.folder, self.server.address, ["pay"], 1_000_000, None, print)
+        self.addCleanup(keeper.close)
+        append_all, append_day = Journal.append, Journal._append
+
+        def of_two_days(journal: Journal, entries: Sequence[dict[str, Any]]) -> None:
+            for each in entries[3:]:
+                each["moment"] += DAY
+            append_all(journal, entries)
+
+        def full_behind_a_day(journal: Journal, entries: Sequence[dict[str, Any]]) -> None:
+            if entries[0]["number"] > 3:
+                raise OSError(errno.ENOSPC, os.strerror(errno.ENOSPC))
+            append_day(journal, entries)
+
+        with unittest.mock.patch.object(Journal, "append", of_two_days):
+            with unittest.mock.patch.object(Journal, "_append", full_behind_a_day), self.assertRaises(OSError):
+                keeper.turn()
+            self.assertEqual((self.numbers(), len(self.server.journal())), ([1, 2, 3], 5))
+        keeper.turn()
         self.assertEqual((self.numbers(), self.server.journal()), ([1, 2, 3, 4, 5], []))
 
     def test_a_keeper_goes_on_over_a_restart_of_the_sidecar(self) -> None:
