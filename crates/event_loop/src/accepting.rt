@@ -16,10 +16,10 @@ use std::io::ErrorKind;
 use std::net::{TcpListener, TcpStream};
 use std::os::fd::AsRawFd;
 
-/// For how many milliseconds a worker above its share lets others accept first, and how often in a row at most: once more
-/// where a further connection comes meanwhile.
+/// For how many milliseconds a worker above its share lets others accept first.
 const TO_GIVE_WAY: u64 = 10;
 
+/// How often in a row it does so at most: once more where a further connection comes meanwhile.
 const MOST_TIMES: u32 = 4;
 
 /// For how many milliseconds a worker waits where as many connections are open as may be, and none of its own is idle.
