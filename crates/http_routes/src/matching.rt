@@ -1,5 +1,5 @@
 //! Which route a target finds.
-ghost use Rattle.std.specs.Prelude.{◌≡◌, IfOk, IfSome, option_map};
+ghost use Rattle.std.specs.Prelude.{◌≡◌, [], IfOk, OnOk, IfSome, option_map};
 ghost use Rattle.http_routes.specs.Finding.{asked_by, finds};
 ghost use Rattle.http_routes.specs.Paths.{path_of};
 ghost use Rattle.http_routes.specs.Patterns.{IsRead};
@@ -22,11 +22,11 @@ pub struct Destination<'a> {
     pub number: Option<&'a str>,
 }
 
-/// The router of all routes. No two of them conflict, so the error is want of memory.
-fn all_routes(alloc: Global) -> Result<Router<Route>, InsertError>
-    ensures { IfOk result (λ router. router ≡ routes) }
+/// Adds all routes to a router that has none. No two of them conflict, so the error is want of memory.
+fn add_routes(router: &mut Router<Route>) -> Result<(), InsertError>
+    requires { router.old ≡ [] }
+    ensures { OnOk result (router.new ≡ routes) }
 {
-    let mut router = Router::new(alloc);
     router.insert("/v1/services/{service}/acquire", Route::Acquire)?;
     router.insert("/v1/services/{service}/cut", Route::Cut)?;
     router.insert("/v1/services/{service}/journal/{from}", Route::Journal)?;
@@ -37,6 +37,15 @@ fn all_routes(alloc: Global) -> Result<Router<Route>, InsertError>
     router.insert("/v1/services/{service}/roll", Route::Roll)?;
     router.insert("/v1/services/{service}/state", Route::State)?;
     router.insert("/v1/services/{service}/transition", Route::Transition)?;
+    Ok(())
+}
+
+/// The router of all routes. The error is want of memory.
+fn all_routes(alloc: Global) -> Result<Router<Route>, InsertError>
+    ensures { IfOk result (λ router. router ≡ routes) }
+{
+    let mut router = Router::new(alloc);
+    add_routes(&mut router)?;
     Ok(router)
 }
 

@@ -1,7 +1,7 @@
 use Rattle.std.proofs.Common.{◌∙◌}
 use Rattle.matchit.proofs.OnLiterals.{matchit_on_literals}
 use Rattle.http_routes.specs.Routing.{routes}
-use Rattle.http_routes.proofs.matching.all_routes.Goals as goal
+use Rattle.http_routes.proofs.matching.add_routes.Goals as goal
 
 pub returns : goal.returns
 unfolding matchit_on_literals routes
@@ -16,4 +16,4 @@ returns c =
     let i = c.in_ok-insert-8.ensures.1 in
     let j = c.in_ok-insert-9.ensures.1 in
     let k = c.in_ok-insert-10.ensures.1 in
-    k ∙ rw (j, i, h, g, f, e, d, b, a, c.new-router.ensures)
+    k ∙ rw (j, i, h, g, f, e, d, b, a, c.requires)
