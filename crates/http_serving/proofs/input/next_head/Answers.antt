@@ -15,3 +15,16 @@ returns-in-Err-clause-ended g c =
 pub returns-in-Err-clause-read : goal.returns-in-Err-clause-read
 returns-in-Err-clause-read g c =
     reads_more (g.R.Read.remaining c.args.reader.now.inner) (g.R.Read.remaining c.reading.reader.inner) (g.R.Read.remaining c.fill.new.reader.inner) c.args.unread.now.items c.reading.unread.items c.fill.new.unread.items c.reading.invariant.read c.in-Err.ensures.read
+
+pub returns-then-is_empty-clause-read : goal.returns-then-is_empty-clause-read
+returns-then-is_empty-clause-read g c = reads_more _ _ _ _ _ _ c.reading.invariant.read c.in-Ok.ensures.read
+
+pub returns-else-is_empty-clause-read : goal.returns-else-is_empty-clause-read
+returns-else-is_empty-clause-read g c = reads_more _ _ _ _ _ _ c.reading.invariant.read c.in-Ok.ensures.read
+
+pub reading-preserved : goal.reading-preserved
+reading-preserved g c = record {
+  read = reads_more _ _ _ _ _ _ c.reading.invariant.read c.in-Ok.ensures.read;
+  quiet = search rules;
+  ends = search rules;
+}
