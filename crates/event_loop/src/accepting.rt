@@ -1,7 +1,8 @@
 //! Accepting connections.
-ghost use Rattle.std.specs.Prelude.{◌≡◌, ◌⊎◌, IfSome};
+ghost use Rattle.std.specs.Prelude.{◌≡◌, ◌⊎◌, false, IfSome, IfOk, IfErr};
 ghost use Rattle.std.proofs.Props.{props};
 ghost use Rattle.event_loop.specs.Failures.{IsOfListener};
+ghost use Rattle.event_loop.specs.Numbers.{is_left};
 ghost use Rattle.event_loop.specs.Hubs.{HasNoOther, HasOneMore, IsFed};
 
 use crate::failure::ListenerFailed;
@@ -92,6 +93,20 @@ impl Accepting {
     /// Whether it accepts further connections.
     fn is_open(&self, limits: Limits) -> bool {
         self.failure.is_none() && is_left(limits.connections, self.number)
+    }
+
+    /// Where it accepts no further connection: the number of that which was not left, or why the listener fails.
+    pub(crate) fn ended(&self, limits: Limits) -> Option<Result<u64, ListenerFailed>>
+        ensures none_left { IfSome result (λ ended. IfOk ended (λ number. is_left limits.connections number ≡ false)) }
+        ensures failed { IfSome result (λ ended. IfErr ended IsOfListener) }
+    {
+        if let Some(failure) = self.failure {
+            return Some(Err(failure));
+        }
+        if is_left(limits.connections, self.number) {
+            return None;
+        }
+        Some(Ok(self.number))
     }
 
     /// Whether it accepts a connection that waits.

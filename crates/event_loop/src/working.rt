@@ -7,7 +7,7 @@ ghost use Rattle.event_loop.specs.Numbers.{is_left};
 use crate::accepting::{Accepting, accept_next};
 use crate::failure::ListenerFailed;
 use crate::hub::{Hub, serve_key, sweep};
-use crate::limits::{Limits, SharedCounts, is_left};
+use crate::limits::{Limits, SharedCounts};
 use http_serving::{Clock, Responder};
 use http_turns::Intake;
 use mio::unix::SourceFd;
@@ -113,11 +113,7 @@ pub fn work<R: Wait + Net + time::Clock, S, P: Responder<S>, C: Clock>(
     // A failure has the number of an error that lies in the listener.
     ensures failed { IfErr result IsOfListener }
 {
-    let Tools {
-        mut poll,
-        mut events,
-        mut intake,
-    } = Tools::wait_for(rt, alloc, listener);
+    let mut tools = Tools::wait_for(rt, alloc, listener);
     let mut hub = Hub::new(alloc);
     let number = shared.draw();
     let mut accepting = Accepting::new(shared.begin(rt), number);
@@ -126,23 +122,20 @@ pub fn work<R: Wait + Net + time::Clock, S, P: Responder<S>, C: Clock>(
     let mut now = moment_after(rt, 0);
     let mut swept = 0;
     'rounds: for _ in rt.forever() {
-        if hub.connections.is_empty() {
-            if let Some(failure) = accepting.failure {
-                shared.end();
-                return Err(failure);
-            }
-            if !is_left(limits.connections, accepting.number) {
-                shared.end();
-                return Ok(accepting.number);
-            }
+        if hub.connections.is_empty()
+            && let Some(ended) = accepting.ended(limits)
+        {
+            shared.end();
+            return ended;
         }
         let wait = if again.is_empty() {
             accepting.wait(limits, now)
         } else {
             0
         };
-        if poll
-            .poll(&mut events, Some(Duration::from_millis(wait)))
+        if tools
+            .poll
+            .poll(&mut tools.events, Some(Duration::from_millis(wait)))
             .is_err()
         {
             thread::sleep(rt, Duration::from_millis(1));
@@ -150,7 +143,7 @@ pub fn work<R: Wait + Net + time::Clock, S, P: Responder<S>, C: Clock>(
         now = moment_after(rt, now);
         mem::swap(&mut keys, &mut again);
         again.clear();
-        'events: for event in &events {
+        'events: for event in &tools.events {
             let Token(key) = event.token();
             if event.token() == LISTENER {
                 accepting.wake();
@@ -160,7 +153,7 @@ pub fn work<R: Wait + Net + time::Clock, S, P: Responder<S>, C: Clock>(
                     shared,
                     key,
                     &mut again,
-                    &mut intake,
+                    &mut tools.intake,
                     responder,
                     state,
                     clock,
@@ -174,7 +167,7 @@ pub fn work<R: Wait + Net + time::Clock, S, P: Responder<S>, C: Clock>(
                 shared,
                 *key,
                 &mut again,
-                &mut intake,
+                &mut tools.intake,
                 responder,
                 state,
                 clock,
@@ -183,7 +176,7 @@ pub fn work<R: Wait + Net + time::Clock, S, P: Responder<S>, C: Clock>(
         }
         accept_next(
             alloc,
-            &poll,
+            &tools.poll,
             listener,
             limits,
             shared,
