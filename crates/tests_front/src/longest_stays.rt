@@ -137,110 +137,109 @@ fn are_answered(rt: &impl Abort, alloc: Global, rows: &[Row]) {
     }
 }
 
+/// Each event that is entered: how it is answered before the longest stay is over, and from then on.
+const EVENTS: &[Row] = &[
+    (
+        "\"acquire\"",
+        (THIRD, Shown { open: 2, ..GOES_ON }),
+        (
+            NOT_PERMITTED,
+            Shown {
+                not_permitted: 1,
+                ..ENDED
+            },
+        ),
+    ),
+    (
+        "\"report\",\"ticket\":1,\"outcome\":{\"status\":200}",
+        (
+            RECORDED,
+            Shown {
+                total: 1,
+                open: 0,
+                ..GOES_ON
+            },
+        ),
+        (STALE, Shown { open: 0, ..ENDED }),
+    ),
+    (
+        "\"release\",\"ticket\":1",
+        (RELEASED, Shown { open: 0, ..GOES_ON }),
+        (RELEASED_IN_OPEN, Shown { open: 0, ..ENDED }),
+    ),
+    ("\"release\",\"ticket\":2", (SPENT, GOES_ON), (SPENT, ENDED)),
+    (
+        "\"release\",\"ticket\":9",
+        (NO_TICKET, GOES_ON),
+        (NO_TICKET, ENDED),
+    ),
+    (
+        "\"install\",\"program\":\"b700000002000000 9500000000000000\"",
+        (
+            INSTALLED,
+            Shown {
+                version: 2,
+                budget: 2,
+                ..GOES_ON
+            },
+        ),
+        (
+            INSTALLED,
+            Shown {
+                version: 2,
+                budget: 2,
+                ..ENDED
+            },
+        ),
+    ),
+    (
+        "\"transition\",\"state\":\"HALF_OPEN\"",
+        (
+            "200 {\"period\":3,\"state\":\"HALF_OPEN\"}\n",
+            Shown {
+                period: 3,
+                ..GOES_ON
+            },
+        ),
+        (
+            "200 {\"period\":4,\"state\":\"HALF_OPEN\"}\n",
+            Shown {
+                period: 4,
+                ..GOES_ON
+            },
+        ),
+    ),
+    (
+        "\"transition\",\"state\":\"OPEN\"",
+        ("200 {\"period\":3,\"state\":\"OPEN\"}\n", ENDED),
+        (
+            "200 {\"period\":4,\"state\":\"OPEN\"}\n",
+            Shown { period: 4, ..ENDED },
+        ),
+    ),
+    (
+        "\"reset\"",
+        (
+            "200 {\"period\":3,\"state\":\"CLOSED\"}\n",
+            Shown {
+                state: "CLOSED",
+                ..ENDED
+            },
+        ),
+        (
+            "200 {\"period\":4,\"state\":\"CLOSED\"}\n",
+            Shown {
+                state: "CLOSED",
+                period: 4,
+                ..ENDED
+            },
+        ),
+    ),
+];
+
 #[test]
 fn an_event_finds_the_longest_stay_over(rt: HostRuntime) {
-    are_answered(
-        &rt,
-        rt.alloc(),
-        &[
-            (
-                "\"acquire\"",
-                (THIRD, Shown { open: 2, ..GOES_ON }),
-                (
-                    NOT_PERMITTED,
-                    Shown {
-                        not_permitted: 1,
-                        ..ENDED
-                    },
-                ),
-            ),
-            (
-                "\"report\",\"ticket\":1,\"outcome\":{\"status\":200}",
-                (
-                    RECORDED,
-                    Shown {
-                        total: 1,
-                        open: 0,
-                        ..GOES_ON
-                    },
-                ),
-                (STALE, Shown { open: 0, ..ENDED }),
-            ),
-            (
-                "\"release\",\"ticket\":1",
-                (RELEASED, Shown { open: 0, ..GOES_ON }),
-                (RELEASED_IN_OPEN, Shown { open: 0, ..ENDED }),
-            ),
-            ("\"release\",\"ticket\":2", (SPENT, GOES_ON), (SPENT, ENDED)),
-            (
-                "\"release\",\"ticket\":9",
-                (NO_TICKET, GOES_ON),
-                (NO_TICKET, ENDED),
-            ),
-            (
-                "\"install\",\"program\":\"b700000002000000 9500000000000000\"",
-                (
-                    INSTALLED,
-                    Shown {
-                        version: 2,
-                        budget: 2,
-                        ..GOES_ON
-                    },
-                ),
-                (
-                    INSTALLED,
-                    Shown {
-                        version: 2,
-                        budget: 2,
-                        ..ENDED
-                    },
-                ),
-            ),
-            (
-                "\"transition\",\"state\":\"HALF_OPEN\"",
-                (
-                    "200 {\"period\":3,\"state\":\"HALF_OPEN\"}\n",
-                    Shown {
-                        period: 3,
-                        ..GOES_ON
-                    },
-                ),
-                (
-                    "200 {\"period\":4,\"state\":\"HALF_OPEN\"}\n",
-                    Shown {
-                        period: 4,
-                        ..GOES_ON
-                    },
-                ),
-            ),
-            (
-                "\"transition\",\"state\":\"OPEN\"",
-                ("200 {\"period\":3,\"state\":\"OPEN\"}\n", ENDED),
-                (
-                    "200 {\"period\":4,\"state\":\"OPEN\"}\n",
-                    Shown { period: 4, ..ENDED },
-                ),
-            ),
-            (
-                "\"reset\"",
-                (
-                    "200 {\"period\":3,\"state\":\"CLOSED\"}\n",
-                    Shown {
-                        state: "CLOSED",
-                        ..ENDED
-                    },
-                ),
-                (
-                    "200 {\"period\":4,\"state\":\"CLOSED\"}\n",
-                    Shown {
-                        state: "CLOSED",
-                        period: 4,
-                        ..ENDED
-                    },
-                ),
-            ),
-        ],
-    );
+    are_answered(&rt, rt.alloc(), EVENTS);
 }
 
 /// What makes no entry: a report whose look is refused, a program that is refused, a cut that is refused, and a roll.
