@@ -8,7 +8,7 @@ use Rattle.bpf_profile.specs.Meaning.{Judges}
 use Rattle.bpf_profile.specs.Outcomes.{Outcome}
 use Rattle.bpf_profile.specs.Safety.{IsSafe}
 use Rattle.bpf_profile.specs.Spelling.{Fault}
-use Rattle.helpers.specs.Json.{outcome_of}
+use Rattle.texts.specs.Outcomes.{outcome_of}
 use Rattle.texts.specs.JsonText.{json_of}
 use Rattle.bpf_profile.specs.Programs.{VerifiedProgram}
 use Rattle.verifier.specs.Verifying.{IsVerification, IsRefused}

@@ -1,7 +1,7 @@
 //! Verifying programs and judging outcomes for `verify` and `judge`.
 ghost use Rattle.std.specs.Prelude.{◌≡◌, Some, None, IfOk, IfErr};
 ghost use Rattle.counted_io.specs.Counting.{AtMostOneMore};
-ghost use Rattle.helpers.specs.Json.{outcome_of};
+ghost use Rattle.texts.specs.Outcomes.{outcome_of};
 ghost use Rattle.serde_json.specs.View.{view};
 ghost use Rattle.classifier_commands.specs.Answers.{IsAdmitted, IsAccepted, IsTextRefused, IsOutcomeRead, IsOutcomeRefused, IsVerifyAnswer, IsJudgement, IsReadJudgement, IsJudgeAnswer};
 ghost use Rattle.classifier_commands.specs.Causes.{IsReadCause};
@@ -18,7 +18,7 @@ use refusals::RefusalNumber;
 use serde_json::Value;
 use std::alloc::{AllocError, Global};
 use std::io::Read;
-use texts::json;
+use texts::{json, read_outcome};
 use verifier::Verified;
 
 /// The program of hexadecimal text, verified on records of a layout.
@@ -48,7 +48,7 @@ fn outcome_in(value: &Value) -> Result<Record, CommandRefusal>
     ensures ok { IfOk result (λ outcome. outcome_of (view value.now) ≡ Some outcome) }
     ensures err { IfErr result (λ fault. (fault.number ≡ RefusalNumber.BadValue) × (outcome_of (view value.now) ≡ None)) }
 {
-    match Record::from_json(value) {
+    match read_outcome(value) {
         Ok(outcome) => Ok(outcome),
         Err(error) => Err(CommandRefusal::from(error.number)),
     }

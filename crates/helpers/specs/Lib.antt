@@ -3,4 +3,3 @@ pub mod TagFields
 pub mod RecordFields
 pub mod Layout
 pub mod Names
-pub mod Json

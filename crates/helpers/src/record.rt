@@ -54,7 +54,7 @@ impl Model for Record {
 
 impl Record {
     /// The record of these parts.
-    pub(crate) fn new(context: [u8; RECORD_SIZE], facts: [u64; FACT_COUNT], tag: Tag) -> Record
+    pub fn new(context: [u8; RECORD_SIZE], facts: [u64; FACT_COUNT], tag: Tag) -> Record
         ensures { result ≡ record { context = context; facts = facts; tag = tag } }
     {
         show_bytes(&context);

@@ -5,7 +5,7 @@ use Rattle.std.specs.Str.{bytes_eq}
 use Rattle.serde_json.specs.Data.{Data}
 use Rattle.refusals.specs.declared.RefusalNumber.{RefusalNumber}
 use Rattle.refusals.specs.declared.RefusalNumber.TheVariants as refusal
-use Rattle.helpers.specs.Json.{◌>>=◌}
+use Rattle.texts.specs.Outcomes.{◌>>=◌}
 use Rattle.requests.specs.Layouts.{layout_of}
 use Rattle.requests.specs.Programs.{program_of}
 use Rattle.requests.specs.Reports.{report_of}

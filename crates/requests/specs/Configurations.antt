@@ -4,7 +4,7 @@ use Rattle.std.specs.Str.{bytes_eq}
 use Rattle.std.specs.Result.{result_ok}
 use Rattle.serde_json.specs.Data.{Data, Members, no_members, member}
 use Rattle.serde_json.specs.Find.{get, as_str, as_object}
-use Rattle.helpers.specs.Json.{◌>>=◌, if_there}
+use Rattle.texts.specs.Outcomes.{◌>>=◌, if_there}
 use Rattle.service_profile.specs.declared.configuration.ConfigParts.{ConfigParts}
 use Rattle.service_profile.specs.declared.configuration.SlidingWindowType.{SlidingWindowType}
 use Rattle.service_profile.specs.declared.configuration.SlidingWindowType.TheVariants as window

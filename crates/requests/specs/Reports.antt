@@ -3,7 +3,7 @@ use Rattle.std.specs.Prelude.{ℕ, List, Option, Some, option_and_then, codes}
 use Rattle.serde_json.specs.Data.{Data}
 use Rattle.serde_json.specs.Find.{get}
 use Rattle.bpf_profile.specs.Outcomes.{Outcome}
-use Rattle.helpers.specs.Json.{◌>>=◌, outcome_of}
+use Rattle.texts.specs.Outcomes.{◌>>=◌, outcome_of}
 use Rattle.service.specs.declared.request.Report.{Report}
 use Rattle.requests.specs.Values.{number_at}
 

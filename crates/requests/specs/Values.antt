@@ -2,7 +2,7 @@
 use Rattle.std.specs.Prelude.{ℕ, List, Option, option_and_then}
 use Rattle.serde_json.specs.Data.{Data}
 use Rattle.serde_json.specs.Find.{get, as_str}
-use Rattle.helpers.specs.Json.{if_there, u64_of}
+use Rattle.texts.specs.Outcomes.{if_there, u64_of}
 
 -- a whole number below 2^64; None where it is missing or another value
 abbrev pub number_at : List ℕ → Data → Option ℕ

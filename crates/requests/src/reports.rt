@@ -9,19 +9,20 @@ use packed_outcomes::PackedOutcome;
 use serde_json::Value;
 use service::Report;
 use std::alloc::{AllocError, Global};
+use texts::read_outcome;
 
 /// The record of the outcome under a key; None where it is missing or can't be used.
 fn outcome_at(value: &Value, key: &str) -> Option<Record>
     ensures { result ≡ outcome_at key.now (view value.now) }
 {
-    match Record::from_json(value.get(key)?) {
+    match read_outcome(value.get(key)?) {
         Ok(outcome) => Some(outcome),
         Err(_) => None,
     }
 }
 
 /// The report that a JSON object describes: `ticket`, a number below 2^64, and `outcome`, as
-/// `Record::from_json` reads it. Other keys are ignored. None where one of them is missing, of the
+/// `texts::read_outcome` reads it. Other keys are ignored. None where one of them is missing, of the
 /// wrong kind or out of range, or the value is no object: the refusal `BadValue`. The error is want of memory for the
 /// outcome, which is packed here.
 #[tactic(auto, unfolding(crate::specs::Reports::report_of))]

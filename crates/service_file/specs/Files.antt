@@ -5,7 +5,7 @@ use Rattle.std.specs.Str.{bytes_eq}
 use Rattle.serde_json.specs.Data.{Data, Items, no_items, item, Members, no_members, member}
 use Rattle.serde_json.specs.Find.{get, as_array, as_object, as_str}
 use Rattle.bpf_profile.specs.declared.layout.Layout.{Layout}
-use Rattle.helpers.specs.Json.{◌>>=◌, if_there}
+use Rattle.texts.specs.Outcomes.{◌>>=◌, if_there}
 use Rattle.service_profile.specs.declared.configuration.ConfigParts.{ConfigParts}
 use Rattle.service_profile.specs.Configuration.{default_parts}
 use Rattle.requests.specs.Configurations.{config_of}

@@ -41,6 +41,8 @@ mod loads;
 #[cfg(test)]
 mod memory;
 #[cfg(test)]
+mod program_texts;
+#[cfg(test)]
 mod programs;
 #[cfg(test)]
 mod records;
@@ -48,8 +50,6 @@ mod records;
 mod refusal_table;
 #[cfg(test)]
 mod sizes;
-#[cfg(test)]
-mod texts;
 #[cfg(test)]
 mod told;
 #[cfg(test)]

@@ -1,11 +1,13 @@
 //! Records as they are read from JSON, and what the helper functions answer of them.
 use crate::checks::{is_printed, is_true, same, same_at};
 use bpf_profile::Size;
-use helpers::{BadField, Record};
+use helpers::Record;
+use packed_outcomes::PackedOutcome;
 use refusals::RefusalNumber;
 use serde_json::Value;
 use std::alloc::Global;
 use std::process::Abort;
+use texts::{BadField, read_outcome};
 
 const WHOLE: &str =
     "{\"kind\":\"error\",\"status\":503,\"duration_ms\":250,\"request_bytes\":1024,\"response_bytes\":4096,\"attempt\":3,\"method\":\"PATCH\",\"flags\":9,\"body_length\":70000,\"body_front\":\"7B0a\",\"facts\":[5,18446744073709551615],\"tag\":\"706179\",\"other\":null}";
@@ -17,7 +19,7 @@ fn value(rt: &impl Abort, alloc: Global, text: &str) -> Value {
 
 /// The record of a text that is an outcome.
 fn read(rt: &impl Abort, alloc: Global, text: &str) -> Record {
-    Record::from_json(&value(rt, alloc, text)).expect(rt, "an outcome")
+    read_outcome(&value(rt, alloc, text)).expect(rt, "an outcome")
 }
 
 #[test]
@@ -66,7 +68,7 @@ fn are_refused(rt: &impl Abort, alloc: Global, texts: &[&str]) {
         let refused = BadField {
             number: RefusalNumber::BadValue,
         };
-        let found = Record::from_json(&value(rt, alloc, *text));
+        let found = read_outcome(&value(rt, alloc, *text));
         same_at(rt, found, Err(refused), text);
     }
 }
@@ -102,6 +104,30 @@ fn a_refusal_in_words(rt: HostRuntime) {
         number: RefusalNumber::BadValue,
     };
     is_printed(&rt, rt.alloc(), &refused, "refused 59 BadField");
+}
+
+/// Checks that an outcome is unpacked as it was packed, and so is its copy.
+fn is_kept(rt: &impl Abort, alloc: Global, text: &str) {
+    let outcome = read(rt, alloc, text);
+    let packed = PackedOutcome::pack(alloc, &outcome).expect(rt, "ample memory");
+    let copy = packed.try_clone().expect(rt, "ample memory");
+    same_at(rt, packed.unpack(), outcome, text);
+    same_at(rt, copy.unpack(), outcome, text);
+    same_at(rt, copy.duration(), outcome.duration(), text);
+}
+
+#[test]
+fn packed_outcomes_are_copied(rt: HostRuntime) {
+    let texts: &[&str] = &[
+        "{}",
+        "{\"status\":503}",
+        "{\"duration_ms\":101}",
+        "{\"tag\":\"00\"}",
+        WHOLE,
+    ];
+    for text in texts {
+        is_kept(&rt, rt.alloc(), *text);
+    }
 }
 
 /// Checks that these are read as outcomes without a method.

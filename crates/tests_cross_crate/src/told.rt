@@ -7,6 +7,7 @@ use helpers::Record;
 use serde_json::Value;
 use std::alloc::{AllocError, Global};
 use std::process::Abort;
+use texts::read_outcome;
 use verifier::{Refusal, Verified, verify};
 
 /// The bytes that hexadecimal spells.
@@ -82,7 +83,7 @@ fn word(verdict: Verdict) -> &'static str {
 /// The record of an outcome's JSON.
 pub(crate) fn outcome_of(rt: &impl Abort, alloc: Global, text: &str) -> Record {
     let value = Value::from_slice(alloc, text.as_bytes()).expect(rt, "JSON");
-    Record::from_json(&value).expect(rt, "an outcome")
+    read_outcome(&value).expect(rt, "an outcome")
 }
 
 /// The line of a verdict after so many steps, of a program with a budget.

@@ -1,2 +1,4 @@
 pub mod JsonTexts
 pub mod OwnedValues
+pub mod HexBytes
+pub mod Numbers

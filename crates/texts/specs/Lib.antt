@@ -1,3 +1,4 @@
 pub mod JsonText
 pub mod Hexadecimal
 pub mod Verdicts
+pub mod Outcomes

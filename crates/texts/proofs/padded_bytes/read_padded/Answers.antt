@@ -1,6 +1,6 @@
 use Rattle.std.proofs.Common.{rules, ◌≡◌, length, replicate, Some, true, false, is_err, refl, ap}
-use Rattle.helpers.proofs.HexBytes.{none_if_long, refused, read}
-use Rattle.helpers.proofs.hexadecimal.read_padded.Goals as goal
+use Rattle.texts.proofs.HexBytes.{none_if_long, refused, read}
+use Rattle.texts.proofs.padded_bytes.read_padded.Goals as goal
 
 pub returns-then-count-room : goal.returns-then-count-room
 returns-then-count-room c =

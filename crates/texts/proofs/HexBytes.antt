@@ -7,7 +7,7 @@ use Rattle.helpers.specs.Padded.{padded}
 use Rattle.hex.specs.Hex.{decode_of, decode_sized}
 use Rattle.hex.specs.declared.error.FromHexError.{FromHexError}
 use Rattle.hex.proofs.HexLemmas.{decode_of-ok, decode_of-odd, decode_sized-odd, decode_sized-twice}
-use Rattle.helpers.specs.Json.{hex_bytes}
+use Rattle.texts.specs.Outcomes.{hex_bytes}
 
 -- a text that spells nothing
 none_of_err : (limit : ℕ) (s : List ℕ) (e : FromHexError) → decode_of s ≡ Err e → hex_bytes limit s ≡ None

@@ -4,7 +4,7 @@ use Rattle.std.proofs.lemmas.Grind.{common_steps}
 use Rattle.std.proofs.lemmas.List.{drop-drop, drop-replicate, drop-set-lt}
 use Rattle.serde_json.specs.View.{view, items_view}
 use Rattle.serde_json.specs.declared.value.Value.{Value}
-use Rattle.helpers.specs.Json.{u64_of, at_most, numbers_of}
+use Rattle.texts.specs.Outcomes.{u64_of, at_most, numbers_of}
 use Rattle.helpers.specs.Padded.{padded}
 
 -- there are as many numbers as items

@@ -1,15 +1,13 @@
-//! Reading a record from JSON.
+//! The outcome that a JSON value describes.
 ghost use Rattle.std.specs.Prelude.{◌≡◌, None, Some, IfOk, OnErr, IfErr, option_map};
 ghost use Rattle.serde_json.specs.View.{view, items_view};
 ghost use Rattle.helpers.specs.Padded.{padded};
-ghost use Rattle.helpers.specs.Json.{u64_at, u32_at, kind_at, method_at, front_at, tag_at, facts_of, facts_at, fields_of, outcome_of};
+ghost use Rattle.texts.specs.Outcomes.{u64_at, u32_at, kind_at, method_at, front_at, tag_at, facts_of, facts_at, fields_of, outcome_of};
 ghost use Rattle.bpf_profile.specs.Limits.{fact_count};
 
-use crate::fields::{Fields, Kind, Method};
-use crate::hexadecimal::read_padded;
-use crate::record::Record;
-use crate::tag::Tag;
+use crate::padded_bytes::read_padded;
 use bpf_profile::{FACT_COUNT, FRONT_SIZE, MOST_TAG_BYTES};
+use helpers::{Fields, Kind, Method, Record, Tag};
 use refusals::{RefusalNumber, RefusalText};
 use serde_json::Value;
 use std::fmt;
@@ -122,7 +120,7 @@ fn facts(value: &Value) -> Option<[u64; FACT_COUNT]>
 }
 
 /// The fields of the context.
-#[tactic(auto, unfolding(crate::specs::Json::fields_of))]
+#[tactic(auto, unfolding(crate::specs::Outcomes::fields_of))]
 fn fields(value: &Value) -> Option<Fields>
     ensures { result ≡ fields_of (view value.now) }
 {
@@ -141,7 +139,7 @@ fn fields(value: &Value) -> Option<Fields>
 }
 
 /// The whole record; None also where the value is no object.
-#[tactic(auto, unfolding(crate::specs::Json::outcome_of))]
+#[tactic(auto, unfolding(crate::specs::Outcomes::outcome_of))]
 fn outcome(value: &Value) -> Option<Record>
     ensures { result ≡ outcome_of (view value.now) }
 {
@@ -152,25 +150,23 @@ fn outcome(value: &Value) -> Option<Record>
     Some(Record::new(fields.context(), facts(value)?, tag(value)?))
 }
 
-impl Record {
-    /// The record of the outcome that a JSON object describes.
-    ///
-    /// Each key may be missing, and other keys are ignored: `kind` (`response`, which is meant where
-    /// it is missing, `timeout`, `refused`, `reset` or `error`), `status` and `attempt` (below
-    /// 2^32), `duration_ms`, `request_bytes`, `response_bytes`, `flags` and `body_length` (below
-    /// 2^64), `method` (any text), `body_front` (hexadecimal, at most 128 bytes), `facts` (at most
-    /// sixteen numbers below 2^64) and `tag` (hexadecimal, at most 32 bytes). A missing number is 0,
-    /// and a missing text or array has nothing.
-    ///
-    /// An error comes where the value is no object, or one of these values, `null` among them, is
-    /// of another kind, out of range or too long.
-    pub fn from_json(value: &Value) -> Result<Record, BadField>
-        ensures ok { IfOk result (λ outcome. outcome_of (view value.now) ≡ Some outcome) }
-        ensures err { OnErr result (outcome_of (view value.now) ≡ None) }
-        ensures number { IfErr result (λ e. e.number ≡ RefusalNumber.BadValue) }
-    {
-        outcome(value).ok_or(BadField {
-            number: RefusalNumber::BadValue,
-        })
-    }
+/// The record of the outcome that a JSON object describes.
+///
+/// Each key may be missing, and other keys are ignored: `kind` (`response`, which is meant where
+/// it is missing, `timeout`, `refused`, `reset` or `error`), `status` and `attempt` (below
+/// 2^32), `duration_ms`, `request_bytes`, `response_bytes`, `flags` and `body_length` (below
+/// 2^64), `method` (any text), `body_front` (hexadecimal, at most 128 bytes), `facts` (at most
+/// sixteen numbers below 2^64) and `tag` (hexadecimal, at most 32 bytes). A missing number is 0,
+/// and a missing text or array has nothing.
+///
+/// An error comes where the value is no object, or one of these values, `null` among them, is
+/// of another kind, out of range or too long.
+pub fn read_outcome(value: &Value) -> Result<Record, BadField>
+    ensures ok { IfOk result (λ outcome. outcome_of (view value.now) ≡ Some outcome) }
+    ensures err { OnErr result (outcome_of (view value.now) ≡ None) }
+    ensures number { IfErr result (λ e. e.number ≡ RefusalNumber.BadValue) }
+{
+    outcome(value).ok_or(BadField {
+        number: RefusalNumber::BadValue,
+    })
 }

@@ -1,6 +1,6 @@
 //! Bytes written in hexadecimal.
 ghost use Rattle.std.specs.Prelude.{◌≡◌, length, Some, None, MatchOption};
-ghost use Rattle.helpers.specs.Json.{hex_bytes};
+ghost use Rattle.texts.specs.Outcomes.{hex_bytes};
 ghost use Rattle.helpers.specs.Padded.{padded};
 
 /// Decodes hexadecimal into a buffer and fills the rest of it with zeros. Returns the number of bytes

@@ -1,9 +1,9 @@
 use Rattle.std.proofs.Common.{rules, ◌≡◌, Some, ◌+◌, [], ◌∷◌, drop, arith}
 use Rattle.std.proofs.lemmas.Grind.{common_steps}
 use Rattle.serde_json.specs.View.{view}
-use Rattle.helpers.specs.Json.{u64_of}
-use Rattle.helpers.proofs.Numbers.{none_if_many, read_next, zeros_next, read_all}
-use Rattle.helpers.proofs.reading.numbers.Goals as goal
+use Rattle.texts.specs.Outcomes.{u64_of}
+use Rattle.texts.proofs.Numbers.{none_if_many, read_next, zeros_next, read_all}
+use Rattle.texts.proofs.outcomes.numbers.Goals as goal
 
 pub returns-then-items-gt-FACT_COUNT : goal.returns-then-items-gt-FACT_COUNT
 returns-then-items-gt-FACT_COUNT c = none_if_many 16 c.args.items.now c.if-items-gt-FACT_COUNT.true

@@ -1,6 +1,6 @@
 use Rattle.std.proofs.Common.{◌≡◌, ◌-◌, drop, length, replicate}
-use Rattle.helpers.proofs.Numbers.{IsReadTo}
-use Rattle.helpers.proofs.reading.numbers.Given as goal
+use Rattle.texts.proofs.Numbers.{IsReadTo}
+use Rattle.texts.proofs.outcomes.numbers.Given as goal
 
 abbrev pub invariant-loop-i : goal.invariant-loop-i
 invariant-loop-i l = record {

@@ -1,2 +1,0 @@
-pub mod HexBytes
-pub mod Numbers
