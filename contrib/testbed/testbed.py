@@ -8,6 +8,7 @@ import http.client
 import json
 import os
 import select
+import signal
 import socket
 import subprocess
 import tempfile
@@ -53,6 +54,13 @@ def free_port() -> int:
     raise AssertionError("no port is free")
 
 
+def state_of_thread(folder: os.DirEntry[str]) -> str:
+    """Returns the letter that stands for what a thread does, by its folder below /proc: T where it was stopped."""
+    with open(f"{folder.path}/stat", encoding="utf-8") as line:
+        # The name of the program stands before it, in brackets, and may hold anything.
+        return line.read().rpartition(") ")[2][0]
+
+
 class Server:
     """The program, which serves on the loopback address."""
 
@@ -94,10 +102,21 @@ class Server:
         if self.process.stdout:
             self.process.stdout.close()
 
-    def signal(self, number: int) -> None:
-        """Sends a signal to the program itself, which is a child of the one that bounds its time."""
+    def stand_still(self) -> None:
+        """Stops the program where it is, as one that hangs, and returns once each of its threads has stopped."""
+        number = self._number()
+        os.kill(number, signal.SIGSTOP)
+        # The system stops the threads one after another, behind the call: until then one of them may still answer.
+        wait_for(lambda: {state_of_thread(it) for it in os.scandir(f"/proc/{number}/task")} == {"T"}, "all threads stop")
+
+    def go_on(self) -> None:
+        """Lets the program go on that stood still."""
+        os.kill(self._number(), signal.SIGCONT)
+
+    def _number(self) -> int:
+        """Returns the number of the program itself, which is a child of the one that bounds its time."""
         with open(f"/proc/{self.process.pid}/task/{self.process.pid}/children", encoding="utf-8") as children:
-            os.kill(int(children.read().split()[0]), number)
+            return int(children.read().split()[0])
 
     def start_again(self) -> None:
         """Ends the program, and starts it anew on the same port."""

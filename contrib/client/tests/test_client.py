@@ -523,7 +523,7 @@ class WhereConnectionsBreak(Case):
         breaker = self.breaker_at(self.server.address, seconds=0.25)
         with breaker.call():
             pass
-        self.server.signal(signal.SIGSTOP)
+        self.server.stand_still()
         told = []
         for _ in range(20):
             with self.assertRaises(delvoumi.NoAnswer) as raised, breaker.call():
@@ -532,7 +532,7 @@ class WhereConnectionsBreak(Case):
         self.assertEqual(
             told, ["no answer: timed out"] * 16 + ["no answer: 16 earlier questions still wait for theirs"] * 4
         )
-        self.server.signal(signal.SIGCONT)
+        self.server.go_on()
         wait_for(lambda: breaker.sidecar.settle(now=True) == 0, "all late tickets are released")
         # A connection that is kept may be closed by the sidecar when it goes on: then its acquire was not done.
         acquired, released = self.events().count("acquire"), [it for it in self.replies("release") if "fate" in it]
@@ -542,10 +542,10 @@ class WhereConnectionsBreak(Case):
     def test_a_report_to_a_sidecar_that_hangs_arrives_once(self) -> None:
         breaker = self.breaker_at(self.server.address, seconds=0.5)
         with breaker.call() as call:
-            self.server.signal(signal.SIGSTOP)
+            self.server.stand_still()
             call.outcome(status=500)
         self.assertEqual(call.result, "not reported: no answer: timed out")
-        self.server.signal(signal.SIGCONT)
+        self.server.go_on()
         wait_for(lambda: breaker.sidecar.settle(now=True) == 0, "the report is settled")
         # It was sent more than once. Where two workers judge it at the same time, one of them records it, and the other's
         # refusal is an entry too.
