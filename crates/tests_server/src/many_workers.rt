@@ -127,6 +127,37 @@ where
     Ok(stream)
 }
 
+/// Four connections, in the order in which they were made.
+fn connections<R>(rt: &R, alloc: Global, address: SocketAddr) -> io::Result<Vec<TcpStream>>
+where
+    R: Net<Listener = TcpListener, Stream = TcpStream>,
+{
+    let mut streams = Vec::new(alloc);
+    for _ in 0..4 {
+        streams.push(connect(rt, address)?)?;
+    }
+    Ok(streams)
+}
+
+/// One connection more, whose client asks at once.
+fn one_too_many<R>(rt: &R, address: SocketAddr) -> io::Result<TcpStream>
+where
+    R: Net<Listener = TcpListener, Stream = TcpStream>,
+{
+    let stream = connect(rt, address)?;
+    (&mut &stream).write_all(ACQUIRE.as_bytes())?;
+    Ok(stream)
+}
+
+/// Asks for a ticket over each connection, over the last one first.
+fn acquire_over_all(alloc: Global, streams: &[TcpStream]) -> io::Result<Vec<Vec<u8>>> {
+    let mut acquired = Vec::new(alloc);
+    for stream in streams.iter().rev() {
+        acquired.push(acquire(alloc, stream)?)?;
+    }
+    Ok(acquired)
+}
+
 /// Five clients. The one too many connects last and asks first; of the others the one that connected last asks first.
 fn call<R>(rt: &R, alloc: Global, port: &AtomicU64) -> io::Result<Answers>
 where
@@ -135,16 +166,9 @@ where
     let Some(address) = told(rt, port) else {
         return Err(io::Error::from(io::ErrorKind::TimedOut));
     };
-    let mut streams = Vec::new(alloc);
-    for _ in 0..4 {
-        streams.push(connect(rt, address)?)?;
-    }
-    let further = connect(rt, address)?;
-    (&mut &further).write_all(ACQUIRE.as_bytes())?;
-    let mut acquired = Vec::new(alloc);
-    for stream in streams.iter().rev() {
-        acquired.push(acquire(alloc, stream)?)?;
-    }
+    let streams = connections(rt, alloc, address)?;
+    let further = one_too_many(rt, address)?;
+    let acquired = acquire_over_all(alloc, &streams)?;
     let journal = match streams.first() {
         Some(stream) => journal(alloc, stream)?,
         None => Vec::new(alloc),

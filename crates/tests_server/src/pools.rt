@@ -74,6 +74,19 @@ fn is_answered(rt: &impl Abort, alloc: Global, stream: &TcpStream, ending: &str)
     Ok(())
 }
 
+/// All others sent answers that begin so, and have this ending.
+fn are_answered(
+    rt: &impl Abort,
+    alloc: Global,
+    streams: &[TcpStream],
+    ending: &str,
+) -> io::Result<()> {
+    for stream in streams {
+        is_answered(rt, alloc, stream, ending)?;
+    }
+    Ok(())
+}
+
 /// Each message was answered once, at the clock of the worker that has its entry: so many in all.
 fn have_answered(rt: &impl Abort, workers: &[Worker<Books, Readings>], wanted: u64) {
     let mut answered: u64 = 0;
@@ -148,9 +161,7 @@ fn workers_share_the_connections(rt: HostRuntime) -> Result<(), Fail> {
     same(&rt, workers.len(), 3);
     same(&rt, failures(&workers), 0);
     have_answered(&rt, &workers, 8);
-    for stream in &streams {
-        is_answered(&rt, alloc, stream, "\"version\":1}")?;
-    }
+    are_answered(&rt, alloc, &streams, "\"version\":1}")?;
     one_is_left(&rt, alloc, &listener)?;
     same(&rt, answer(alloc, &further)?.len(), 0);
     Ok(())

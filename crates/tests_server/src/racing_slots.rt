@@ -5,9 +5,7 @@ ghost use Rattle.slot_desk.specs.Seats.{IsSeatOf};
 
 use crate::checks::{is_true, same};
 use crate::fixtures::pay_to_open;
-use crate::racing_workers::{
-    FIRST_REPORT, OvertakingGate, Readings, SECOND_REPORT, ask, finishes, is_recorded,
-};
+use crate::racing_workers::{OvertakingGate, Readings, are_recorded, connections, finishes};
 use book::Reply;
 use http_pool::{Worker, pool};
 use http_slots::SlotAnswerer;
@@ -78,7 +76,54 @@ fn are_in_order<R: Wait + Abort>(rt: &R, desk: &Desk, seat: &mut Seat)
     is_true(rt, finishes(&made[1], 1));
 }
 
-/// Lets two connections report to one service.
+/// Serves two connections by two workers, each with one of the seats.
+fn serve_both<R>(
+    rt: &R,
+    alloc: Global,
+    listener: &TcpListener,
+    desk: &Desk,
+    first: Seat,
+    second: Seat,
+    gate: &OvertakingGate,
+) -> Result<(), Fail>
+where
+    R: Threads
+        + Wait
+        + time::Clock
+        + Sync
+        + Abort
+        + Net<Listener = TcpListener, Stream = TcpStream>,
+    requires first { IsSeatOf desk.now first }
+    requires second { IsSeatOf desk.now second }
+{
+    let workers = workers(rt, alloc, desk, first, second, gate)?;
+    assert_eq!(rt; workers.len(), 2);
+    let workers = pool(rt, alloc, listener, 2, workers)?;
+    same(rt, workers.len(), 2);
+    Ok(())
+}
+
+/// Lets two connections report to one service, whose workers have these seats. The one overtakes the other, and both are
+/// recorded.
+fn report_both<R>(rt: &R, alloc: Global, desk: &Desk, first: Seat, second: Seat) -> Result<(), Fail>
+where
+    R: Threads
+        + Wait
+        + time::Clock
+        + Sync
+        + Abort
+        + Net<Listener = TcpListener, Stream = TcpStream>,
+    requires first { IsSeatOf desk.now first }
+    requires second { IsSeatOf desk.now second }
+{
+    let gate = OvertakingGate::new();
+    let (listener, held, overtaking) = connections(rt)?;
+    serve_both(rt, alloc, &listener, desk, first, second, &gate)?;
+    is_true(rt, gate.overtaken.is_raised());
+    are_recorded(rt, alloc, &held, &overtaking)
+}
+
+/// Two reports to one service are entered in the order of their finishes.
 fn two_workers_report<R>(rt: &R, alloc: Global, mut desk: Desk) -> Result<(), Fail>
 where
     R: Threads
@@ -93,18 +138,7 @@ where
     let second = seat_of(rt, alloc, &mut desk);
     get_ticket(rt, &desk, &mut caller, 1);
     get_ticket(rt, &desk, &mut caller, 2);
-    let gate = OvertakingGate::new();
-    let listener = TcpListener::bind(rt, "127.0.0.1:0")?;
-    let address = listener.local_addr()?;
-    let held = ask(rt, address, FIRST_REPORT)?;
-    let overtaking = ask(rt, address, SECOND_REPORT)?;
-    let workers = workers(rt, alloc, &desk, first, second, &gate)?;
-    assert_eq!(rt; workers.len(), 2);
-    let workers = pool(rt, alloc, &listener, 2, workers)?;
-    same(rt, workers.len(), 2);
-    is_true(rt, gate.overtaken.is_raised());
-    is_recorded(rt, alloc, &held)?;
-    is_recorded(rt, alloc, &overtaking)?;
+    report_both(rt, alloc, &desk, first, second)?;
     are_in_order(rt, &desk, &mut caller);
     Ok(())
 }

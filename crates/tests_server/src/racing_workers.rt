@@ -26,11 +26,11 @@ use verifier::Verified;
 /// How often a thread looks whether another one is there yet.
 const MOST_TURNS: u32 = 1_000_000;
 
-pub(crate) const FIRST_REPORT: &str =
+const FIRST_REPORT: &str =
     "POST /v1/services/pay/report HTTP/1.1\r\nContent-Length: 37\r\n\r\n{\"ticket\":1,\"outcome\":{\"status\":500}}";
 
 /// A report, and behind it a message at which the clock is read once more.
-pub(crate) const SECOND_REPORT: &str =
+const SECOND_REPORT: &str =
     "POST /v1/services/pay/report HTTP/1.1\r\nContent-Length: 37\r\n\r\n{\"ticket\":2,\"outcome\":{\"status\":200}}GET /v1/services/pay/state HTTP/1.1\r\n\r\n";
 
 /// Something that one thread says and another waits for.
@@ -119,7 +119,7 @@ impl<'a> Clock for Readings<'a> {
 }
 
 /// Connects to an address, asks, and sends no more.
-pub(crate) fn ask<R>(rt: &R, address: SocketAddr, input: &str) -> io::Result<TcpStream>
+fn ask<R>(rt: &R, address: SocketAddr, input: &str) -> io::Result<TcpStream>
 where
     R: Net<Listener = TcpListener, Stream = TcpStream>,
 {
@@ -129,8 +129,20 @@ where
     Ok(stream)
 }
 
+/// A listener, and the connections that report to it: that whose report is held, and that which overtakes it.
+pub(crate) fn connections<R>(rt: &R) -> io::Result<(TcpListener, TcpStream, TcpStream)>
+where
+    R: Net<Listener = TcpListener, Stream = TcpStream>,
+{
+    let listener = TcpListener::bind(rt, "127.0.0.1:0")?;
+    let address = listener.local_addr()?;
+    let held = ask(rt, address, FIRST_REPORT)?;
+    let overtaking = ask(rt, address, SECOND_REPORT)?;
+    Ok((listener, held, overtaking))
+}
+
 /// The other side sent, to its end, that a report was recorded.
-pub(crate) fn is_recorded(rt: &impl Abort, alloc: Global, stream: &TcpStream) -> Result<(), Fail> {
+fn is_recorded(rt: &impl Abort, alloc: Global, stream: &TcpStream) -> Result<(), Fail> {
     let mut text = Vec::new(alloc);
     (&mut &*stream).read_to_end(&mut text)?;
     let Ok(text) = str::from_utf8(&text) else {
@@ -138,6 +150,17 @@ pub(crate) fn is_recorded(rt: &impl Abort, alloc: Global, stream: &TcpStream) ->
     };
     is_true_at(rt, text.contains("\"fate\":\"recorded\""), text);
     Ok(())
+}
+
+/// Both reports were recorded.
+pub(crate) fn are_recorded(
+    rt: &impl Abort,
+    alloc: Global,
+    held: &TcpStream,
+    overtaking: &TcpStream,
+) -> Result<(), Fail> {
+    is_recorded(rt, alloc, held)?;
+    is_recorded(rt, alloc, overtaking)
 }
 
 /// A seat gets the ticket of this number.
@@ -198,7 +221,51 @@ fn are_in_order<L: Ledger, M: Ledger + Offered, R: Wait + Abort>(
     is_true(rt, finishes(&made[1], 1));
 }
 
-/// Lets two connections report to one service.
+/// Serves two connections by two workers, each with one of the seats.
+fn serve_both<
+    L: Ledger + Send + Sync,
+    M: Ledger + Offered + Send + Sync,
+    R: Threads
+        + Wait
+        + time::Clock
+        + Sync
+        + Abort
+        + Net<Listener = TcpListener, Stream = TcpStream>,
+>(
+    rt: &R,
+    alloc: Global,
+    listener: &TcpListener,
+    desk: &Desk<L, M>,
+    seats: (Seat<L, M>, Seat<L, M>),
+    gate: &OvertakingGate,
+) -> Result<(), Fail> {
+    let workers = workers(rt, alloc, desk, seats, gate)?;
+    assert_eq!(rt; workers.len(), 2);
+    let workers = pool(rt, alloc, listener, 2, workers)?;
+    same(rt, workers.len(), 2);
+    Ok(())
+}
+
+/// Lets two connections report to one service, whose workers have these seats. The one overtakes the other, and both are
+/// recorded.
+fn report_both<
+    L: Ledger + Send + Sync,
+    M: Ledger + Offered + Send + Sync,
+    R: Threads
+        + Wait
+        + time::Clock
+        + Sync
+        + Abort
+        + Net<Listener = TcpListener, Stream = TcpStream>,
+>(rt: &R, alloc: Global, desk: &Desk<L, M>, seats: (Seat<L, M>, Seat<L, M>)) -> Result<(), Fail> {
+    let gate = OvertakingGate::new();
+    let (listener, held, overtaking) = connections(rt)?;
+    serve_both(rt, alloc, &listener, desk, seats, &gate)?;
+    is_true(rt, gate.overtaken.is_raised());
+    are_recorded(rt, alloc, &held, &overtaking)
+}
+
+/// Two reports to one service are entered in the order of their finishes.
 fn reports_of_two_workers<
     L: Ledger + Send + Sync,
     M: Ledger + Offered + Send + Sync,
@@ -227,18 +294,7 @@ fn reports_of_two_workers<
     let second = desk.sit().expect(rt, "a second worker's seat");
     get_ticket(rt, &desk, &mut caller, 1);
     get_ticket(rt, &desk, &mut caller, 2);
-    let gate = OvertakingGate::new();
-    let listener = TcpListener::bind(rt, "127.0.0.1:0")?;
-    let address = listener.local_addr()?;
-    let held = ask(rt, address, FIRST_REPORT)?;
-    let overtaking = ask(rt, address, SECOND_REPORT)?;
-    let workers = workers(rt, alloc, &desk, (first, second), &gate)?;
-    assert_eq!(rt; workers.len(), 2);
-    let workers = pool(rt, alloc, &listener, 2, workers)?;
-    same(rt, workers.len(), 2);
-    is_true(rt, gate.overtaken.is_raised());
-    is_recorded(rt, alloc, &held)?;
-    is_recorded(rt, alloc, &overtaking)?;
+    report_both(rt, alloc, &desk, (first, second))?;
     are_in_order(rt, &desk, &mut caller);
     Ok(())
 }

@@ -57,7 +57,25 @@ fn answers<A: Answerer, R: Wait + Abort>(
     is_true_at(rt, text.ends_with(ending.as_bytes()), text);
 }
 
-/// What two seats ask a service, and are answered.
+/// Two seats ask a service by turns, and are answered so.
+fn ask_by_turns<A: Answerer, R: Wait + Abort>(
+    rt: &R,
+    alloc: Global,
+    first: &mut A,
+    second: &mut A,
+) {
+    answers(rt, alloc, first, ACQUIRE.as_bytes(), TICKET);
+    answers(rt, alloc, second, INSTALL, INSTALLED);
+    // The ticket's version judges, whatever is current.
+    answers(rt, alloc, second, REPORT.as_bytes(), RECORDED);
+    answers(rt, alloc, first, REPORT.as_bytes(), SPENT);
+    answers(rt, alloc, first, JOURNAL.as_bytes(), LAST_ENTRY);
+    answers(rt, alloc, second, ROLL.as_bytes(), "{\"entries\":2}");
+    answers(rt, alloc, first, JOURNAL.as_bytes(), LAST_ENTRY);
+    is_true(rt, first.find("none").is_none());
+}
+
+/// What two seats of a desk ask a service, and how many entries each of them has made.
 fn asked_by_two<L: Ledger, M: Ledger + Offered, R: Wait + Abort>(
     rt: &R,
     alloc: Global,
@@ -77,15 +95,7 @@ fn asked_by_two<L: Ledger, M: Ledger + Offered, R: Wait + Abort>(
     let gate = OpenGate;
     let mut first = SeatedAnswerer::new(rt, alloc, &desk, first, &gate);
     let mut second = SeatedAnswerer::new(rt, alloc, &desk, second, &gate);
-    answers(rt, alloc, &mut first, ACQUIRE.as_bytes(), TICKET);
-    answers(rt, alloc, &mut second, INSTALL, INSTALLED);
-    // The ticket's version judges, whatever is current.
-    answers(rt, alloc, &mut second, REPORT.as_bytes(), RECORDED);
-    answers(rt, alloc, &mut first, REPORT.as_bytes(), SPENT);
-    answers(rt, alloc, &mut first, JOURNAL.as_bytes(), LAST_ENTRY);
-    answers(rt, alloc, &mut second, ROLL.as_bytes(), "{\"entries\":2}");
-    answers(rt, alloc, &mut first, JOURNAL.as_bytes(), LAST_ENTRY);
-    is_true(rt, first.find("none").is_none());
+    ask_by_turns(rt, alloc, &mut first, &mut second);
     same(rt, first.into_seat().count(), 1);
     same(rt, second.into_seat().count(), 2);
     Ok(())

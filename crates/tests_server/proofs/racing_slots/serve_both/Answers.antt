@@ -4,7 +4,7 @@ use denote.Param.Send.{IsSync, sendable, param_send, arg_send}
 use Rattle.std.proofs.Crossing.{crosses}
 use Rattle.http_slots.proofs.Sending.{answerer_send}
 use Rattle.tests_server.specs.contracts.racing_workers.OvertakingGate as gate
-use Rattle.tests_server.proofs.racing_slots.two_workers_report.Goals as goal
+use Rattle.tests_server.proofs.racing_slots.serve_both.Goals as goal
 
 gate_sync : IsSync gate.the_row
 gate_sync = search (sendable, crosses) depth 40
