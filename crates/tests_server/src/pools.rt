@@ -74,7 +74,7 @@ fn is_answered(rt: &impl Abort, alloc: Global, stream: &TcpStream, ending: &str)
     Ok(())
 }
 
-/// All others sent answers that begin so, and have this ending.
+/// The other side of each connection sent an answer that begins so, and has this ending.
 fn are_answered(
     rt: &impl Abort,
     alloc: Global,
