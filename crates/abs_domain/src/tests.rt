@@ -14,7 +14,7 @@ const EVEN: Bits = Bits {
 };
 
 #[test]
-fn bits_narrow_bounds(rt: HostRuntime) -> Result<(), Fail> {
+fn bits_narrow_bounds(rt: HostRuntime) {
     for (bounds, bits, low, high) in [
         (EIGHT_TO_THIRTEEN, EVEN, 8, 13),
         (Bounds { low: 3, high: 99 }, EVEN, 3, 14),
@@ -44,11 +44,10 @@ fn bits_narrow_bounds(rt: HostRuntime) -> Result<(), Fail> {
             (&bounds, &bits),
         );
     }
-    Ok(())
 }
 
 #[test]
-fn bounds_have_leading_bits(rt: HostRuntime) -> Result<(), Fail> {
+fn bounds_have_leading_bits(rt: HostRuntime) {
     for (low, high, unknown) in [
         (8, 13, 0b111),
         (8, 8, 0),
@@ -68,11 +67,10 @@ fn bounds_have_leading_bits(rt: HostRuntime) -> Result<(), Fail> {
             (&low, &high),
         );
     }
-    Ok(())
 }
 
 #[test]
-fn what_no_word_has_is_inconsistent(rt: HostRuntime) -> Result<(), Fail> {
+fn what_no_word_has_is_inconsistent(rt: HostRuntime) {
     let odd = Bits {
         value: 1,
         unknown: 0b1110,
@@ -85,5 +83,4 @@ fn what_no_word_has_is_inconsistent(rt: HostRuntime) -> Result<(), Fail> {
     same(&rt, is_consistent(EIGHT_TO_THIRTEEN, apart), false);
     same(&rt, is_consistent(Bounds { low: 12, high: 12 }, EVEN), true);
     same(&rt, is_consistent(Bounds { low: 12, high: 12 }, odd), false);
-    Ok(())
 }

@@ -5,7 +5,6 @@ use abs_domain::arithmetic::{arithmetic, converted, moved_signed, negation};
 use abs_domain::branches::refined;
 use bpf_profile::{ByteOrder, Comparison, Operation, Size, Width};
 use std::process::Abort;
-use std::test::*;
 
 const ANY: Flat = Flat::Any;
 
@@ -25,7 +24,7 @@ fn words_are_computed(rt: &impl Abort, width: Width, rows: &[Computed]) {
 }
 
 #[test]
-fn halves_are_computed_apart(rt: HostRuntime) -> Result<(), Fail> {
+fn halves_are_computed_apart(rt: HostRuntime) {
     words_are_computed(
         &rt,
         Width::Bits32,
@@ -56,11 +55,10 @@ fn halves_are_computed_apart(rt: HostRuntime) -> Result<(), Fail> {
             ),
         ],
     );
-    Ok(())
 }
 
 #[test]
-fn whole_words_are_computed(rt: HostRuntime) -> Result<(), Fail> {
+fn whole_words_are_computed(rt: HostRuntime) {
     words_are_computed(
         &rt,
         Width::Bits64,
@@ -83,7 +81,6 @@ fn whole_words_are_computed(rt: HostRuntime) -> Result<(), Fail> {
         arithmetic(Operation::Move, Width::Bits64, ANY, Flat::One(7)),
         Flat::One(7),
     );
-    Ok(())
 }
 
 /// Checks what is moved with a sign.
@@ -99,7 +96,7 @@ fn is_converted(rt: &impl Abort, order: ByteOrder, size: Size, before: u64, afte
 }
 
 #[test]
-fn single_words_are_negated_and_converted(rt: HostRuntime) -> Result<(), Fail> {
+fn single_words_are_negated_and_converted(rt: HostRuntime) {
     let seven = Flat::One(7);
     same(
         &rt,
@@ -114,7 +111,6 @@ fn single_words_are_negated_and_converted(rt: HostRuntime) -> Result<(), Fail> {
     is_converted(&rt, ByteOrder::Little, Size::HalfWord, odd, 0x8091);
     is_converted(&rt, ByteOrder::Big, Size::HalfWord, odd, 0x9180);
     is_converted(&rt, ByteOrder::Swap, Size::Word, odd, 0x9180_3412);
-    Ok(())
 }
 
 /// A comparison, its width, whether it holds, and what it then tells of any word and five.
@@ -136,7 +132,7 @@ const FIVES: (Flat, Flat) = (Flat::One(5), Flat::One(5));
 const NOTHING: (Flat, Flat) = (ANY, Flat::One(5));
 
 #[test]
-fn equal_words_become_one(rt: HostRuntime) -> Result<(), Fail> {
+fn equal_words_become_one(rt: HostRuntime) {
     are_refined(
         &rt,
         &[
@@ -150,5 +146,4 @@ fn equal_words_become_one(rt: HostRuntime) -> Result<(), Fail> {
             (Comparison::BitsSet, Width::Bits64, true, NOTHING),
         ],
     );
-    Ok(())
 }

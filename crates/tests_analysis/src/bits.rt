@@ -7,7 +7,6 @@ use abs_domain::{Binary, Bits, Bounds, Conversion, Domain, Relation, Shift};
 use bpf_profile::Size;
 use known_bits::KnownBits;
 use std::process::Abort;
-use std::test::*;
 
 /// The bits that are known to be 1, and those that aren't known.
 type Pair = (u64, u64);
@@ -43,7 +42,7 @@ fn joins(rt: &impl Abort, a: Pair, b: Pair, wanted: Pair) {
 }
 
 #[test]
-fn single_words_and_joins(rt: HostRuntime) -> Result<(), Fail> {
+fn single_words_and_joins(rt: HostRuntime) {
     same(&rt, seen(KnownBits::constant(5)), (5, 0));
     same(&rt, seen(KnownBits::top()), (0, u64::MAX));
     let twelve_or_ten = having((0b1100, 0)).join(having((0b1010, 0)));
@@ -52,7 +51,6 @@ fn single_words_and_joins(rt: HostRuntime) -> Result<(), Fail> {
     let either = (0b1000, 0b0001);
     joins(&rt, either, (0b1010, 0), (0b1000, 0b0011));
     joins(&rt, either, (0b1001, 0), (0b1000, 0b0001));
-    Ok(())
 }
 
 /// Checks what an operation makes of two values.
@@ -73,7 +71,7 @@ fn are_operated(rt: &impl Abort, rows: &[Operated]) {
 }
 
 #[test]
-fn low_bits_of_arithmetic(rt: HostRuntime) -> Result<(), Fail> {
+fn low_bits_of_arithmetic(rt: HostRuntime) {
     are_operated(
         &rt,
         &[
@@ -86,7 +84,6 @@ fn low_bits_of_arithmetic(rt: HostRuntime) -> Result<(), Fail> {
             (Binary::Subtract, (0, 0), (1, 0), (u64::MAX, 0)),
         ],
     );
-    Ok(())
 }
 
 /// An operation, two words and what it makes of them.
@@ -106,7 +103,7 @@ fn known_words_are_operated(rt: &impl Abort, rows: &[OfWords]) {
 const MINUS_17: u64 = 0xffff_ffff_ffff_ffef;
 
 #[test]
-fn quotients_of_known_words(rt: HostRuntime) -> Result<(), Fail> {
+fn quotients_of_known_words(rt: HostRuntime) {
     known_words_are_operated(
         &rt,
         &[
@@ -118,11 +115,10 @@ fn quotients_of_known_words(rt: HostRuntime) -> Result<(), Fail> {
             (Binary::SignedModulo, MINUS_17, 5, 0xffff_ffff_ffff_fffe),
         ],
     );
-    Ok(())
 }
 
 #[test]
-fn bit_by_bit(rt: HostRuntime) -> Result<(), Fail> {
+fn bit_by_bit(rt: HostRuntime) {
     are_operated(
         &rt,
         &[
@@ -131,7 +127,6 @@ fn bit_by_bit(rt: HostRuntime) -> Result<(), Fail> {
             (Binary::Xor, A, B, (0, 0b0110)),
         ],
     );
-    Ok(())
 }
 
 /// A shift, a value, a count and what they make.
@@ -147,7 +142,7 @@ fn are_shifted(rt: &impl Abort, rows: &[Shifted]) {
 }
 
 #[test]
-fn shifts(rt: HostRuntime) -> Result<(), Fail> {
+fn shifts(rt: HostRuntime) {
     are_shifted(
         &rt,
         &[
@@ -169,7 +164,6 @@ fn shifts(rt: HostRuntime) -> Result<(), Fail> {
             ),
         ],
     );
-    Ok(())
 }
 
 /// A conversion, a size, a value and what they make.
@@ -184,7 +178,7 @@ fn are_converted(rt: &impl Abort, rows: &[Converted]) {
 }
 
 #[test]
-fn conversions(rt: HostRuntime) -> Result<(), Fail> {
+fn conversions(rt: HostRuntime) {
     are_converted(
         &rt,
         &[
@@ -214,7 +208,6 @@ fn conversions(rt: HostRuntime) -> Result<(), Fail> {
             ),
         ],
     );
-    Ok(())
 }
 
 /// Checks whether so many low bits are known to be zero.
@@ -225,7 +218,7 @@ fn has_low_zeros(rt: &impl Abort, value: KnownBits, count: u32, wanted: bool)
 }
 
 #[test]
-fn what_is_known_of_all_words(rt: HostRuntime) -> Result<(), Fail> {
+fn what_is_known_of_all_words(rt: HostRuntime) {
     let a = having((0b1000, 0b0100));
     let bounds = Bounds {
         low: 0b1000,
@@ -241,7 +234,6 @@ fn what_is_known_of_all_words(rt: HostRuntime) -> Result<(), Fail> {
     has_low_zeros(&rt, a, 3, false);
     has_low_zeros(&rt, known(0b1000, 0), 4, false);
     has_low_zeros(&rt, KnownBits::top(), 0, true);
-    Ok(())
 }
 
 /// A relation and two values, each before and after.
@@ -267,7 +259,7 @@ const TWO: Pair = (0b0010, 0);
 const WIDE: Pair = (0b0001, 0b0110);
 
 #[test]
-fn comparisons(rt: HostRuntime) -> Result<(), Fail> {
+fn comparisons(rt: HostRuntime) {
     are_told(
         &rt,
         &[
@@ -282,7 +274,6 @@ fn comparisons(rt: HostRuntime) -> Result<(), Fail> {
             (Relation::Overlapping, A, B, A, B),
         ],
     );
-    Ok(())
 }
 
 /// Checks what is left of a value once these bits are known of it.
@@ -293,11 +284,10 @@ fn fixes(rt: &impl Abort, a: Pair, known: Pair, wanted: Pair) {
 }
 
 #[test]
-fn what_is_known_besides(rt: HostRuntime) -> Result<(), Fail> {
+fn what_is_known_besides(rt: HostRuntime) {
     let pair = (0b0001, 0b0110);
     let a = having(pair);
     same(&rt, a.clamp(Bounds { low: 2, high: 3 }), a);
     fixes(&rt, pair, (0b0011, 0b0100), (0b0011, 0b0100));
     fixes(&rt, pair, (0, u64::MAX), (0b0001, 0b0110));
-    Ok(())
 }

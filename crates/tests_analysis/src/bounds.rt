@@ -7,7 +7,6 @@ use abs_domain::{Binary, Bits, Bounds, Conversion, Domain, Relation, Shift};
 use bpf_profile::Size;
 use ranges::Range;
 use std::process::Abort;
-use std::test::*;
 
 const MAX: u64 = u64::MAX;
 /// The least word with a sign.
@@ -31,7 +30,7 @@ fn joins(rt: &impl Abort, a: Ends, b: Ends, wanted: Ends) {
 }
 
 #[test]
-fn words_and_bounds(rt: HostRuntime) -> Result<(), Fail> {
+fn words_and_bounds(rt: HostRuntime) {
     let three_to_nine = range(&rt, (3, 9));
     same(&rt, (three_to_nine.low(), three_to_nine.high()), (3, 9));
     same(&rt, three_to_nine.bounds(), Bounds { low: 3, high: 9 });
@@ -46,7 +45,6 @@ fn words_and_bounds(rt: HostRuntime) -> Result<(), Fail> {
         unknown: MAX - 1,
     };
     same(&rt, three_to_nine.fix(odd), three_to_nine);
-    Ok(())
 }
 
 /// Checks whether so many low bits are known to be zero.
@@ -58,7 +56,7 @@ fn has_low_zeros(rt: &impl Abort, ends: Ends, count: u32, wanted: bool)
 }
 
 #[test]
-fn known_bits(rt: HostRuntime) -> Result<(), Fail> {
+fn known_bits(rt: HostRuntime) {
     let one = Bits {
         value: 7,
         unknown: 0,
@@ -74,7 +72,6 @@ fn known_bits(rt: HostRuntime) -> Result<(), Fail> {
     has_low_zeros(&rt, (8, 16), 3, false);
     has_low_zeros(&rt, (7, 7), 0, true);
     has_low_zeros(&rt, (0, 0), 63, true);
-    Ok(())
 }
 
 /// An operation, two ranges, and what it makes of them.
@@ -90,7 +87,7 @@ fn are_operated(rt: &impl Abort, rows: &[Operated]) {
 }
 
 #[test]
-fn sums_and_differences(rt: HostRuntime) -> Result<(), Fail> {
+fn sums_and_differences(rt: HostRuntime) {
     are_operated(
         &rt,
         &[
@@ -104,11 +101,10 @@ fn sums_and_differences(rt: HostRuntime) -> Result<(), Fail> {
             (Binary::Subtract, (5, 10), (7, 8), (0, MAX)),
         ],
     );
-    Ok(())
 }
 
 #[test]
-fn products_and_quotients(rt: HostRuntime) -> Result<(), Fail> {
+fn products_and_quotients(rt: HostRuntime) {
     are_operated(
         &rt,
         &[
@@ -131,11 +127,10 @@ fn products_and_quotients(rt: HostRuntime) -> Result<(), Fail> {
             (Binary::SignedModulo, (1, 2), (1, SIGN), (0, MAX)),
         ],
     );
-    Ok(())
 }
 
 #[test]
-fn bitwise_operations(rt: HostRuntime) -> Result<(), Fail> {
+fn bitwise_operations(rt: HostRuntime) {
     are_operated(
         &rt,
         &[
@@ -148,7 +143,6 @@ fn bitwise_operations(rt: HostRuntime) -> Result<(), Fail> {
             (Binary::Xor, (1, 1), (0, SIGN), (0, MAX)),
         ],
     );
-    Ok(())
 }
 
 /// A shift, a range, a count and what they make.
@@ -165,7 +159,7 @@ fn are_shifted(rt: &impl Abort, rows: &[Shifted]) {
 }
 
 #[test]
-fn shifts(rt: HostRuntime) -> Result<(), Fail> {
+fn shifts(rt: HostRuntime) {
     are_shifted(
         &rt,
         &[
@@ -189,7 +183,6 @@ fn shifts(rt: HostRuntime) -> Result<(), Fail> {
             (Shift::ArithmeticRight, (SIGN - 1, SIGN), 4, (0, MAX)),
         ],
     );
-    Ok(())
 }
 
 /// A conversion, a size, a range and what they make.
@@ -205,7 +198,7 @@ fn are_converted(rt: &impl Abort, rows: &[Converted]) {
 }
 
 #[test]
-fn conversions(rt: HostRuntime) -> Result<(), Fail> {
+fn conversions(rt: HostRuntime) {
     are_converted(
         &rt,
         &[
@@ -230,7 +223,6 @@ fn conversions(rt: HostRuntime) -> Result<(), Fail> {
             (Conversion::Swapped, Size::Word, (1, 2), (0, 0xffff_ffff)),
         ],
     );
-    Ok(())
 }
 
 /// A relation and two ranges, each before and after.
@@ -253,7 +245,7 @@ fn begin_and_end_with(rt: &impl Abort, words: &[u64]) {
 }
 
 #[test]
-fn equal_and_not_equal(rt: HostRuntime) -> Result<(), Fail> {
+fn equal_and_not_equal(rt: HostRuntime) {
     are_told(
         &rt,
         &[
@@ -273,11 +265,10 @@ fn equal_and_not_equal(rt: HostRuntime) -> Result<(), Fail> {
         ],
     );
     begin_and_end_with(&rt, &[3, 5, 9, MAX]);
-    Ok(())
 }
 
 #[test]
-fn order(rt: HostRuntime) -> Result<(), Fail> {
+fn order(rt: HostRuntime) {
     are_told(
         &rt,
         &[
@@ -297,7 +288,6 @@ fn order(rt: HostRuntime) -> Result<(), Fail> {
             (Relation::Overlapping, (3, 9), (3, 3), (3, 9), (3, 3)),
         ],
     );
-    Ok(())
 }
 
 /// The bounds of twice what is contained, whatever the domain.
@@ -306,7 +296,6 @@ fn twice<D: Domain>(value: D) -> Bounds {
 }
 
 #[test]
-fn through_the_trait(rt: HostRuntime) -> Result<(), Fail> {
+fn through_the_trait(rt: HostRuntime) {
     same(&rt, twice(range(&rt, (3, 9))), Bounds { low: 6, high: 18 });
-    Ok(())
 }

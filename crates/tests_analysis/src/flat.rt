@@ -5,7 +5,6 @@ use crate::checks::{same, same_at};
 use abs_domain::{Binary, Bits, Bounds, Conversion, Domain, Flat, Relation, Shift};
 use bpf_profile::Size;
 use std::process::Abort;
-use std::test::Fail;
 
 const ANY: Flat = Flat::Any;
 
@@ -27,7 +26,7 @@ fn words_are_operated(rt: &impl Abort, rows: &[Operated]) {
 }
 
 #[test]
-fn one_word_goes_through_each_operation(rt: HostRuntime) -> Result<(), Fail> {
+fn one_word_goes_through_each_operation(rt: HostRuntime) {
     words_are_operated(
         &rt,
         &[
@@ -43,7 +42,6 @@ fn one_word_goes_through_each_operation(rt: HostRuntime) -> Result<(), Fail> {
             (Binary::Xor, 0b1100, 0b1010, 0b0110),
         ],
     );
-    Ok(())
 }
 
 /// A shift, a word, and what eight bits make of it.
@@ -72,7 +70,7 @@ fn are_converted(rt: &impl Abort, rows: &[Converted]) {
 }
 
 #[test]
-fn one_word_is_shifted_and_converted(rt: HostRuntime) -> Result<(), Fail> {
+fn one_word_is_shifted_and_converted(rt: HostRuntime) {
     are_shifted(
         &rt,
         &[
@@ -94,16 +92,14 @@ fn one_word_is_shifted_and_converted(rt: HostRuntime) -> Result<(), Fail> {
             (Conversion::Swapped, Size::DoubleWord, 0xab89_6745_2301_0000),
         ],
     );
-    Ok(())
 }
 
 #[test]
-fn a_join_keeps_a_word_that_both_have(rt: HostRuntime) -> Result<(), Fail> {
+fn a_join_keeps_a_word_that_both_have(rt: HostRuntime) {
     same(&rt, Flat::One(3).join(Flat::One(3)), Flat::One(3));
     same(&rt, Flat::One(3).join(Flat::One(4)), ANY);
     same(&rt, Flat::One(3).join(ANY), ANY);
     same(&rt, ANY.join(Flat::One(3)), ANY);
-    Ok(())
 }
 
 /// Checks the bounds of what is known of a word.
@@ -124,7 +120,7 @@ fn has_low_zeros(rt: &impl Abort, value: Flat, count: u32, wanted: bool)
 }
 
 #[test]
-fn bounds_and_bits_are_those_of_the_word(rt: HostRuntime) -> Result<(), Fail> {
+fn bounds_and_bits_are_those_of_the_word(rt: HostRuntime) {
     let twelve = Flat::One(12);
     has_bounds(&rt, twelve, 12, 12);
     has_bounds(&rt, Flat::top(), 0, u64::MAX);
@@ -133,7 +129,6 @@ fn bounds_and_bits_are_those_of_the_word(rt: HostRuntime) -> Result<(), Fail> {
     has_low_zeros(&rt, twelve, 2, true);
     has_low_zeros(&rt, twelve, 3, false);
     has_low_zeros(&rt, ANY, 0, false);
-    Ok(())
 }
 
 /// A relation and two values, each before and after.
@@ -152,7 +147,7 @@ const FIVE: Flat = Flat::One(5);
 const SIX: Flat = Flat::One(6);
 
 #[test]
-fn equality_alone_refines(rt: HostRuntime) -> Result<(), Fail> {
+fn equality_alone_refines(rt: HostRuntime) {
     are_told(
         &rt,
         &[
@@ -177,5 +172,4 @@ fn equality_alone_refines(rt: HostRuntime) -> Result<(), Fail> {
         unknown: 0,
     };
     same(&rt, ANY.fix(one), ANY);
-    Ok(())
 }

@@ -5,7 +5,6 @@ use crate::checks::same;
 use abs_domain::{Binary, Bits, Both, Bounds, Conversion, Domain, Flat, Relation, Shift};
 use bpf_profile::Size;
 use std::process::Abort;
-use std::test::*;
 
 const ANY: Flat = Flat::Any;
 
@@ -40,7 +39,7 @@ fn are_equal(rt: &impl Abort, a: Two, b: Two, wanted: Two) {
 }
 
 #[test]
-fn each_part_takes_its_own_step(rt: HostRuntime) -> Result<(), Fail> {
+fn each_part_takes_its_own_step(rt: HostRuntime) {
     let a = both(Flat::One(6), ANY);
     let b = both(Flat::One(6), Flat::One(3));
     let c = both(ANY, Flat::One(3));
@@ -57,7 +56,6 @@ fn each_part_takes_its_own_step(rt: HostRuntime) -> Result<(), Fail> {
     same(&rt, a.fix(EVEN), a);
     same(&rt, Two::constant(7), both(Flat::One(7), Flat::One(7)));
     same(&rt, Two::top(), both(ANY, ANY));
-    Ok(())
 }
 
 /// Checks that the bounds are those of one word.
@@ -77,7 +75,7 @@ fn has_low_zeros(rt: &impl Abort, value: Two, count: u32, wanted: bool)
 }
 
 #[test]
-fn either_part_answers(rt: HostRuntime) -> Result<(), Fail> {
+fn either_part_answers(rt: HostRuntime) {
     let crossed = both(Flat::One(6), Flat::One(3));
     has_bounds(&rt, both(ANY, Flat::One(3)), 3);
     has_bounds(&rt, both(Flat::One(6), ANY), 6);
@@ -91,5 +89,4 @@ fn either_part_answers(rt: HostRuntime) -> Result<(), Fail> {
     has_low_zeros(&rt, both(Flat::One(6), ANY), 1, true);
     has_low_zeros(&rt, both(ANY, Flat::One(6)), 1, true);
     has_low_zeros(&rt, both(ANY, Flat::One(6)), 2, false);
-    Ok(())
 }

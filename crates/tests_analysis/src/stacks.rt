@@ -11,7 +11,6 @@ use stack_track::{Cell, StackState};
 use std::alloc::Global;
 use std::fmt::Debug;
 use std::process::Abort;
-use std::test::*;
 
 /// The bytes of a context.
 const CONTEXT: u64 = 128;
@@ -151,7 +150,7 @@ fn bytes_beside_are_unset(rt: &impl Abort, alloc: Global, size: Size) {
 }
 
 #[test]
-fn numbers_load_in_each_size(rt: HostRuntime) -> Result<(), Fail> {
+fn numbers_load_in_each_size(rt: HostRuntime) {
     let alloc = rt.alloc();
     let any = Ok(ANY);
     let seven = Ok(number(7));
@@ -164,7 +163,6 @@ fn numbers_load_in_each_size(rt: HostRuntime) -> Result<(), Fail> {
     bytes_beside_are_unset(&rt, alloc, Size::HalfWord);
     bytes_beside_are_unset(&rt, alloc, Size::Word);
     bytes_beside_are_unset(&rt, alloc, Size::DoubleWord);
-    Ok(())
 }
 
 /// Checks that of a pointer in the last cell no part is loaded, and that no part of one is stored.
@@ -194,11 +192,10 @@ fn is_loaded_whole(rt: &impl Abort, alloc: Global, pointer: AbsVal<Flat>) {
 }
 
 #[test]
-fn pointers_load_whole(rt: HostRuntime) -> Result<(), Fail> {
+fn pointers_load_whole(rt: HostRuntime) {
     let alloc = rt.alloc();
     is_loaded_whole(&rt, alloc, AbsVal::Stack(before(24)));
     is_loaded_whole(&rt, alloc, AbsVal::Context(Flat::One(4)));
-    Ok(())
 }
 
 /// Checks why nothing is loaded from an offset of the stack at the entry, and that nothing is stored there
@@ -244,7 +241,7 @@ const ALL_OUTSIDE: [RefusalNumber; 4] = [IS_OUTSIDE, IS_OUTSIDE, IS_OUTSIDE, IS_
 const ALL_BUT_ONE: [RefusalNumber; 4] = [IS_OUTSIDE, IS_MISALIGNED, IS_MISALIGNED, IS_MISALIGNED];
 
 #[test]
-fn offsets_are_aligned_and_inside(rt: HostRuntime) -> Result<(), Fail> {
+fn offsets_are_aligned_and_inside(rt: HostRuntime) {
     let alloc = rt.alloc();
     are_refused_before(
         &rt,
@@ -261,7 +258,6 @@ fn offsets_are_aligned_and_inside(rt: HostRuntime) -> Result<(), Fail> {
     are_refused(&rt, alloc, 0, &ALL_OUTSIDE);
     are_refused(&rt, alloc, 1, &ALL_BUT_ONE);
     are_refused(&rt, alloc, 1 << 63, &ALL_OUTSIDE);
-    Ok(())
 }
 
 /// The bytes of a context, an offset, a size, and what is loaded.
@@ -284,7 +280,7 @@ const OUTSIDE: Loaded<Flat> = Err(RefusalNumber::OutOfBounds);
 const MISALIGNED: Loaded<Flat> = Err(RefusalNumber::Misaligned);
 
 #[test]
-fn the_context_is_aligned_inside_and_read_only(rt: HostRuntime) -> Result<(), Fail> {
+fn the_context_is_aligned_inside_and_read_only(rt: HostRuntime) {
     let alloc = rt.alloc();
     are_loaded_of_context(
         &rt,
@@ -315,7 +311,6 @@ fn the_context_is_aligned_inside_and_read_only(rt: HostRuntime) -> Result<(), Fa
         Size::Word,
     );
     same(&rt, written, Some(RefusalNumber::ContextWrite));
-    Ok(())
 }
 
 /// Checks why an unset value is not stored at an offset.
@@ -339,13 +334,12 @@ fn unset_is_not_stored(
 }
 
 #[test]
-fn unset_values_are_not_stored(rt: HostRuntime) -> Result<(), Fail> {
+fn unset_values_are_not_stored(rt: HostRuntime) {
     let alloc = rt.alloc();
     for size in &SIZES {
         unset_is_not_stored(&rt, alloc, *size, before(8), RefusalNumber::UnsetRegister);
         unset_is_not_stored(&rt, alloc, *size, 8, RefusalNumber::OutOfBounds);
     }
-    Ok(())
 }
 
 /// Checks what is left of a value in the last cell once one byte of it is stored.
@@ -371,7 +365,7 @@ fn zeros_are_stored(
 }
 
 #[test]
-fn parts_keep_the_bytes_that_were_set(rt: HostRuntime) -> Result<(), Fail> {
+fn parts_keep_the_bytes_that_were_set(rt: HostRuntime) {
     let alloc = rt.alloc();
     part_is_kept(&rt, alloc, number(5), 255);
     part_is_kept(&rt, alloc, AbsVal::Stack(before(8)), 4);
@@ -384,7 +378,6 @@ fn parts_keep_the_bytes_that_were_set(rt: HostRuntime) -> Result<(), Fail> {
     same(&rt, load(&state, 8, Size::DoubleWord), Ok(ANY));
     let whole = store(state, 8, number(9), Size::DoubleWord);
     has_cell(&rt, alloc, &whole, 63, Cell::Kept(number(9)));
-    Ok(())
 }
 
 /// Checks the join of two stacks of which the last cell is known.
@@ -427,7 +420,7 @@ const SIX: Cell<Flat> = Cell::Kept(AbsVal::Number(Flat::One(6)));
 const NONE: Cell<Flat> = Cell::Bytes(0);
 
 #[test]
-fn cells_are_joined_by_kind(rt: HostRuntime) -> Result<(), Fail> {
+fn cells_are_joined_by_kind(rt: HostRuntime) {
     let alloc = rt.alloc();
     are_joined(
         &rt,
@@ -448,7 +441,6 @@ fn cells_are_joined_by_kind(rt: HostRuntime) -> Result<(), Fail> {
             (BYTE_4, START_OF_CONTEXT, ANY_OF_CONTEXT),
         ],
     );
-    Ok(())
 }
 
 /// The join of two stacks.
@@ -458,7 +450,7 @@ fn joined(mut state: StackState<Flat>, other: &StackState<Flat>) -> StackState<F
 }
 
 #[test]
-fn stacks_are_joined_cell_by_cell(rt: HostRuntime) -> Result<(), Fail> {
+fn stacks_are_joined_cell_by_cell(rt: HostRuntime) {
     let alloc = rt.alloc();
     let one = store(at_entry(&rt, alloc), 8, number(1), Size::DoubleWord);
     let both = store(copy(&rt, alloc, &one), 512, number(2), Size::Word);
@@ -468,7 +460,6 @@ fn stacks_are_joined_cell_by_cell(rt: HostRuntime) -> Result<(), Fail> {
     let again = joined(both, &store(one, 510, number(3), Size::HalfWord));
     has_cell(&rt, alloc, &again, 0, Cell::Bytes(12));
     has_cell(&rt, alloc, &again, 1, Cell::Bytes(0));
-    Ok(())
 }
 
 /// Checks whether each byte of a stretch is set.
@@ -480,7 +471,7 @@ fn stretch_is_set(rt: &impl Abort, state: &StackState<Flat>, place: u64, count: 
 }
 
 #[test]
-fn stretches_cross_cells(rt: HostRuntime) -> Result<(), Fail> {
+fn stretches_cross_cells(rt: HostRuntime) {
     let alloc = rt.alloc();
     let state = store(at_entry(&rt, alloc), 504, number(1), Size::DoubleWord);
     let mut written = copy(&rt, alloc, &state);
@@ -500,5 +491,4 @@ fn stretches_cross_cells(rt: HostRuntime) -> Result<(), Fail> {
     let mut all = state;
     all.write_stretch(0, 512);
     stretch_is_set(&rt, &all, 0, 512, true);
-    Ok(())
 }

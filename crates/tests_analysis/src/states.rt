@@ -147,6 +147,18 @@ fn sample(rt: &impl Abort, alloc: Global) -> AbsState<Flat> {
     }
 }
 
+/// The sample, but for one register.
+fn sample_with(
+    rt: &impl Abort,
+    alloc: Global,
+    register: Register,
+    value: AbsVal<Flat>,
+) -> AbsState<Flat> {
+    let mut changed = sample(rt, alloc);
+    changed.registers.set(register, value);
+    changed
+}
+
 /// What a load of a whole cell finds, the first cell's number being 0.
 fn cell_of(state: &AbsState<Flat>, cell: u64) -> Result<AbsVal<Flat>, RefusalNumber>
     requires { cell < 64 }

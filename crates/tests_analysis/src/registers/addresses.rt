@@ -5,7 +5,6 @@ use abs_domain::Flat;
 use abs_regs::{AbsVal, Address};
 use refusals::RefusalNumber;
 use std::process::Abort;
-use std::test::*;
 
 /// A value, a distance, and the address so far from it.
 type Moved = (AbsVal<Flat>, u64, Address<Flat>);
@@ -19,7 +18,7 @@ fn are_moved(rt: &impl Abort, rows: &[Moved]) {
 }
 
 #[test]
-fn pointers_are_moved_by_the_offset(rt: HostRuntime) -> Result<(), Fail> {
+fn pointers_are_moved_by_the_offset(rt: HostRuntime) {
     are_moved(
         &rt,
         &[
@@ -40,7 +39,6 @@ fn pointers_are_moved_by_the_offset(rt: HostRuntime) -> Result<(), Fail> {
             (AbsVal::Context(Flat::Any), 8, Address::Context(Flat::Any)),
         ],
     );
-    Ok(())
 }
 
 /// Checks that a value is no address, so far from it.
@@ -57,9 +55,8 @@ fn is_never_address(rt: &impl Abort, value: AbsVal<Flat>, refusal: RefusalNumber
 }
 
 #[test]
-fn other_values_are_no_addresses(rt: HostRuntime) -> Result<(), Fail> {
+fn other_values_are_no_addresses(rt: HostRuntime) {
     is_never_address(&rt, UNSET, RefusalNumber::UnsetRegister);
     is_never_address(&rt, EIGHT, RefusalNumber::NotPointer);
     is_never_address(&rt, ANY, RefusalNumber::NotPointer);
-    Ok(())
 }

@@ -6,7 +6,6 @@ use abs_regs::AbsVal;
 use bpf_profile::{ByteOrder, Operation, Size, Width};
 use refusals::RefusalNumber;
 use std::process::Abort;
-use std::test::*;
 
 type Value = AbsVal<Flat>;
 
@@ -75,12 +74,11 @@ fn unset_is_refused(rt: &impl Abort, operation: Operation, width: Width) {
 }
 
 #[test]
-fn unset_values_are_refused_first(rt: HostRuntime) -> Result<(), Fail> {
+fn unset_values_are_refused_first(rt: HostRuntime) {
     for operation in &[Operation::Add, Operation::Subtract, Operation::Multiply] {
         unset_is_refused(&rt, *operation, Width::Bits32);
         unset_is_refused(&rt, *operation, Width::Bits64);
     }
-    Ok(())
 }
 
 /// Checks that an operation takes no pointer beside a number.
@@ -94,19 +92,17 @@ fn pointers_are_refused(rt: &impl Abort, operation: Operation, width: Width) {
 }
 
 #[test]
-fn pointers_take_part_in_no_other_operation(rt: HostRuntime) -> Result<(), Fail> {
+fn pointers_take_part_in_no_other_operation(rt: HostRuntime) {
     for operation in &ON_NUMBERS_ALONE {
         pointers_are_refused(&rt, *operation, Width::Bits32);
         pointers_are_refused(&rt, *operation, Width::Bits64);
     }
-    Ok(())
 }
 
 #[test]
-fn sums_of_32_bits_take_no_pointer(rt: HostRuntime) -> Result<(), Fail> {
+fn sums_of_32_bits_take_no_pointer(rt: HostRuntime) {
     pointers_are_refused(&rt, Operation::Add, Width::Bits32);
     pointers_are_refused(&rt, Operation::Subtract, Width::Bits32);
-    Ok(())
 }
 
 /// Checks that an operation takes no two pointers.
@@ -119,7 +115,7 @@ fn two_pointers_are_refused(rt: &impl Abort, operation: Operation, width: Width)
 }
 
 #[test]
-fn differences_of_two_pointers_or_from_a_number_are_refused(rt: HostRuntime) -> Result<(), Fail> {
+fn differences_of_two_pointers_or_from_a_number_are_refused(rt: HostRuntime) {
     let (difference, whole) = (Operation::Subtract, Width::Bits64);
     let used = RefusalNumber::PointerUsed;
     is_refused(&rt, difference, whole, EIGHT, STACK, used);
@@ -130,16 +126,14 @@ fn differences_of_two_pointers_or_from_a_number_are_refused(rt: HostRuntime) -> 
         two_pointers_are_refused(&rt, *operation, Width::Bits32);
         two_pointers_are_refused(&rt, *operation, Width::Bits64);
     }
-    Ok(())
 }
 
 #[test]
-fn unknown_numbers_move_no_stack_pointer(rt: HostRuntime) -> Result<(), Fail> {
+fn unknown_numbers_move_no_stack_pointer(rt: HostRuntime) {
     let bad = RefusalNumber::BadPointerSum;
     is_refused(&rt, Operation::Add, Width::Bits64, STACK, ANY, bad);
     is_refused(&rt, Operation::Subtract, Width::Bits64, STACK, ANY, bad);
     is_refused(&rt, Operation::Add, Width::Bits64, ANY, STACK, bad);
-    Ok(())
 }
 
 /// An operation, its operands, and the pointer that it makes.
@@ -162,7 +156,7 @@ const THIRTY_TWO: Value = AbsVal::Number(Flat::One(32));
 const BACK_BY_16: Value = AbsVal::Number(Flat::One(MINUS_16));
 
 #[test]
-fn numbers_move_pointers(rt: HostRuntime) -> Result<(), Fail> {
+fn numbers_move_pointers(rt: HostRuntime) {
     are_moved(
         &rt,
         &[
@@ -212,7 +206,6 @@ fn numbers_move_pointers(rt: HostRuntime) -> Result<(), Fail> {
             ),
         ],
     );
-    Ok(())
 }
 
 /// An operation, its width, two words and what it makes of them.
@@ -230,7 +223,7 @@ fn are_computed(rt: &impl Abort, rows: &[Computed]) {
 }
 
 #[test]
-fn numbers_are_computed(rt: HostRuntime) -> Result<(), Fail> {
+fn numbers_are_computed(rt: HostRuntime) {
     are_computed(
         &rt,
         &[
@@ -243,7 +236,6 @@ fn numbers_are_computed(rt: HostRuntime) -> Result<(), Fail> {
             (Operation::Modulo, Width::Bits64, 8, 0, 8),
         ],
     );
-    Ok(())
 }
 
 type Found = Result<Value, RefusalNumber>;
@@ -279,7 +271,7 @@ const BACK_BY_8: Value = AbsVal::Number(Flat::One(MINUS_8));
 const HALF_BACK_BY_8: Value = AbsVal::Number(Flat::One(0xffff_fff8));
 
 #[test]
-fn moves_read_the_operand_alone(rt: HostRuntime) -> Result<(), Fail> {
+fn moves_read_the_operand_alone(rt: HostRuntime) {
     are_moved_anywhere(
         &rt,
         &[
@@ -295,7 +287,6 @@ fn moves_read_the_operand_alone(rt: HostRuntime) -> Result<(), Fail> {
             (Width::Bits32, CONTEXT, USED),
         ],
     );
-    Ok(())
 }
 
 /// A number for signs and byte orders.
@@ -320,7 +311,7 @@ fn are_reordered(rt: &impl Abort, rows: &[(ByteOrder, Size, u64)]) {
 }
 
 #[test]
-fn numbers_are_negated_extended_and_reordered(rt: HostRuntime) -> Result<(), Fail> {
+fn numbers_are_negated_extended_and_reordered(rt: HostRuntime) {
     are_extended(
         &rt,
         &[
@@ -347,7 +338,6 @@ fn numbers_are_negated_extended_and_reordered(rt: HostRuntime) -> Result<(), Fai
     same(&rt, ANY.negated(Width::Bits32), Ok(ANY));
     same(&rt, ANY.moved_signed(Width::Bits32, Size::Byte), Ok(ANY));
     same(&rt, ANY.converted(ByteOrder::Big, Size::Word), Ok(ANY));
-    Ok(())
 }
 
 /// Checks that no value is made of this one by a negation or by an extension of its sign.
@@ -373,9 +363,8 @@ fn is_no_number(rt: &impl Abort, value: Value, refusal: RefusalNumber) {
 }
 
 #[test]
-fn pointers_are_neither_negated_extended_nor_reordered(rt: HostRuntime) -> Result<(), Fail> {
+fn pointers_are_neither_negated_extended_nor_reordered(rt: HostRuntime) {
     is_no_number(&rt, UNSET, RefusalNumber::UnsetRegister);
     is_no_number(&rt, STACK, RefusalNumber::PointerUsed);
     is_no_number(&rt, CONTEXT, RefusalNumber::PointerUsed);
-    Ok(())
 }

@@ -8,7 +8,6 @@ use abs_regs::{AbsVal, RegFile};
 use bpf_profile::{Comparison, Operand, Register, Width};
 use refusals::RefusalNumber;
 use std::process::Abort;
-use std::test::*;
 
 type Pair = (AbsVal<Flat>, AbsVal<Flat>);
 
@@ -61,7 +60,7 @@ const SECOND_ANY: Pair = (EIGHT, ANY);
 const EIGHTS: Pair = (EIGHT, EIGHT);
 
 #[test]
-fn equal_registers_become_one_number(rt: HostRuntime) -> Result<(), Fail> {
+fn equal_registers_become_one_number(rt: HostRuntime) {
     are_told(
         &rt,
         &[
@@ -121,7 +120,6 @@ fn equal_registers_become_one_number(rt: HostRuntime) -> Result<(), Fail> {
             (Comparison::Equal, Width::Bits32, true, FIRST_ANY, FIRST_ANY),
         ],
     );
-    Ok(())
 }
 
 /// Checks what a comparison of any number in R2 with a word tells. R3 is compared with nothing.
@@ -155,7 +153,7 @@ const SEVEN: AbsVal<Flat> = AbsVal::Number(Flat::One(7));
 const MOST: AbsVal<Flat> = AbsVal::Number(Flat::One(u64::MAX));
 
 #[test]
-fn a_register_equal_to_a_word_becomes_it(rt: HostRuntime) -> Result<(), Fail> {
+fn a_register_equal_to_a_word_becomes_it(rt: HostRuntime) {
     are_told_of_one(
         &rt,
         &[
@@ -167,7 +165,6 @@ fn a_register_equal_to_a_word_becomes_it(rt: HostRuntime) -> Result<(), Fail> {
             (Comparison::Less, true, 7, ANY),
         ],
     );
-    Ok(())
 }
 
 /// Checks that a comparison of R2 with itself tells nothing.
@@ -185,13 +182,12 @@ fn never_tells(rt: &impl Abort, comparison: Comparison, before: Pair) {
 }
 
 #[test]
-fn of_a_register_and_itself_nothing_is_learnt(rt: HostRuntime) -> Result<(), Fail> {
+fn of_a_register_and_itself_nothing_is_learnt(rt: HostRuntime) {
     for before in &[FIRST_ANY, SECOND_ANY, (EIGHT, STACK)] {
         never_tells(&rt, Comparison::Equal, *before);
         never_tells(&rt, Comparison::Less, *before);
         never_tells(&rt, Comparison::BitsSet, *before);
     }
-    Ok(())
 }
 
 /// Checks that the same is known of these registers.
@@ -204,7 +200,7 @@ fn are_alike(rt: &impl Abort, one: RegFile<Flat>, other: RegFile<Flat>, numbers:
 }
 
 #[test]
-fn other_registers_stay(rt: HostRuntime) -> Result<(), Fail> {
+fn other_registers_stay(rt: HostRuntime) {
     let registers = having((ANY, EIGHT));
     let mut after = registers;
     let two = Register::new(2);
@@ -212,7 +208,6 @@ fn other_registers_stay(rt: HostRuntime) -> Result<(), Fail> {
         Ok(()) => are_alike(&rt, after, registers, &[0, 1, 4, 5, 6, 7, 8, 9, 10]),
         Err(refusal) => is_true_at(&rt, false, &refusal),
     }
-    Ok(())
 }
 
 /// Checks that a comparison of R2 with an operand is refused.
@@ -265,7 +260,7 @@ const UNSET_REGISTER: RefusalNumber = RefusalNumber::UnsetRegister;
 const USED: RefusalNumber = RefusalNumber::PointerUsed;
 
 #[test]
-fn comparisons_take_numbers_alone(rt: HostRuntime) -> Result<(), Fail> {
+fn comparisons_take_numbers_alone(rt: HostRuntime) {
     are_not_compared(
         &rt,
         &[
@@ -287,5 +282,4 @@ fn comparisons_take_numbers_alone(rt: HostRuntime) -> Result<(), Fail> {
     is_not_compared(&rt, UNSET, UNSET_REGISTER);
     is_not_compared(&rt, STACK, USED);
     is_not_compared(&rt, CONTEXT, USED);
-    Ok(())
 }

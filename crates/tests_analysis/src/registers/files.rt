@@ -5,7 +5,6 @@ use abs_domain::{Domain, Flat};
 use abs_regs::{AbsVal, RegFile};
 use bpf_profile::{Operand, Register};
 use std::process::Abort;
-use std::test::*;
 
 /// What is known of the register of a number.
 fn known<D: Domain>(rt: &impl Abort, registers: RegFile<D>, number: u8) -> AbsVal<D> {
@@ -28,7 +27,7 @@ const START: AbsVal<Flat> = AbsVal::Context(Flat::One(0));
 const END: AbsVal<Flat> = AbsVal::Stack(0);
 
 #[test]
-fn at_the_entry_two_pointers_are_known(rt: HostRuntime) -> Result<(), Fail> {
+fn at_the_entry_two_pointers_are_known(rt: HostRuntime) {
     are_known(
         &rt,
         RegFile::entry(),
@@ -36,7 +35,6 @@ fn at_the_entry_two_pointers_are_known(rt: HostRuntime) -> Result<(), Fail> {
             UNSET, START, UNSET, UNSET, UNSET, UNSET, UNSET, UNSET, UNSET, UNSET, END,
         ],
     );
-    Ok(())
 }
 
 /// Checks that one register has a value, and that the others have what they have at the entry.
@@ -54,11 +52,10 @@ fn one_is_set(rt: &impl Abort, set: u8) {
 }
 
 #[test]
-fn one_register_is_set(rt: HostRuntime) -> Result<(), Fail> {
+fn one_register_is_set(rt: HostRuntime) {
     for set in 0..11u8 {
         one_is_set(&rt, set);
     }
-    Ok(())
 }
 
 /// The join of two states.
@@ -88,13 +85,12 @@ fn second_path() -> RegFile<Flat> {
 }
 
 #[test]
-fn registers_are_joined_each_with_its_own(rt: HostRuntime) -> Result<(), Fail> {
+fn registers_are_joined_each_with_its_own(rt: HostRuntime) {
     let wanted = &[
         EIGHT, START, ANY, STACK, UNSET, UNSET, UNSET, UNSET, UNSET, UNSET, UNSET,
     ];
     are_known(&rt, joined(first_path(), second_path()), wanted);
     are_known(&rt, joined(second_path(), first_path()), wanted);
-    Ok(())
 }
 
 /// Checks what is read of an operand where the stack's address is in R2.
@@ -104,12 +100,11 @@ fn reads(rt: &impl Abort, operand: Operand, wanted: AbsVal<Flat>) {
 }
 
 #[test]
-fn operands_are_registers_or_words(rt: HostRuntime) -> Result<(), Fail> {
+fn operands_are_registers_or_words(rt: HostRuntime) {
     reads(&rt, Operand::Register(Register::new(2)), STACK);
     reads(&rt, Operand::Register(Register::new(0)), UNSET);
     // A word is taken whole: -1 of 32 bits is -1 of 64.
     reads(&rt, Operand::Immediate(u64::MAX), number(u64::MAX));
-    Ok(())
 }
 
 /// Checks that the same is known of each register.
@@ -121,9 +116,8 @@ fn are_alike(rt: &impl Abort, one: RegFile<Flat>, other: RegFile<Flat>) {
 }
 
 #[test]
-fn a_copy_is_the_same(rt: HostRuntime) -> Result<(), Fail> {
+fn a_copy_is_the_same(rt: HostRuntime) {
     let registers = RegFile::entry().with(Register::new(7), EIGHT);
-    let copy = registers.clone()?;
+    let copy = registers.clone().expect(&rt, "a copy");
     are_alike(&rt, copy, registers);
-    Ok(())
 }

@@ -5,7 +5,6 @@ use abs_domain::Flat;
 use abs_regs::AbsVal;
 use refusals::RefusalNumber;
 use std::process::Abort;
-use std::test::*;
 
 type Value = AbsVal<Flat>;
 
@@ -16,7 +15,7 @@ fn joins(rt: &impl Abort, a: Value, b: Value, joined: Value) {
 }
 
 #[test]
-fn values_of_one_kind_are_joined(rt: HostRuntime) -> Result<(), Fail> {
+fn values_of_one_kind_are_joined(rt: HostRuntime) {
     let any_of_context = AbsVal::Context(Flat::Any);
     let byte_25 = AbsVal::Context(Flat::One(25));
     joins(&rt, UNSET, UNSET, UNSET);
@@ -28,11 +27,10 @@ fn values_of_one_kind_are_joined(rt: HostRuntime) -> Result<(), Fail> {
     joins(&rt, CONTEXT, CONTEXT, CONTEXT);
     joins(&rt, CONTEXT, byte_25, any_of_context);
     joins(&rt, CONTEXT, any_of_context, any_of_context);
-    Ok(())
 }
 
 #[test]
-fn of_unlike_values_nothing_is_known(rt: HostRuntime) -> Result<(), Fail> {
+fn of_unlike_values_nothing_is_known(rt: HostRuntime) {
     // The offsets are the same, so the kinds alone tell the values apart.
     let number = EIGHT;
     let stack = AbsVal::Stack(8);
@@ -43,7 +41,6 @@ fn of_unlike_values_nothing_is_known(rt: HostRuntime) -> Result<(), Fail> {
     joins(&rt, number, stack, UNSET);
     joins(&rt, number, context, UNSET);
     joins(&rt, stack, context, UNSET);
-    Ok(())
 }
 
 /// Checks what is read of a value, as any and as a number.
@@ -58,7 +55,7 @@ fn reads(
 }
 
 #[test]
-fn values_are_read(rt: HostRuntime) -> Result<(), Fail> {
+fn values_are_read(rt: HostRuntime) {
     let unset = RefusalNumber::UnsetRegister;
     let used = RefusalNumber::PointerUsed;
     reads(&rt, UNSET, Err(unset), Err(unset));
@@ -66,5 +63,4 @@ fn values_are_read(rt: HostRuntime) -> Result<(), Fail> {
     reads(&rt, ANY, Ok(ANY), Ok(Flat::Any));
     reads(&rt, STACK, Ok(STACK), Err(used));
     reads(&rt, CONTEXT, Ok(CONTEXT), Err(used));
-    Ok(())
 }

@@ -1,5 +1,5 @@
 //! The end of a program (RFC 9669, section 4.3): its answer is a number of at most 2.
-use super::{ANY, CONTEXT, CONTEXT_SIZE, STACK, UNSET, copy, makes, number, sample, with};
+use super::{ANY, CONTEXT, CONTEXT_SIZE, STACK, UNSET, copy, makes, number, sample_with};
 use crate::checks::is_true_at;
 use abs_domain::Flat;
 use abs_regs::AbsVal;
@@ -7,17 +7,10 @@ use bpf_profile::{Instruction, Register};
 use refusals::RefusalNumber;
 use std::alloc::Global;
 use std::process::Abort;
-use std::test::*;
 
 /// Checks that a program may end with this answer, which changes nothing.
 fn is_answer(rt: &impl Abort, alloc: Global, answer: u64) {
-    let state = with(
-        rt,
-        alloc,
-        &sample(rt, alloc),
-        Register::new(0),
-        number(answer),
-    );
+    let state = sample_with(rt, alloc, Register::new(0), number(answer));
     let wanted = Ok(copy(rt, alloc, &state));
     let found = makes(rt, alloc, &state, CONTEXT_SIZE, &Instruction::Exit, &wanted);
     is_true_at(rt, found, &answer);
@@ -25,7 +18,7 @@ fn is_answer(rt: &impl Abort, alloc: Global, answer: u64) {
 
 /// Checks why a program may not end with this answer.
 fn is_no_answer(rt: &impl Abort, alloc: Global, answer: AbsVal<Flat>, refusal: RefusalNumber) {
-    let state = with(rt, alloc, &sample(rt, alloc), Register::new(0), answer);
+    let state = sample_with(rt, alloc, Register::new(0), answer);
     let found = makes(
         rt,
         alloc,
@@ -38,7 +31,7 @@ fn is_no_answer(rt: &impl Abort, alloc: Global, answer: AbsVal<Flat>, refusal: R
 }
 
 #[test]
-fn answers_are_numbers_of_at_most_two(rt: HostRuntime) -> Result<(), Fail> {
+fn answers_are_numbers_of_at_most_two(rt: HostRuntime) {
     let alloc = rt.alloc();
     is_answer(&rt, alloc, 0);
     is_answer(&rt, alloc, 1);
@@ -50,5 +43,4 @@ fn answers_are_numbers_of_at_most_two(rt: HostRuntime) -> Result<(), Fail> {
     is_no_answer(&rt, alloc, number(3), RefusalNumber::AnswerRange);
     is_no_answer(&rt, alloc, number(u64::MAX), RefusalNumber::AnswerRange);
     is_no_answer(&rt, alloc, ANY, RefusalNumber::AnswerRange);
-    Ok(())
 }

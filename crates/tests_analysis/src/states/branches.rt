@@ -1,7 +1,7 @@
 //! Conditional jumps (RFC 9669, section 4.3).
 use super::{
-    ANY, CONTEXT, CONTEXT_SIZE, EIGHT, STACK, UNSET, agree, makes, number, register, sample,
-    stored_before, transferred, with,
+    ANY, CONTEXT, CONTEXT_SIZE, EIGHT, STACK, UNSET, agree, makes, number, register, sample_with,
+    stored_before, transferred,
 };
 use crate::checks::is_true_at;
 use abs_domain::Flat;
@@ -11,7 +11,6 @@ use bpf_profile::{Comparison, Instruction, Operand, Register, Size, Width};
 use refusals::RefusalNumber;
 use std::alloc::Global;
 use std::process::Abort;
-use std::test::*;
 
 /// What is known of R2 and of R3.
 type Pair = (AbsVal<Flat>, AbsVal<Flat>);
@@ -34,8 +33,8 @@ fn compared(
     two: AbsVal<Flat>,
     three: AbsVal<Flat>,
 ) -> AbsState<Flat> {
-    let state = with(rt, alloc, &sample(rt, alloc), Register::new(2), two);
-    let state = with(rt, alloc, &state, Register::new(3), three);
+    let mut state = sample_with(rt, alloc, Register::new(2), two);
+    state.registers.set(Register::new(3), three);
     stored_before(rt, alloc, &state, 8, EIGHT, Size::DoubleWord)
 }
 
@@ -59,7 +58,7 @@ const ANY_AND_EIGHT: Pair = (ANY, EIGHT);
 const EIGHTS: Pair = (EIGHT, EIGHT);
 
 #[test]
-fn the_comparison_holds_at_the_target_alone(rt: HostRuntime) -> Result<(), Fail> {
+fn the_comparison_holds_at_the_target_alone(rt: HostRuntime) {
     let alloc = rt.alloc();
     are_left(
         &rt,
@@ -76,7 +75,6 @@ fn the_comparison_holds_at_the_target_alone(rt: HostRuntime) -> Result<(), Fail>
             (Comparison::Equal, Width::Bits32, false, ANY_AND_EIGHT),
         ],
     );
-    Ok(())
 }
 
 /// Checks what a comparison of any number in R2 with the word 7 leaves in R2, on one way.
@@ -112,12 +110,11 @@ fn tells_of_one(
 }
 
 #[test]
-fn a_comparison_with_a_word_tells_of_one_register(rt: HostRuntime) -> Result<(), Fail> {
+fn a_comparison_with_a_word_tells_of_one_register(rt: HostRuntime) {
     let alloc = rt.alloc();
     tells_of_one(&rt, alloc, Comparison::Equal, number(7), ANY);
     tells_of_one(&rt, alloc, Comparison::NotEqual, ANY, number(7));
     tells_of_one(&rt, alloc, Comparison::SignedGreater, ANY, ANY);
-    Ok(())
 }
 
 /// Checks why R2 and R3 aren't compared.
@@ -165,7 +162,7 @@ fn are_refused(rt: &impl Abort, alloc: Global, rows: &[Refused]) {
 }
 
 #[test]
-fn only_numbers_are_compared(rt: HostRuntime) -> Result<(), Fail> {
+fn only_numbers_are_compared(rt: HostRuntime) {
     let alloc = rt.alloc();
     are_refused(
         &rt,
@@ -182,5 +179,4 @@ fn only_numbers_are_compared(rt: HostRuntime) -> Result<(), Fail> {
             (CONTEXT, CONTEXT, RefusalNumber::PointerUsed),
         ],
     );
-    Ok(())
 }

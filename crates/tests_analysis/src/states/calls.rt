@@ -1,8 +1,8 @@
 //! Calls of helper functions (RFC 9669, section 4.3.1): the two that take a number, and what every call
 //! does to the registers.
 use super::{
-    ANY, CONTEXT, CONTEXT_SIZE, EIGHT, STACK, UNSET, before, makes, number, sample, stored_before,
-    with,
+    ANY, CONTEXT, CONTEXT_SIZE, EIGHT, STACK, UNSET, before, copy, makes, number, sample,
+    stored_before,
 };
 use crate::checks::is_true_at;
 use abs_domain::Flat;
@@ -12,7 +12,6 @@ use bpf_profile::{Instruction, Register, Size};
 use refusals::RefusalNumber;
 use std::alloc::Global;
 use std::process::Abort;
-use std::test::*;
 
 /// A state with the arguments in R1 and R2, values in every other register but R0, and the eight bytes
 /// 16 bytes before the stack's end set.
@@ -22,20 +21,22 @@ pub(super) fn called_with(
     one: AbsVal<Flat>,
     two: AbsVal<Flat>,
 ) -> AbsState<Flat> {
-    let state = with(rt, alloc, &sample(rt, alloc), Register::new(1), one);
-    let state = with(rt, alloc, &state, Register::new(2), two);
-    let state = with(rt, alloc, &state, Register::new(6), STACK);
-    let state = with(rt, alloc, &state, Register::new(7), CONTEXT);
-    let state = with(rt, alloc, &state, Register::new(8), EIGHT);
-    let state = with(rt, alloc, &state, Register::new(9), ANY);
-    stored_before(rt, alloc, &state, 16, EIGHT, Size::DoubleWord)
+    let mut state = stored_before(rt, alloc, &sample(rt, alloc), 16, EIGHT, Size::DoubleWord);
+    state.registers.set(Register::new(1), one);
+    state.registers.set(Register::new(2), two);
+    state.registers.set(Register::new(6), STACK);
+    state.registers.set(Register::new(7), CONTEXT);
+    state.registers.set(Register::new(8), EIGHT);
+    state.registers.set(Register::new(9), ANY);
+    state
 }
 
 /// The registers that are wanted after a call of a helper whose answer isn't known: R1 to R5 are unset.
 pub(super) fn after_call(rt: &impl Abort, alloc: Global, state: &AbsState<Flat>) -> AbsState<Flat> {
-    let mut after = with(rt, alloc, state, Register::new(0), ANY);
+    let mut after = copy(rt, alloc, state);
+    after.registers.set(Register::new(0), ANY);
     for number in 1..6u8 {
-        after = with(rt, alloc, &after, Register::new(number), UNSET);
+        after.registers.set(Register::new(number), UNSET);
     }
     after
 }
@@ -58,7 +59,7 @@ fn fact_is_refused(rt: &impl Abort, alloc: Global, one: AbsVal<Flat>, refusal: R
 }
 
 #[test]
-fn facts_have_the_numbers_0_to_15(rt: HostRuntime) -> Result<(), Fail> {
+fn facts_have_the_numbers_0_to_15(rt: HostRuntime) {
     let alloc = rt.alloc();
     for fact in &[0, 1, 15] {
         // The second argument isn't read.
@@ -73,7 +74,6 @@ fn facts_have_the_numbers_0_to_15(rt: HostRuntime) -> Result<(), Fail> {
     fact_is_refused(&rt, alloc, ANY, argument);
     fact_is_refused(&rt, alloc, STACK, argument);
     fact_is_refused(&rt, alloc, CONTEXT, argument);
-    Ok(())
 }
 
 /// The bytes of a context, a front byte, and whether it lies inside.
@@ -102,7 +102,7 @@ fn are_front_bytes(rt: &impl Abort, alloc: Global, rows: &[FrontByte]) {
 const MINUS_64: u64 = 0xffff_ffff_ffff_ffc0;
 
 #[test]
-fn front_bytes_lie_in_the_context_from_byte_64_on(rt: HostRuntime) -> Result<(), Fail> {
+fn front_bytes_lie_in_the_context_from_byte_64_on(rt: HostRuntime) {
     let alloc = rt.alloc();
     are_front_bytes(
         &rt,
@@ -123,7 +123,6 @@ fn front_bytes_lie_in_the_context_from_byte_64_on(rt: HostRuntime) -> Result<(),
             (128, MINUS_64, false),
         ],
     );
-    Ok(())
 }
 
 /// Checks why there is no front byte of this number, in a context of so many bytes.
@@ -148,14 +147,13 @@ fn is_no_front_byte(rt: &impl Abort, alloc: Global, one: AbsVal<Flat>, refusal: 
 }
 
 #[test]
-fn the_number_of_a_front_byte_is_known(rt: HostRuntime) -> Result<(), Fail> {
+fn the_number_of_a_front_byte_is_known(rt: HostRuntime) {
     let alloc = rt.alloc();
     let argument = RefusalNumber::HelperArgument;
     is_no_front_byte(&rt, alloc, UNSET, RefusalNumber::UnsetRegister);
     is_no_front_byte(&rt, alloc, ANY, argument);
     is_no_front_byte(&rt, alloc, STACK, argument);
     is_no_front_byte(&rt, alloc, CONTEXT, argument);
-    Ok(())
 }
 
 /// Checks that no helper of this number is known, whatever the arguments are.
@@ -168,7 +166,7 @@ fn is_unknown(rt: &impl Abort, alloc: Global, helper: u32, one: AbsVal<Flat>, tw
 }
 
 #[test]
-fn other_helpers_are_unknown(rt: HostRuntime) -> Result<(), Fail> {
+fn other_helpers_are_unknown(rt: HostRuntime) {
     let alloc = rt.alloc();
     // The helper is asked for before its arguments.
     for helper in &[0, 5, 6, 0x101, u32::MAX] {
@@ -176,5 +174,4 @@ fn other_helpers_are_unknown(rt: HostRuntime) -> Result<(), Fail> {
         is_unknown(&rt, alloc, *helper, number(1), EIGHT);
         is_unknown(&rt, alloc, *helper, before(16), EIGHT);
     }
-    Ok(())
 }

@@ -14,7 +14,6 @@ use refusals::RefusalNumber;
 use stack_track::StackState;
 use std::alloc::Global;
 use std::process::Abort;
-use std::test::*;
 
 /// The same state with these values stored into cells 0 to 3.
 fn with_cells(
@@ -61,7 +60,7 @@ fn no_cell_is_known(rt: &impl Abort, state: &AbsState<Flat>) {
 }
 
 #[test]
-fn at_the_entry_two_pointers_are_known(rt: HostRuntime) -> Result<(), Fail> {
+fn at_the_entry_two_pointers_are_known(rt: HostRuntime) {
     let alloc = rt.alloc();
     let entry = at_entry(&rt, alloc);
     are_known(
@@ -72,7 +71,6 @@ fn at_the_entry_two_pointers_are_known(rt: HostRuntime) -> Result<(), Fail> {
         ],
     );
     no_cell_is_known(&rt, &entry);
-    Ok(())
 }
 
 fn first_path(rt: &impl Abort, alloc: Global) -> AbsState<Flat> {
@@ -128,7 +126,7 @@ fn is_joined(rt: &impl Abort, state: &AbsState<Flat>) {
 }
 
 #[test]
-fn registers_and_stacks_are_joined(rt: HostRuntime) -> Result<(), Fail> {
+fn registers_and_stacks_are_joined(rt: HostRuntime) {
     let alloc = rt.alloc();
     is_joined(
         &rt,
@@ -138,11 +136,17 @@ fn registers_and_stacks_are_joined(rt: HostRuntime) -> Result<(), Fail> {
         &rt,
         &joined(second_path(&rt, alloc), &first_path(&rt, alloc)),
     );
-    Ok(())
+}
+
+/// Checks that the same is known of a state and of one that is copied from it.
+fn is_copied(rt: &impl Abort, mut copied: AbsState<Flat>, state: &AbsState<Flat>) {
+    copied.copy_from(state);
+    is_true(rt, registers_are_alike(&copied, state));
+    is_true(rt, stacks_are_alike(&copied, state));
 }
 
 #[test]
-fn a_copy_is_the_same(rt: HostRuntime) -> Result<(), Fail> {
+fn a_copy_is_the_same(rt: HostRuntime) {
     let alloc = rt.alloc();
     let state = with_cells(
         &rt,
@@ -150,13 +154,7 @@ fn a_copy_is_the_same(rt: HostRuntime) -> Result<(), Fail> {
         &sample(&rt, alloc),
         [EIGHT, ANY, STACK, CONTEXT],
     );
-    let copied = copy(&rt, alloc, &state);
-    is_true(&rt, registers_are_alike(&copied, &state));
-    is_true(&rt, stacks_are_alike(&copied, &state));
+    is_copied(&rt, at_entry(&rt, alloc), &state);
     // What was there before is forgotten.
-    let mut other = second_path(&rt, alloc);
-    other.copy_from(&at_entry(&rt, alloc));
-    is_true(&rt, registers_are_alike(&other, &at_entry(&rt, alloc)));
-    is_true(&rt, stacks_are_alike(&other, &at_entry(&rt, alloc)));
-    Ok(())
+    is_copied(&rt, second_path(&rt, alloc), &at_entry(&rt, alloc));
 }

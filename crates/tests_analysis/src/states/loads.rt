@@ -1,7 +1,7 @@
 //! Loads (RFC 9669, sections 5.1 and 5.2).
 use super::{
     ANY, BEFORE_START, CONTEXT, CONTEXT_SIZE, EIGHT, END, MINUS_1, MINUS_8, STACK, START, UNSET,
-    makes, sample, stored_before, with,
+    makes, sample_with, stored_before, with,
 };
 use crate::checks::{is_true, is_true_at};
 use abs_domain::Flat;
@@ -11,7 +11,6 @@ use bpf_profile::{Extension, Instruction, Register, Size};
 use refusals::RefusalNumber;
 use std::alloc::Global;
 use std::process::Abort;
-use std::test::*;
 
 /// A load of R2 through R4.
 fn load(size: Size, extension: Extension, offset: u64) -> Instruction {
@@ -26,7 +25,7 @@ fn load(size: Size, extension: Extension, offset: u64) -> Instruction {
 
 /// The sample with this value in R4.
 fn based(rt: &impl Abort, alloc: Global, base: AbsVal<Flat>) -> AbsState<Flat> {
-    with(rt, alloc, &sample(rt, alloc), Register::new(4), base)
+    sample_with(rt, alloc, Register::new(4), base)
 }
 
 /// The sample with the end of the stack in R4, in the cell before it a value, and in the cell before that
@@ -58,7 +57,7 @@ fn are_refused(rt: &impl Abort, alloc: Global, rows: &[Refused]) {
 }
 
 #[test]
-fn addresses_are_refused(rt: HostRuntime) -> Result<(), Fail> {
+fn addresses_are_refused(rt: HostRuntime) {
     let alloc = rt.alloc();
     are_refused(
         &rt,
@@ -118,7 +117,6 @@ fn addresses_are_refused(rt: HostRuntime) -> Result<(), Fail> {
             (START, Size::Byte, 511, RefusalNumber::UnsetStack),
         ],
     );
-    Ok(())
 }
 
 /// A base, a size, how the word is extended, and an offset.
@@ -140,7 +138,7 @@ fn make_any_number(rt: &impl Abort, alloc: Global, rows: &[OfLoad]) {
 const MINUS_24: u64 = 0xffff_ffff_ffff_ffe8;
 
 #[test]
-fn numbers_are_loaded_from_the_context(rt: HostRuntime) -> Result<(), Fail> {
+fn numbers_are_loaded_from_the_context(rt: HostRuntime) {
     let alloc = rt.alloc();
     make_any_number(
         &rt,
@@ -186,7 +184,6 @@ fn numbers_are_loaded_from_the_context(rt: HostRuntime) -> Result<(), Fail> {
             ),
         ],
     );
-    Ok(())
 }
 
 /// The bytes of a context, an offset, and whether it is inside.
@@ -207,7 +204,7 @@ fn have_bytes(rt: &impl Abort, alloc: Global, rows: &[OfContext]) {
 }
 
 #[test]
-fn the_context_has_so_many_bytes(rt: HostRuntime) -> Result<(), Fail> {
+fn the_context_has_so_many_bytes(rt: HostRuntime) {
     let alloc = rt.alloc();
     have_bytes(
         &rt,
@@ -221,7 +218,6 @@ fn the_context_has_so_many_bytes(rt: HostRuntime) -> Result<(), Fail> {
             (0, 0, false),
         ],
     );
-    Ok(())
 }
 
 /// Checks what is loaded where a value was stored.
@@ -274,7 +270,7 @@ const MINUS_16: u64 = 0xffff_ffff_ffff_fff0;
 const MINUS_20: u64 = 0xffff_ffff_ffff_ffec;
 
 #[test]
-fn values_are_loaded_from_the_stack(rt: HostRuntime) -> Result<(), Fail> {
+fn values_are_loaded_from_the_stack(rt: HostRuntime) {
     let alloc = rt.alloc();
     are_loaded(
         &rt,
@@ -297,11 +293,10 @@ fn values_are_loaded_from_the_stack(rt: HostRuntime) -> Result<(), Fail> {
             (EIGHT, Size::Word, MINUS_20, UNSET_BYTE),
         ],
     );
-    Ok(())
 }
 
 #[test]
-fn a_load_may_replace_its_base(rt: HostRuntime) -> Result<(), Fail> {
+fn a_load_may_replace_its_base(rt: HostRuntime) {
     let alloc = rt.alloc();
     let four = Register::new(4);
     let instruction = Instruction::Load {
@@ -317,5 +312,4 @@ fn a_load_may_replace_its_base(rt: HostRuntime) -> Result<(), Fail> {
         &rt,
         makes(&rt, alloc, &state, CONTEXT_SIZE, &instruction, &wanted),
     );
-    Ok(())
 }

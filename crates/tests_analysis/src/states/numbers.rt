@@ -2,7 +2,8 @@
 ghost use Rattle.std.specs.Prelude.{◌<◌};
 
 use super::{
-    CONTEXT, CONTEXT_SIZE, MINUS_1, MINUS_8, STACK, makes, minus, number, register, sample, with,
+    CONTEXT, CONTEXT_SIZE, MINUS_1, MINUS_8, STACK, makes, minus, number, register, sample,
+    sample_with, with,
 };
 use crate::checks::is_true_at;
 use abs_domain::Flat;
@@ -11,7 +12,6 @@ use bpf_profile::{ByteOrder, Instruction, Operand, Operation, Register, Size, Wi
 use refusals::RefusalNumber;
 use std::alloc::Global;
 use std::process::Abort;
-use std::test::*;
 
 /// Checks what an instruction puts into its destination.
 fn has_result(
@@ -21,7 +21,7 @@ fn has_result(
     destination: Register,
     value: AbsVal<Flat>,
 ) {
-    let wanted = Ok(with(rt, alloc, &sample(rt, alloc), destination, value));
+    let wanted = Ok(sample_with(rt, alloc, destination, value));
     let found = makes(
         rt,
         alloc,
@@ -95,7 +95,7 @@ const BEFORE_8: AbsVal<Flat> = AbsVal::Stack(MINUS_8);
 const BEFORE_24: AbsVal<Flat> = AbsVal::Stack(0xffff_ffff_ffff_ffe8);
 
 #[test]
-fn a_result_is_in_its_destination(rt: HostRuntime) -> Result<(), Fail> {
+fn a_result_is_in_its_destination(rt: HostRuntime) {
     let alloc = rt.alloc();
     words_are_computed(
         &rt,
@@ -122,7 +122,6 @@ fn a_result_is_in_its_destination(rt: HostRuntime) -> Result<(), Fail> {
             (Operation::Move, 4, 5, CONTEXT),
         ],
     );
-    Ok(())
 }
 
 /// Checks why an operation with an operand is refused.
@@ -165,7 +164,7 @@ const USED: RefusalNumber = RefusalNumber::PointerUsed;
 const BAD_SUM: RefusalNumber = RefusalNumber::BadPointerSum;
 
 #[test]
-fn operands_are_refused(rt: HostRuntime) -> Result<(), Fail> {
+fn operands_are_refused(rt: HostRuntime) {
     let alloc = rt.alloc();
     let (half, whole) = (Width::Bits32, Width::Bits64);
     let (one, eight) = (Operand::Immediate(1), Operand::Immediate(8));
@@ -186,7 +185,6 @@ fn operands_are_refused(rt: HostRuntime) -> Result<(), Fail> {
             (Operation::Add, Width::Bits64, 4, 3, BAD_SUM),
         ],
     );
-    Ok(())
 }
 
 /// A negation.
@@ -224,20 +222,14 @@ fn converts(
     destination: Register,
     wanted: u64,
 ) {
-    let state = with(
-        rt,
-        alloc,
-        &sample(rt, alloc),
-        Register::new(2),
-        number(0x1234_8091),
-    );
+    let state = sample_with(rt, alloc, Register::new(2), number(0x1234_8091));
     let wanted = Ok(with(rt, alloc, &state, destination, number(wanted)));
     let found = makes(rt, alloc, &state, CONTEXT_SIZE, instruction, &wanted);
     is_true_at(rt, found, instruction);
 }
 
 #[test]
-fn numbers_are_negated_extended_and_reordered(rt: HostRuntime) -> Result<(), Fail> {
+fn numbers_are_negated_extended_and_reordered(rt: HostRuntime) {
     let alloc = rt.alloc();
     let two = Register::new(2);
     let six = Register::new(6);
@@ -250,7 +242,6 @@ fn numbers_are_negated_extended_and_reordered(rt: HostRuntime) -> Result<(), Fai
     converts(&rt, alloc, &big, two, 0x9180_3412);
     let little = convert(ByteOrder::Little, Size::HalfWord, two);
     converts(&rt, alloc, &little, two, 0x8091);
-    Ok(())
 }
 
 /// Checks why what is in a register is neither negated, extended nor reordered.
@@ -266,12 +257,11 @@ fn is_no_number(rt: &impl Abort, alloc: Global, source: u8, refusal: RefusalNumb
 }
 
 #[test]
-fn only_numbers_are_negated_extended_and_reordered(rt: HostRuntime) -> Result<(), Fail> {
+fn only_numbers_are_negated_extended_and_reordered(rt: HostRuntime) {
     let alloc = rt.alloc();
     is_no_number(&rt, alloc, 6, RefusalNumber::UnsetRegister);
     is_no_number(&rt, alloc, 4, RefusalNumber::PointerUsed);
     is_no_number(&rt, alloc, 5, RefusalNumber::PointerUsed);
-    Ok(())
 }
 
 /// Checks that an immediate of 64 bits is in its destination.
@@ -281,7 +271,7 @@ fn is_replaced(rt: &impl Abort, alloc: Global, destination: Register, value: u64
 }
 
 #[test]
-fn an_immediate_of_64_bits_replaces_any_value(rt: HostRuntime) -> Result<(), Fail> {
+fn an_immediate_of_64_bits_replaces_any_value(rt: HostRuntime) {
     let alloc = rt.alloc();
     // R10 is never written.
     for register_number in 0..10u8 {
@@ -290,7 +280,6 @@ fn an_immediate_of_64_bits_replaces_any_value(rt: HostRuntime) -> Result<(), Fai
         is_replaced(&rt, alloc, destination, 0x1_0000_0001);
         is_replaced(&rt, alloc, destination, u64::MAX);
     }
-    Ok(())
 }
 
 /// Checks that a jump changes nothing.
@@ -308,9 +297,8 @@ fn changes_nothing(rt: &impl Abort, alloc: Global, width: Width) {
 }
 
 #[test]
-fn a_jump_changes_nothing(rt: HostRuntime) -> Result<(), Fail> {
+fn a_jump_changes_nothing(rt: HostRuntime) {
     let alloc = rt.alloc();
     changes_nothing(&rt, alloc, Width::Bits32);
     changes_nothing(&rt, alloc, Width::Bits64);
-    Ok(())
 }

@@ -6,7 +6,6 @@ use bpf_profile::{Comparison, Extension, Instruction, Operand, Operation, Regist
 use refusals::RefusalNumber;
 use std::alloc::Global;
 use std::process::Abort;
-use std::test::*;
 
 /// A store of one byte so many bytes before the stack's end.
 fn store_byte(bytes_before: u64, byte: u64) -> Instruction {
@@ -70,7 +69,7 @@ fn count_two() -> Instruction {
 }
 
 #[test]
-fn a_tag_is_compared_with_two_bytes(rt: HostRuntime) -> Result<(), Fail> {
+fn a_tag_is_compared_with_two_bytes(rt: HostRuntime) {
     let alloc = rt.alloc();
     ends(
         &rt,
@@ -98,7 +97,6 @@ fn a_tag_is_compared_with_two_bytes(rt: HostRuntime) -> Result<(), Fail> {
         ],
         Some(RefusalNumber::HelperArgument),
     );
-    Ok(())
 }
 
 /// A load of a byte or a word from the context.
@@ -135,7 +133,7 @@ fn answers(rt: &impl Abort, alloc: Global, comparison: Comparison, wanted: Optio
 }
 
 #[test]
-fn an_answer_is_known_where_it_was_compared(rt: HostRuntime) -> Result<(), Fail> {
+fn an_answer_is_known_where_it_was_compared(rt: HostRuntime) {
     let alloc = rt.alloc();
     answers(&rt, alloc, Comparison::NotEqual, None);
     answers(
@@ -144,7 +142,6 @@ fn an_answer_is_known_where_it_was_compared(rt: HostRuntime) -> Result<(), Fail>
         Comparison::Equal,
         Some(RefusalNumber::AnswerRange),
     );
-    Ok(())
 }
 
 /// Checks whether the context is still at hand in a register, once R6 keeps it and a helper is called.
@@ -157,7 +154,7 @@ fn is_kept(rt: &impl Abort, alloc: Global, base: Register, wanted: Option<Refusa
 }
 
 #[test]
-fn the_context_is_kept_over_a_call(rt: HostRuntime) -> Result<(), Fail> {
+fn the_context_is_kept_over_a_call(rt: HostRuntime) {
     let alloc = rt.alloc();
     is_kept(&rt, alloc, Register::new(6), None);
     is_kept(
@@ -166,5 +163,4 @@ fn the_context_is_kept_over_a_call(rt: HostRuntime) -> Result<(), Fail> {
         Register::new(1),
         Some(RefusalNumber::UnsetRegister),
     );
-    Ok(())
 }

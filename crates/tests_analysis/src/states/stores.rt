@@ -3,8 +3,8 @@ ghost use Rattle.std.specs.Prelude.{◌<◌};
 
 use super::{
     ANY, BEFORE_START, CONTEXT, CONTEXT_SIZE, EIGHT, END, Found, MINUS_1, MINUS_8, MINUS_512,
-    STACK, START, UNSET, cell_of, makes, minus, number, register, registers_are_alike, sample,
-    set_bytes_are, transferred, with,
+    STACK, START, UNSET, cell_of, makes, minus, number, register, registers_are_alike, sample_with,
+    set_bytes_are, transferred,
 };
 use crate::checks::{is_true, is_true_at, same_at};
 use abs_domain::Flat;
@@ -14,7 +14,6 @@ use bpf_profile::{Instruction, Operand, Register, Size};
 use refusals::RefusalNumber;
 use std::alloc::Global;
 use std::process::Abort;
-use std::test::*;
 
 const SIZES: [Size; 4] = [Size::Byte, Size::HalfWord, Size::Word, Size::DoubleWord];
 
@@ -35,8 +34,9 @@ fn based(
     base: AbsVal<Flat>,
     value: AbsVal<Flat>,
 ) -> AbsState<Flat> {
-    let state = with(rt, alloc, &sample(rt, alloc), Register::new(4), base);
-    with(rt, alloc, &state, Register::new(6), value)
+    let mut state = sample_with(rt, alloc, Register::new(4), base);
+    state.registers.set(Register::new(6), value);
+    state
 }
 
 /// What is known once R6 is stored.
@@ -84,7 +84,7 @@ fn is_unset(rt: &impl Abort, alloc: Global, base: AbsVal<Flat>, value: AbsVal<Fl
 }
 
 #[test]
-fn base_and_value_are_set_before_all_else(rt: HostRuntime) -> Result<(), Fail> {
+fn base_and_value_are_set_before_all_else(rt: HostRuntime) {
     let alloc = rt.alloc();
     is_unset(&rt, alloc, UNSET, UNSET);
     is_unset(&rt, alloc, UNSET, EIGHT);
@@ -100,7 +100,6 @@ fn base_and_value_are_set_before_all_else(rt: HostRuntime) -> Result<(), Fail> {
         &rt,
         makes(&rt, alloc, &state, CONTEXT_SIZE, &instruction, &unset),
     );
-    Ok(())
 }
 
 /// A base, a value, a size, an offset, and why a store of these is refused.
@@ -115,7 +114,7 @@ fn are_refused(rt: &impl Abort, alloc: Global, rows: &[Refused]) {
 }
 
 #[test]
-fn faults_come_in_their_order(rt: HostRuntime) -> Result<(), Fail> {
+fn faults_come_in_their_order(rt: HostRuntime) {
     let alloc = rt.alloc();
     are_refused(
         &rt,
@@ -171,7 +170,27 @@ fn faults_come_in_their_order(rt: HostRuntime) -> Result<(), Fail> {
             (STACK, CONTEXT, Size::Word, 12, RefusalNumber::PointerUsed),
         ],
     );
-    Ok(())
+}
+
+/// Checks that a value is in its cell.
+fn has_cell(rt: &impl Abort, found: &Found, cell: u64, value: AbsVal<Flat>)
+    requires { cell < 64 }
+{
+    match found {
+        Ok(after) => same_at(rt, cell_of(after, cell), Ok(value), &cell),
+        Err(refusal) => is_true_at(rt, false, (&cell, &value, refusal)),
+    }
+}
+
+/// Checks which bytes are set, and that no register is changed.
+fn has_bytes(rt: &impl Abort, found: &Found, state: &AbsState<Flat>, first: u64, end: u64) {
+    match found {
+        Ok(after) => {
+            is_true_at(rt, set_bytes_are(after, first, end), (&first, &end));
+            is_true_at(rt, registers_are_alike(after, state), (&first, &end));
+        }
+        Err(refusal) => is_true_at(rt, false, (&first, &end, refusal)),
+    }
 }
 
 /// Checks that a value is in its cell once it is stored, that its bytes are set where it is a number, and
@@ -187,18 +206,13 @@ fn is_stored(
     requires { cell < 64 }
 {
     let state = based(rt, alloc, base, value);
+    let found = stored(rt, alloc, &state, Size::DoubleWord, offset);
+    has_cell(rt, &found, cell, value);
     let (first, end) = match value {
         AbsVal::Number(_) => (8 * cell, 8 * cell + 8),
         _ => (0, 0),
     };
-    match stored(rt, alloc, &state, Size::DoubleWord, offset) {
-        Ok(after) => {
-            same_at(rt, cell_of(&after, cell), Ok(value), (&base, &offset));
-            is_true_at(rt, registers_are_alike(&after, &state), (&base, &offset));
-            is_true_at(rt, set_bytes_are(&after, first, end), (&base, &value));
-        }
-        Err(refusal) => is_true_at(rt, false, (&base, &value, &refusal)),
-    }
+    has_bytes(rt, &found, &state, first, end);
 }
 
 /// Checks that values of each kind are stored.
@@ -212,36 +226,30 @@ fn are_stored(rt: &impl Abort, alloc: Global, base: AbsVal<Flat>, offset: u64, c
 }
 
 #[test]
-fn values_are_stored_whole(rt: HostRuntime) -> Result<(), Fail> {
+fn values_are_stored_whole(rt: HostRuntime) {
     let alloc = rt.alloc();
     are_stored(&rt, alloc, END, MINUS_8, 63);
     are_stored(&rt, alloc, END, MINUS_512, 0);
     are_stored(&rt, alloc, STACK, 0, 62);
     are_stored(&rt, alloc, STACK, 8, 63);
     are_stored(&rt, alloc, START, 16, 2);
-    Ok(())
 }
 
-/// Checks that a word is in its cell once it is stored, and that no register is changed.
+/// Checks that a word is in its cell once it is stored, and no other byte is set, and that no register is changed.
 fn immediate_is_stored(rt: &impl Abort, alloc: Global, word: u64) {
     let state = based(rt, alloc, STACK, UNSET);
     let instruction = store(Size::DoubleWord, 8, Operand::Immediate(word));
-    match transferred(rt, alloc, &state, CONTEXT_SIZE, true, &instruction) {
-        Ok(after) => {
-            same_at(rt, cell_of(&after, 63), Ok(number(word)), &word);
-            is_true_at(rt, registers_are_alike(&after, &state), &word);
-        }
-        Err(refusal) => is_true_at(rt, false, (&word, &refusal)),
-    }
+    let found = transferred(rt, alloc, &state, CONTEXT_SIZE, true, &instruction);
+    has_cell(rt, &found, 63, number(word));
+    has_bytes(rt, &found, &state, 504, 512);
 }
 
 #[test]
-fn an_immediate_is_stored_whole(rt: HostRuntime) -> Result<(), Fail> {
+fn an_immediate_is_stored_whole(rt: HostRuntime) {
     let alloc = rt.alloc();
     immediate_is_stored(&rt, alloc, 0);
     immediate_is_stored(&rt, alloc, 7);
     immediate_is_stored(&rt, alloc, u64::MAX);
-    Ok(())
 }
 
 /// Checks which bytes are set once the low ones of a number are stored, and that no register is changed.
@@ -255,13 +263,8 @@ fn sets_bytes(
     end: u64,
 ) {
     let state = based(rt, alloc, STACK, value);
-    match stored(rt, alloc, &state, size, offset) {
-        Ok(after) => {
-            is_true_at(rt, set_bytes_are(&after, first, end), (&size, &offset));
-            is_true_at(rt, registers_are_alike(&after, &state), (&size, &offset));
-        }
-        Err(refusal) => is_true_at(rt, false, (&size, &offset, &refusal)),
-    }
+    let found = stored(rt, alloc, &state, size, offset);
+    has_bytes(rt, &found, &state, first, end);
 }
 
 /// Checks which bytes are set once the low ones of a number are stored, whether it is known or not.
@@ -271,12 +274,11 @@ fn both_set_bytes(rt: &impl Abort, alloc: Global, size: Size, offset: u64, first
 }
 
 #[test]
-fn low_bytes_of_numbers_are_stored(rt: HostRuntime) -> Result<(), Fail> {
+fn low_bytes_of_numbers_are_stored(rt: HostRuntime) {
     let alloc = rt.alloc();
     both_set_bytes(&rt, alloc, Size::Byte, 15, 511, 512);
     both_set_bytes(&rt, alloc, Size::Byte, 0, 496, 497);
     both_set_bytes(&rt, alloc, Size::HalfWord, 2, 498, 500);
     both_set_bytes(&rt, alloc, Size::Word, 4, 500, 504);
     both_set_bytes(&rt, alloc, Size::Word, minus(496), 0, 4);
-    Ok(())
 }

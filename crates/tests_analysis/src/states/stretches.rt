@@ -3,9 +3,9 @@ use super::calls::{after_call, called_with};
 use super::{
     ANY, BEFORE_START, CONTEXT, CONTEXT_SIZE, EIGHT, END, Found, MINUS_1, STACK, UNSET, agree,
     at_entry, before, makes, number, registers_are_alike, sample, set_bytes_are, stored_before,
-    transferred, with,
+    transferred,
 };
-use crate::checks::is_true_at;
+use crate::checks::{is_true, is_true_at};
 use abs_domain::Flat;
 use abs_regs::AbsVal;
 use abs_states::AbsState;
@@ -13,7 +13,6 @@ use bpf_profile::{Instruction, Register, Size};
 use refusals::RefusalNumber;
 use std::alloc::Global;
 use std::process::Abort;
-use std::test::*;
 
 /// A state with nothing known of the stack but for a value in the cell 16 bytes before its end.
 fn kept(
@@ -82,7 +81,7 @@ const BEFORE_64: AbsVal<Flat> = AbsVal::Stack(0xffff_ffff_ffff_ffc0);
 const BEFORE_520: AbsVal<Flat> = AbsVal::Stack(0xffff_ffff_ffff_fdf8);
 
 #[test]
-fn arguments_are_refused_in_their_order(rt: HostRuntime) -> Result<(), Fail> {
+fn arguments_are_refused_in_their_order(rt: HostRuntime) {
     let alloc = rt.alloc();
     are_refused(
         &rt,
@@ -156,7 +155,22 @@ fn arguments_are_refused_in_their_order(rt: HostRuntime) -> Result<(), Fail> {
             (AbsVal::Stack(1 << 63), ONE, RefusalNumber::HelperArgument),
         ],
     );
-    Ok(())
+}
+
+/// Checks which bytes are set.
+fn has_bytes(rt: &impl Abort, found: &Found, first: u64, end: u64) {
+    match found {
+        Ok(after) => is_true_at(rt, set_bytes_are(after, first, end), (&first, &end)),
+        Err(refusal) => is_true_at(rt, false, (&first, &end, refusal)),
+    }
+}
+
+/// Checks what is known of the registers behind a call.
+fn is_called(rt: &impl Abort, found: &Found, called: &AbsState<Flat>) {
+    match found {
+        Ok(after) => is_true(rt, registers_are_alike(after, called)),
+        Err(refusal) => is_true_at(rt, false, refusal),
+    }
 }
 
 /// Checks which bytes a copied tag sets, and what is known of the registers then.
@@ -165,15 +179,9 @@ fn sets_bytes(rt: &impl Abort, alloc: Global, bytes_before: u64, count: u64, fir
         registers: called_with(rt, alloc, before(bytes_before), number(count)).registers,
         stack: sample(rt, alloc).stack,
     };
-    let at = (bytes_before, count);
-    match call(rt, alloc, &state, 3) {
-        Ok(after) => {
-            let called = after_call(rt, alloc, &state);
-            is_true_at(rt, set_bytes_are(&after, first, end), at);
-            is_true_at(rt, registers_are_alike(&after, &called), at);
-        }
-        Err(refusal) => is_true_at(rt, false, (&at, &refusal)),
-    }
+    let found = call(rt, alloc, &state, 3);
+    has_bytes(rt, &found, first, end);
+    is_called(rt, &found, &after_call(rt, alloc, &state));
 }
 
 /// Checks which bytes copied tags set: where they lie before the stack's end, how many are copied, and
@@ -186,7 +194,7 @@ fn set_bytes(rt: &impl Abort, alloc: Global, rows: &[(u64, u64, u64, u64)]) {
 }
 
 #[test]
-fn a_copied_tag_sets_its_bytes_alone(rt: HostRuntime) -> Result<(), Fail> {
+fn a_copied_tag_sets_its_bytes_alone(rt: HostRuntime) {
     let alloc = rt.alloc();
     set_bytes(
         &rt,
@@ -202,7 +210,6 @@ fn a_copied_tag_sets_its_bytes_alone(rt: HostRuntime) -> Result<(), Fail> {
             (509, 30, 3, 33),
         ],
     );
-    Ok(())
 }
 
 /// Checks which bytes are set once a tag is copied over a part of a kept value.
@@ -216,18 +223,11 @@ fn leaves_bytes(
     end: u64,
 ) {
     let state = kept(rt, alloc, value, before(bytes_before), number(count));
-    match call(rt, alloc, &state, 3) {
-        Ok(after) => is_true_at(
-            rt,
-            set_bytes_are(&after, first, end),
-            (&value, &bytes_before, &count),
-        ),
-        Err(refusal) => is_true_at(rt, false, (&value, &bytes_before, &refusal)),
-    }
+    has_bytes(rt, &call(rt, alloc, &state, 3), first, end);
 }
 
 #[test]
-fn a_copied_tag_leaves_of_a_kept_value_what_it_does_not_cover(rt: HostRuntime) -> Result<(), Fail> {
+fn a_copied_tag_leaves_of_a_kept_value_what_it_does_not_cover(rt: HostRuntime) {
     let alloc = rt.alloc();
     leaves_bytes(&rt, alloc, EIGHT, 14, 2, 496, 504);
     leaves_bytes(&rt, alloc, EIGHT, 8, 4, 496, 508);
@@ -235,7 +235,6 @@ fn a_copied_tag_leaves_of_a_kept_value_what_it_does_not_cover(rt: HostRuntime) -
     leaves_bytes(&rt, alloc, STACK, 14, 2, 498, 500);
     leaves_bytes(&rt, alloc, CONTEXT, 20, 8, 492, 500);
     leaves_bytes(&rt, alloc, STACK, 8, 4, 504, 508);
-    Ok(())
 }
 
 /// What is wanted of a comparison in a state: its answer isn't known, or a byte isn't set.
@@ -263,7 +262,7 @@ fn are_compared(rt: &impl Abort, alloc: Global, rows: &[Compared]) {
 }
 
 #[test]
-fn bytes_that_are_compared_are_set(rt: HostRuntime) -> Result<(), Fail> {
+fn bytes_that_are_compared_are_set(rt: HostRuntime) {
     let alloc = rt.alloc();
     are_compared(
         &rt,
@@ -286,38 +285,41 @@ fn bytes_that_are_compared_are_set(rt: HostRuntime) -> Result<(), Fail> {
             (CONTEXT, 16, 8, false),
         ],
     );
-    Ok(())
 }
 
-/// Checks whether bytes around those that helper 3 wrote can be compared.
-fn is_read(rt: &impl Abort, alloc: Global, place: u64, count: u64, are_set: bool) {
-    match call(
+/// The state in which bytes are compared once helper 3 wrote ten.
+fn written(rt: &impl Abort, alloc: Global, place: u64, count: u64) -> Found {
+    let mut after = call(
         rt,
         alloc,
         &called_with(rt, alloc, before(40), number(10)),
         3,
-    ) {
-        Ok(after) => {
-            let state = with(rt, alloc, &after, Register::new(1), before(place));
-            let state = with(rt, alloc, &state, Register::new(2), number(count));
-            let wanted = compared(rt, alloc, &state, are_set);
-            is_true_at(
-                rt,
-                agree(&call(rt, alloc, &state, 4), &wanted),
-                (&place, &count),
-            );
-        }
-        Err(refusal) => is_true_at(rt, false, &refusal),
+    )?;
+    after.registers.set(Register::new(1), before(place));
+    after.registers.set(Register::new(2), number(count));
+    Ok(after)
+}
+
+/// Checks whether bytes can be compared in this state.
+fn can_be_compared(rt: &impl Abort, alloc: Global, state: &AbsState<Flat>, are_set: bool) {
+    let wanted = compared(rt, alloc, state, are_set);
+    is_true(rt, agree(&call(rt, alloc, state, 4), &wanted));
+}
+
+/// Checks whether bytes around those that helper 3 wrote can be compared.
+fn is_read(rt: &impl Abort, alloc: Global, place: u64, count: u64, are_set: bool) {
+    match &written(rt, alloc, place, count) {
+        Ok(state) => can_be_compared(rt, alloc, state, are_set),
+        Err(refusal) => is_true_at(rt, false, refusal),
     }
 }
 
 #[test]
-fn what_helper_3_wrote_helper_4_reads(rt: HostRuntime) -> Result<(), Fail> {
+fn what_helper_3_wrote_helper_4_reads(rt: HostRuntime) {
     let alloc = rt.alloc();
     is_read(&rt, alloc, 40, 10, true);
     is_read(&rt, alloc, 36, 6, true);
     is_read(&rt, alloc, 41, 10, false);
     is_read(&rt, alloc, 40, 11, false);
     is_read(&rt, alloc, 30, 1, false);
-    Ok(())
 }
