@@ -4,8 +4,6 @@
 
 mod counted;
 pub mod laws;
-#[cfg(test)]
-mod tests_of_calls;
 mod whole;
 
 pub use counted::Counted;

@@ -4,6 +4,8 @@
 #[cfg(test)]
 mod checks;
 #[cfg(test)]
+mod counted_calls;
+#[cfg(test)]
 mod echo;
 #[cfg(test)]
 mod limits;

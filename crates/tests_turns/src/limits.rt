@@ -35,25 +35,22 @@ fn turned<R: Read, W: Write>(
 /// A round reads, and each further one answers a message: the sixty-fourth answers the sixty-third.
 #[test]
 fn turns_are_short(rt: HostRuntime) {
+    let rt = &rt;
     let alloc = rt.alloc();
     let mut bytes = Vec::new(alloc);
     for _ in 0..100 {
         bytes
             .extend_from_slice(b"GET / HTTP/1.1\r\n\r\n")
-            .expect(&rt, "ample memory");
+            .expect(rt, "ample memory");
     }
     let mut reader = Polled::new(bytes.as_slice());
     let mut writer = Polled::new(Vec::new(alloc));
     let mut connection = Connection::new(alloc);
-    let first = turned(&rt, alloc, &mut connection, &mut reader, &mut writer);
-    same(&rt, first, (Turned::GoesOn, Phase::Answer, 63));
-    let second = turned(&rt, alloc, &mut connection, &mut reader, &mut writer);
-    same(
-        &rt,
-        second,
-        (Turned::Ended(Ended::Closed), Phase::Idle, 100),
-    );
-    same(&rt, writer.inner().len(), 200);
+    let first = turned(rt, alloc, &mut connection, &mut reader, &mut writer);
+    same(rt, first, (Turned::GoesOn, Phase::Answer, 63));
+    let second = turned(rt, alloc, &mut connection, &mut reader, &mut writer);
+    same(rt, second, (Turned::Ended(Ended::Closed), Phase::Idle, 100));
+    same(rt, writer.inner().len(), 200);
 }
 
 /// The reader would have to wait before each piece of 10 bytes, and the writer before each of 2.
@@ -63,18 +60,15 @@ fn waits_say_for_what(rt: HostRuntime) {
     let mut reader = Polled::new(Slow::new(b"GET /a HTTP/1.1\r\n\r\n".as_slice(), 10));
     let mut writer = Polled::new(Slow::new(Vec::new(alloc), 2));
     let mut connection = Connection::new(alloc);
-    let bytes = Turned::Waits(Want::Bytes);
-    let room = Turned::Waits(Want::Room);
-    let idle = turned(&rt, alloc, &mut connection, &mut reader, &mut writer);
-    same(&rt, idle, (bytes, Phase::Idle, 0));
-    let message = turned(&rt, alloc, &mut connection, &mut reader, &mut writer);
-    same(&rt, message, (bytes, Phase::Message, 0));
-    let answer = turned(&rt, alloc, &mut connection, &mut reader, &mut writer);
-    same(&rt, answer, (room, Phase::Answer, 1));
-    let rest = turned(&rt, alloc, &mut connection, &mut reader, &mut writer);
-    same(&rt, rest, (room, Phase::Answer, 1));
-    let written = turned(&rt, alloc, &mut connection, &mut reader, &mut writer);
-    same(&rt, written, (bytes, Phase::Idle, 1));
-    let ended = turned(&rt, alloc, &mut connection, &mut reader, &mut writer);
-    same(&rt, ended, (Turned::Ended(Ended::Closed), Phase::Idle, 1));
+    for wanted in &[
+        (Turned::Waits(Want::Bytes), Phase::Idle, 0),
+        (Turned::Waits(Want::Bytes), Phase::Message, 0),
+        (Turned::Waits(Want::Room), Phase::Answer, 1),
+        (Turned::Waits(Want::Room), Phase::Answer, 1),
+        (Turned::Waits(Want::Bytes), Phase::Idle, 1),
+        (Turned::Ended(Ended::Closed), Phase::Idle, 1),
+    ] {
+        let found = turned(&rt, alloc, &mut connection, &mut reader, &mut writer);
+        same(&rt, found, *wanted);
+    }
 }

@@ -1,18 +1,12 @@
 //! What passes through a counted reader or writer, and which calls count. Most of it is proved; what isn't: that large
 //! texts are written whole, that a failed call leaves the reader or the writer as it can go on, and that the error is
 //! the one that was met.
-use crate::Counted;
+use crate::checks::same;
+use counted_io::Counted;
 use std::alloc::Global;
-use std::fmt::Debug;
 use std::io;
 use std::io::{ErrorKind, Read, Write};
 use std::process::Abort;
-use std::test::Fail;
-
-/// Stops the test where two values differ. It promises nothing, so that the proof of a test stays short.
-fn same<R: Abort, T: Debug + PartialEq + Drop>(rt: &R, found: T, wanted: T) {
-    assert_eq!(rt; found, wanted);
-}
 
 /// Fails at one call, and goes on behind it. It gives or takes at most three bytes a call.
 #[derive(Drop)]
@@ -56,12 +50,27 @@ impl<W: Write> Write for FailsOnce<W> {
 }
 
 /// Each value of a byte, one after another, over and over.
-fn bytes(alloc: Global, count: usize) -> Result<Vec<u8>, Fail> {
-    let mut bytes = Vec::with_capacity(alloc, count)?;
+fn bytes(rt: &impl Abort, alloc: Global, count: usize) -> Vec<u8> {
+    let mut bytes = Vec::new(alloc);
     for number in 0..count {
-        bytes.push((number % 256) as u8)?;
+        bytes.push((number % 256) as u8).expect(rt, "ample memory");
     }
-    Ok(bytes)
+    bytes
+}
+
+/// The next byte of a reader, where it doesn't fail; None at its end.
+fn next_of<R: Read>(rt: &impl Abort, reader: &mut Counted<R>) -> Option<u8> {
+    reader.next_byte().expect(rt, "a read that doesn't fail")
+}
+
+/// Reads into a room once, and answers how many bytes were given.
+fn read_of<R: Read>(rt: &impl Abort, reader: &mut Counted<R>, room: &mut [u8]) -> usize {
+    reader.read(room).expect(rt, "a read that doesn't fail")
+}
+
+/// Sends bytes to a writer that doesn't fail.
+fn send_to<W: Write>(rt: &impl Abort, writer: &mut Counted<W>, bytes: &[u8]) {
+    writer.send(bytes).expect(rt, "a write that doesn't fail");
 }
 
 /// The kinds of errors that are told apart.
@@ -76,24 +85,28 @@ const KINDS: &[ErrorKind] = &[
 ];
 
 #[test]
-fn bytes_pass_through(rt: HostRuntime) -> Result<(), Fail> {
+fn bytes_pass_a_reader(rt: HostRuntime) {
+    let rt = &rt;
     let mut reader = Counted::new(b"ab".as_slice());
     let mut piece = [0; 4];
-    same(&rt, reader.next_byte()?, Some(b'a'));
-    same(&rt, reader.read(&mut piece)?, 1);
-    same(&rt, reader.ends(), 0);
-    same(&rt, reader.next_byte()?, None);
-    same(&rt, reader.read(&mut piece)?, 0);
-    same(&rt, reader.read(&mut piece[..0])?, 0);
-    same(&rt, reader.ends(), 2);
-    same(&rt, reader.failures(), 0);
+    same(rt, next_of(rt, &mut reader), Some(b'a'));
+    same(rt, read_of(rt, &mut reader, &mut piece), 1);
+    same(rt, reader.ends(), 0);
+    same(rt, next_of(rt, &mut reader), None);
+    same(rt, read_of(rt, &mut reader, &mut piece), 0);
+    same(rt, read_of(rt, &mut reader, &mut piece[..0]), 0);
+    same(rt, (reader.ends(), reader.failures()), (2, 0));
+}
+
+#[test]
+fn bytes_pass_a_writer(rt: HostRuntime) {
+    let rt = &rt;
     let mut writer = Counted::new(Vec::new(rt.alloc()));
-    writer.send(b"abc")?;
-    same(&rt, writer.write(b"")?, 0);
-    writer.flush()?;
-    same(&rt, writer.failures(), 0);
-    same(&rt, writer.inner().as_slice(), b"abc".as_slice());
-    Ok(())
+    send_to(rt, &mut writer, b"abc");
+    same(rt, writer.write(b"").ok(), Some(0));
+    same(rt, writer.flush().is_ok(), true);
+    same(rt, writer.failures(), 0);
+    same(rt, writer.inner().as_slice(), b"abc".as_slice());
 }
 
 #[test]
@@ -107,31 +120,29 @@ fn calls_that_take_nothing_are_counted(rt: HostRuntime) {
 }
 
 #[test]
-fn each_byte_is_read(rt: HostRuntime) -> Result<(), Fail> {
-    let bytes = bytes(rt.alloc(), 256)?;
+fn each_byte_is_read(rt: HostRuntime) {
+    let bytes = bytes(&rt, rt.alloc(), 256);
     let mut reader = Counted::new(bytes.as_slice());
     for byte in &bytes {
-        same(&rt, reader.next_byte()?, Some(*byte));
+        same(&rt, next_of(&rt, &mut reader), Some(*byte));
     }
-    same(&rt, reader.next_byte()?, None);
+    same(&rt, next_of(&rt, &mut reader), None);
     same(&rt, reader.failures(), 0);
-    Ok(())
 }
 
 #[test]
-fn large_texts_are_written_whole(rt: HostRuntime) -> Result<(), Fail> {
-    let bytes = bytes(rt.alloc(), 1 << 20)?;
+fn large_texts_are_written_whole(rt: HostRuntime) {
+    let bytes = bytes(&rt, rt.alloc(), 1 << 20);
     let mut writer = Counted::new(FailsOnce {
         inner: Vec::new(rt.alloc()),
         calls_before: u64::MAX,
         kind: ErrorKind::Other,
     });
-    writer.send(&bytes)?;
+    send_to(&rt, &mut writer, &bytes);
     same(&rt, writer.failures(), 0);
     let written = writer.into_inner().inner;
     same(&rt, written.len(), 1 << 20);
     same(&rt, written.as_slice() == bytes.as_slice(), true);
-    Ok(())
 }
 
 /// The kind of the error that was met.
@@ -142,63 +153,60 @@ fn kind_of<T: Drop>(outcome: io::Result<T>) -> Option<ErrorKind> {
     }
 }
 
+/// A writer into memory that fails at its second call.
+fn writer_to_memory(alloc: Global, kind: ErrorKind) -> Counted<FailsOnce<Vec<u8>>> {
+    Counted::new(FailsOnce {
+        inner: Vec::new(alloc),
+        calls_before: 1,
+        kind,
+    })
+}
+
 /// A read that fails in mid-stream is the error, counts, and leaves the bytes behind it.
-fn a_read_fails(rt: &impl Abort, kind: ErrorKind) -> io::Result<()> {
+fn a_read_fails(rt: &impl Abort, kind: ErrorKind) {
     let mut reader = Counted::new(FailsOnce {
         inner: b"ab".as_slice(),
         calls_before: 1,
         kind,
     });
-    same(rt, reader.next_byte()?, Some(b'a'));
+    same(rt, next_of(rt, &mut reader), Some(b'a'));
     same(rt, kind_of(reader.next_byte()), Some(kind));
     same(rt, reader.failures(), 1);
-    same(rt, reader.next_byte()?, Some(b'b'));
-    same(rt, reader.next_byte()?, None);
+    same(rt, next_of(rt, &mut reader), Some(b'b'));
+    same(rt, next_of(rt, &mut reader), None);
     same(rt, reader.failures(), 1);
-    Ok(())
 }
 
 /// A write that fails in mid-stream is the error, counts, and leaves what was written before it; what is sent behind
 /// it goes on there.
-fn a_write_fails(rt: &impl Abort, alloc: Global, kind: ErrorKind) -> io::Result<()> {
-    let mut writer = Counted::new(FailsOnce {
-        inner: Vec::new(alloc),
-        calls_before: 1,
-        kind,
-    });
+fn a_write_fails(rt: &impl Abort, alloc: Global, kind: ErrorKind) {
+    let mut writer = writer_to_memory(alloc, kind);
     same(rt, kind_of(writer.send(b"abcdef")), Some(kind));
     same(rt, writer.failures(), 1);
     same(rt, writer.inner().inner.as_slice(), b"abc".as_slice());
-    writer.send(b"gh")?;
+    send_to(rt, &mut writer, b"gh");
     same(rt, writer.failures(), 1);
     same(rt, writer.inner().inner.as_slice(), b"abcgh".as_slice());
-    Ok(())
 }
 
 /// A flush that fails is the error, counts, and leaves what was written; the next one doesn't count, and what is sent
 /// behind it goes on there.
-fn a_flush_fails(rt: &impl Abort, alloc: Global, kind: ErrorKind) -> io::Result<()> {
-    let mut writer = Counted::new(FailsOnce {
-        inner: Vec::new(alloc),
-        calls_before: 1,
-        kind,
-    });
-    writer.send(b"abc")?;
+fn a_flush_fails(rt: &impl Abort, alloc: Global, kind: ErrorKind) {
+    let mut writer = writer_to_memory(alloc, kind);
+    send_to(rt, &mut writer, b"abc");
     same(rt, kind_of(writer.flush()), Some(kind));
     same(rt, writer.failures(), 1);
-    writer.flush()?;
-    writer.send(b"de")?;
+    same(rt, writer.flush().is_ok(), true);
+    send_to(rt, &mut writer, b"de");
     same(rt, (writer.failures(), writer.ends()), (1, 0));
     same(rt, writer.inner().inner.as_slice(), b"abcde".as_slice());
-    Ok(())
 }
 
 #[test]
-fn each_kind_of_error_is_passed_on(rt: HostRuntime) -> Result<(), Fail> {
+fn each_kind_of_error_is_passed_on(rt: HostRuntime) {
     for kind in KINDS {
-        a_read_fails(&rt, *kind)?;
-        a_write_fails(&rt, rt.alloc(), *kind)?;
-        a_flush_fails(&rt, rt.alloc(), *kind)?;
+        a_read_fails(&rt, *kind);
+        a_write_fails(&rt, rt.alloc(), *kind);
+        a_flush_fails(&rt, rt.alloc(), *kind);
     }
-    Ok(())
 }
