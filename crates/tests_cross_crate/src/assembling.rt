@@ -52,10 +52,11 @@ fn disassembled(rt: &impl Abort, alloc: Global, bytes: &[u8]) -> String {
 
 #[test]
 fn the_default_classifier(rt: HostRuntime) {
-    let text = disassembled(&rt, rt.alloc(), &CLASSIFIER);
-    same(&rt, text.as_str(), CLASSIFIER_LINES);
-    let bytes = assembled(&rt, rt.alloc(), CLASSIFIER_LINES);
-    same(&rt, bytes.as_slice(), CLASSIFIER.as_slice());
+    let rt = &rt;
+    let text = disassembled(rt, rt.alloc(), &CLASSIFIER);
+    same(rt, text.as_str(), CLASSIFIER_LINES);
+    let bytes = assembled(rt, rt.alloc(), CLASSIFIER_LINES);
+    same(rt, bytes.as_slice(), CLASSIFIER.as_slice());
 }
 
 /// Checks that a line is assembled to these bytes, and comes back from them.
@@ -267,13 +268,14 @@ fn has_slots(rt: &impl Abort, alloc: Global, text: &str, slots: usize, lines: &s
 
 #[test]
 fn texts_of_no_program(rt: HostRuntime) {
+    let rt = &rt;
     let alloc = rt.alloc();
     let kind = RefusalNumber::BadTextLength;
-    are_faulty(&rt, alloc, kind, &[("", 0), ("\n ; exit\n", 0)]);
-    let most = assemble(alloc, &exits(&rt, alloc, 4096, "; done"));
-    same(&rt, most.expect(&rt, "4,096 slots").len(), 4096);
+    are_faulty(rt, alloc, kind, &[("", 0), ("\n ; exit\n", 0)]);
+    let most = assemble(alloc, &exits(rt, alloc, 4096, "; done"));
+    same(rt, most.expect(rt, "4,096 slots").len(), 4096);
     let rows = &[(4097, "mvo", 4097), (4095, "lddw r0, 1", 4096)];
-    are_too_long(&rt, alloc, rows);
+    are_too_long(rt, alloc, rows);
 }
 
 /// Checks that texts of so many times this line are programs of as many slots, and come back.
@@ -297,12 +299,13 @@ fn texts_of_many_lines(rt: HostRuntime) {
 
 #[test]
 fn texts_of_each_length(rt: HostRuntime) {
+    let rt = &rt;
     let alloc = rt.alloc();
-    let mut text = String::from_str(alloc, "exit").expect(&rt, "ample memory");
+    let mut text = String::from_str(alloc, "exit").expect(rt, "ample memory");
     for length in 5usize..300 {
-        text.push(' ').expect(&rt, "ample memory");
-        same(&rt, text.len(), length);
-        has_slots(&rt, alloc, &text, 1, "exit\n");
+        text.push(' ').expect(rt, "ample memory");
+        same(rt, text.len(), length);
+        has_slots(rt, alloc, &text, 1, "exit\n");
     }
 }
 

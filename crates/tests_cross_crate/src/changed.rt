@@ -93,17 +93,18 @@ fn accepted_changes(
 /// Each of the 64 bytes becomes each other one, which makes 16,320 programs.
 #[test]
 fn a_changed_byte_changes_both_machines_alike(rt: HostRuntime) {
+    let rt = &rt;
     let alloc = rt.alloc();
     let records = [
-        outcome_of(&rt, alloc, "{}"),
-        outcome_of(&rt, alloc, "{\"status\":500}"),
-        outcome_of(&rt, alloc, "{\"kind\":\"timeout\"}"),
+        outcome_of(rt, alloc, "{}"),
+        outcome_of(rt, alloc, "{\"status\":500}"),
+        outcome_of(rt, alloc, "{\"kind\":\"timeout\"}"),
     ];
-    let bytes = classifier_bytes(&rt, alloc);
+    let bytes = classifier_bytes(rt, alloc);
     let mut accepted = 0u32;
     for place in 0..64usize {
-        let changes = accepted_changes(&rt, alloc, bytes, place, &records);
+        let changes = accepted_changes(rt, alloc, bytes, place, &records);
         accepted = accepted.wrapping_add(changes);
     }
-    is_true(&rt, accepted > 0);
+    is_true(rt, accepted > 0);
 }

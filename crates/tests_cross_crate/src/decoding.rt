@@ -73,16 +73,17 @@ fn faults_of_the_first_slot(rt: HostRuntime) {
 
 #[test]
 fn faults_of_lengths_and_tails(rt: HostRuntime) {
+    let rt = &rt;
     let alloc = rt.alloc();
     let length = Some((0, RefusalNumber::Length));
-    same(&rt, fault(alloc, &[]), length);
+    same(rt, fault(alloc, &[]), length);
     let odd = [0xb7, 0, 0, 0, 0, 0, 0, 0, 0x95, 0, 0, 0];
-    same(&rt, fault(alloc, &odd), length);
+    same(rt, fault(alloc, &odd), length);
     let cut = [0xb7, 0, 0, 0, 0, 0, 0, 0, 0x18, 0, 0, 0, 0, 0, 0, 0];
-    same(&rt, fault(alloc, &cut), Some((1, RefusalNumber::BadTail)));
-    same(&rt, fault(alloc, &long(&rt, alloc, 4095)), length);
-    let most = decoded(&rt, alloc, &long(&rt, alloc, 4094));
-    same(&rt, most.len(), 4096);
+    same(rt, fault(alloc, &cut), Some((1, RefusalNumber::BadTail)));
+    same(rt, fault(alloc, &long(rt, alloc, 4095)), length);
+    let most = decoded(rt, alloc, &long(rt, alloc, 4094));
+    same(rt, most.len(), 4096);
 }
 
 /// Checks that a program comes back as the bytes that it was read from.

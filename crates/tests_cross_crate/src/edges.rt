@@ -112,8 +112,9 @@ fn both_give_rows(rt: &impl Abort, alloc: Global, rows: &[Row]) {
 
 #[test]
 fn operations_at_their_edges(rt: HostRuntime) {
-    both_give_rows(&rt, rt.alloc(), &ADDITIVE);
-    both_give_rows(&rt, rt.alloc(), &DIVISIONS);
-    both_give_rows(&rt, rt.alloc(), &BITS);
-    both_give_rows(&rt, rt.alloc(), &SHIFTS);
+    let rt = &rt;
+    both_give_rows(rt, rt.alloc(), &ADDITIVE);
+    both_give_rows(rt, rt.alloc(), &DIVISIONS);
+    both_give_rows(rt, rt.alloc(), &BITS);
+    both_give_rows(rt, rt.alloc(), &SHIFTS);
 }

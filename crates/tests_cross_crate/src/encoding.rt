@@ -25,26 +25,27 @@ fn is_encoded(rt: &impl Abort, instruction: &Instruction, first: Slot, second: O
 
 #[test]
 fn one_slot(rt: HostRuntime) {
+    let rt = &rt;
     let divide = Instruction::Arithmetic {
         operation: Operation::SignedDivide,
         width: Width::Bits32,
         destination: Register::new(3),
         operand: Operand::Immediate(0xffff_ffff_ffff_fff7),
     };
-    is_encoded(&rt, &divide, slot(0x34, 3, 0, 1, 0xffff_fff7), None);
+    is_encoded(rt, &divide, slot(0x34, 3, 0, 1, 0xffff_fff7), None);
     let store = Instruction::Store {
         size: Size::Word,
         base: Register::new(10),
         offset: 0xffff_ffff_ffff_fff8,
         operand: Operand::Register(Register::new(1)),
     };
-    is_encoded(&rt, &store, slot(0x63, 10, 1, 0xfff8, 0), None);
+    is_encoded(rt, &store, slot(0x63, 10, 1, 0xfff8, 0), None);
     let jump = Instruction::Jump {
         width: Width::Bits32,
         distance: 70000,
     };
-    is_encoded(&rt, &jump, slot(0x06, 0, 0, 0, 70000), None);
-    is_encoded(&rt, &Instruction::Exit, slot(0x95, 0, 0, 0, 0), None);
+    is_encoded(rt, &jump, slot(0x06, 0, 0, 0, 70000), None);
+    is_encoded(rt, &Instruction::Exit, slot(0x95, 0, 0, 0, 0), None);
 }
 
 #[test]

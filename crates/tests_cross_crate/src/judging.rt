@@ -93,17 +93,18 @@ fn every_size_is_loaded(rt: HostRuntime) {
 
 #[test]
 fn judged_work_is_tied(rt: HostRuntime) {
+    let rt = &rt;
     let alloc = rt.alloc();
     let slots = [0xb700000002000000, 0x9500000000000000];
-    let program = Arc::new(alloc, verified(&rt, alloc, &slots)).expect(&rt, "ample memory");
-    let outcome = outcome(&rt, 0, 500);
-    let packed = PackedOutcome::pack(alloc, &outcome).expect(&rt, "ample memory");
+    let program = Arc::new(alloc, verified(rt, alloc, &slots)).expect(rt, "ample memory");
+    let outcome = outcome(rt, 0, 500);
+    let packed = PackedOutcome::pack(alloc, &outcome).expect(rt, "ample memory");
     let judged = judge(program, packed);
-    same(&rt, judged.verdict(), Verdict::Ignored);
-    same(&rt, judged.steps(), 2);
-    same(&rt, judged.outcome().unpack(), outcome);
-    let bytes = bytes_of_slots(&rt, alloc, &slots);
-    same(&rt, judged.program().bytes(), bytes.as_slice());
+    same(rt, judged.verdict(), Verdict::Ignored);
+    same(rt, judged.steps(), 2);
+    same(rt, judged.outcome().unpack(), outcome);
+    let bytes = bytes_of_slots(rt, alloc, &slots);
+    same(rt, judged.program().bytes(), bytes.as_slice());
 }
 
 /// A constant, 4,094 comparisons that lead to the next slot either way, and an exit.
@@ -119,10 +120,11 @@ fn longest(rt: &impl Abort, alloc: Global) -> Vec<u8> {
 
 #[test]
 fn the_longest_program_runs(rt: HostRuntime) {
-    let bytes = longest(&rt, rt.alloc());
-    let program = verify(rt.alloc(), &bytes, Layout::One).expect(&rt, "4,096 slots");
-    same(&rt, program.budget(), 4096);
-    are_judged(&rt, &program, &[(0, 0, Verdict::Success, 4096)]);
+    let rt = &rt;
+    let bytes = longest(rt, rt.alloc());
+    let program = verify(rt.alloc(), &bytes, Layout::One).expect(rt, "4,096 slots");
+    same(rt, program.budget(), 4096);
+    are_judged(rt, &program, &[(0, 0, Verdict::Success, 4096)]);
 }
 
 /// Numbers in R2 that differ by the path on which they are left.

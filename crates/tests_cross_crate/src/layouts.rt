@@ -191,31 +191,25 @@ const WHOLE: [&str; 3] = [
 /// For layout 1 the first 128 bytes decide alone.
 #[test]
 fn bytes_behind_the_shorter_context_decide_nothing(rt: HostRuntime) {
-    sees_no_tail(&rt, rt.alloc(), &classifier_bytes(&rt, rt.alloc()));
+    let rt = &rt;
+    sees_no_tail(rt, rt.alloc(), &classifier_bytes(rt, rt.alloc()));
     for text in &WHOLE {
-        sees_no_tail(&rt, rt.alloc(), &assembled(&rt, rt.alloc(), *text));
+        sees_no_tail(rt, rt.alloc(), &assembled(rt, rt.alloc(), *text));
     }
 }
 
 /// For layout 2 the same bytes decide.
 #[test]
 fn bytes_of_the_longer_context_decide(rt: HostRuntime) {
+    let rt = &rt;
     let alloc = rt.alloc();
     for text in &[
         "ldxb r0, [r1+128]\nand r0, 1\nexit",
         "ldxb r0, [r1+191]\nand r0, 1\nexit",
     ] {
-        let bytes = assembled(&rt, alloc, *text);
-        both_end_in(&rt, alloc, &bytes, Layout::Two, &with_tail(&rt, 1), true, 3);
-        both_end_in(
-            &rt,
-            alloc,
-            &bytes,
-            Layout::Two,
-            &with_tail(&rt, 2),
-            false,
-            3,
-        );
+        let bytes = assembled(rt, alloc, *text);
+        both_end_in(rt, alloc, &bytes, Layout::Two, &with_tail(rt, 1), true, 3);
+        both_end_in(rt, alloc, &bytes, Layout::Two, &with_tail(rt, 2), false, 3);
     }
 }
 
@@ -230,15 +224,16 @@ fn stays(rt: &impl Abort, alloc: Global, layout: Layout, line: &str, word: u64) 
 /// nothing that a program reads of the record.
 #[test]
 fn the_stack_stands_behind_the_record(rt: HostRuntime) {
+    let rt = &rt;
     let alloc = rt.alloc();
     let last = number_at(120, Size::DoubleWord);
     let behind = number_at(128, Size::DoubleWord);
-    stays(&rt, alloc, Layout::One, "ldxdw r1, [r1+120]", last);
-    stays(&rt, alloc, Layout::One, "ldxdw r1, [r10-512]", u64::MAX);
-    stays(&rt, alloc, Layout::Two, "ldxdw r1, [r1+120]", last);
-    stays(&rt, alloc, Layout::Two, "ldxdw r1, [r1+128]", behind);
-    stays(&rt, alloc, Layout::Two, "ldxb r1, [r1+191]", 155);
-    stays(&rt, alloc, Layout::Two, "ldxdw r1, [r10-512]", u64::MAX);
+    stays(rt, alloc, Layout::One, "ldxdw r1, [r1+120]", last);
+    stays(rt, alloc, Layout::One, "ldxdw r1, [r10-512]", u64::MAX);
+    stays(rt, alloc, Layout::Two, "ldxdw r1, [r1+120]", last);
+    stays(rt, alloc, Layout::Two, "ldxdw r1, [r1+128]", behind);
+    stays(rt, alloc, Layout::Two, "ldxb r1, [r1+191]", 155);
+    stays(rt, alloc, Layout::Two, "ldxdw r1, [r10-512]", u64::MAX);
 }
 
 /// The budget of a program, by the analysis that keeps all states.
@@ -252,20 +247,21 @@ fn analysed(alloc: Global, bytes: &[u8], layout: Layout) -> Result<u32, Refusal>
 /// A program that is verified keeps its layout, and all three analyses refuse the same.
 #[test]
 fn layouts_are_kept(rt: HostRuntime) {
+    let rt = &rt;
     let alloc = rt.alloc();
-    let bytes = assembled(&rt, alloc, "ldxb r0, [r1+128]\nand r0, 1\nexit");
+    let bytes = assembled(rt, alloc, "ldxb r0, [r1+128]\nand r0, 1\nexit");
     let refusal = Refusal {
         slot: 0,
         number: RefusalNumber::OutOfBounds,
     };
-    same(&rt, verify(alloc, &bytes, Layout::One).err(), Some(refusal));
+    same(rt, verify(alloc, &bytes, Layout::One).err(), Some(refusal));
     let refused = verify_counted(alloc, &bytes, Layout::One).err();
-    same(&rt, refused, Some(refusal));
+    same(rt, refused, Some(refusal));
     let refused = analysed(alloc, &bytes, Layout::One).err();
-    same(&rt, refused, Some(refusal));
-    same(&rt, analysed(alloc, &bytes, Layout::Two), Ok(3));
-    let program = verify(alloc, &bytes, Layout::Two).expect(&rt, "an accepted program");
-    same(&rt, program.layout(), Layout::Two);
-    let (counted, width) = verify_counted(alloc, &bytes, Layout::Two).expect(&rt, "the same");
-    same(&rt, (counted.layout(), width), (Layout::Two, 1));
+    same(rt, refused, Some(refusal));
+    same(rt, analysed(alloc, &bytes, Layout::Two), Ok(3));
+    let program = verify(alloc, &bytes, Layout::Two).expect(rt, "an accepted program");
+    same(rt, program.layout(), Layout::Two);
+    let (counted, width) = verify_counted(alloc, &bytes, Layout::Two).expect(rt, "the same");
+    same(rt, (counted.layout(), width), (Layout::Two, 1));
 }

@@ -95,17 +95,18 @@ fn comparing_bytes(rt: &impl Abort, alloc: Global, times: usize) -> Vec<u8> {
 
 #[test]
 fn the_longest_program_is_assembled_and_judges(rt: HostRuntime) {
+    let rt = &rt;
     let alloc = rt.alloc();
-    let program = comparing_bytes(&rt, alloc, 4094);
-    let text = comparing(&rt, alloc, 4094);
-    is_true(&rt, assembled(&rt, alloc, &text) == program);
-    is_verified(&rt, alloc, &program, "accepted budget=4096 slots=4096\n");
-    let line = judged(&rt, alloc, &program, "{}");
-    same(&rt, line.as_str(), "success steps=4096 budget=4096\n");
-    let longer = comparing(&rt, alloc, 4095);
-    is_refused(&rt, alloc, &longer, "refused 44 BadLength line 4097\n");
-    let longer = comparing_bytes(&rt, alloc, 4095);
-    is_verified(&rt, alloc, &longer, "refused 1 Length slot 0\n");
+    let program = comparing_bytes(rt, alloc, 4094);
+    let text = comparing(rt, alloc, 4094);
+    is_true(rt, assembled(rt, alloc, &text) == program);
+    is_verified(rt, alloc, &program, "accepted budget=4096 slots=4096\n");
+    let line = judged(rt, alloc, &program, "{}");
+    same(rt, line.as_str(), "success steps=4096 budget=4096\n");
+    let longer = comparing(rt, alloc, 4095);
+    is_refused(rt, alloc, &longer, "refused 44 BadLength line 4097\n");
+    let longer = comparing_bytes(rt, alloc, 4095);
+    is_verified(rt, alloc, &longer, "refused 1 Length slot 0\n");
 }
 
 #[test]

@@ -24,42 +24,59 @@ fn read(rt: &impl Abort, alloc: Global, text: &str) -> Record {
 
 #[test]
 fn an_empty_object_is_a_response(rt: HostRuntime) {
-    let outcome = read(&rt, rt.alloc(), "{}");
-    same(&rt, *outcome.context(), [0; 192]);
-    same(&rt, *outcome.facts(), [0; 16]);
-    is_true(&rt, outcome.tag().is_empty());
+    let rt = &rt;
+    let outcome = read(rt, rt.alloc(), "{}");
+    same(rt, *outcome.context(), [0; 192]);
+    same(rt, *outcome.facts(), [0; 16]);
+    is_true(rt, outcome.tag().is_empty());
 }
 
 #[test]
 fn numbers_stand_at_their_offsets(rt: HostRuntime) {
+    let rt = &rt;
     let text = "{\"kind\":\"timeout\",\"status\":500,\"duration_ms\":101}";
-    let outcome = read(&rt, rt.alloc(), text);
-    same(&rt, outcome.word_at(0, Size::Word), 1);
-    same(&rt, outcome.word_at(4, Size::Word), 500);
-    same(&rt, outcome.duration(), 101);
+    let outcome = read(rt, rt.alloc(), text);
+    same(rt, outcome.word_at(0, Size::Word), 1);
+    same(rt, outcome.word_at(4, Size::Word), 500);
+    same(rt, outcome.duration(), 101);
+}
+
+/// Checks the numbers up to the attempt.
+fn has_numbers(rt: &impl Abort, outcome: &Record) {
+    same(rt, outcome.word_at(0, Size::Word), 4);
+    same(rt, outcome.word_at(4, Size::Word), 503);
+    same(rt, outcome.word_at(8, Size::DoubleWord), 250);
+    same(rt, outcome.word_at(16, Size::DoubleWord), 1024);
+    same(rt, outcome.word_at(24, Size::DoubleWord), 4096);
+    same(rt, outcome.word_at(32, Size::Word), 3);
+}
+
+/// Checks what stands behind the attempt: the method, the flags, the body's length and its front.
+fn has_method_and_body(rt: &impl Abort, outcome: &Record) {
+    same(rt, outcome.word_at(36, Size::Word), 9);
+    same(rt, outcome.word_at(40, Size::DoubleWord), 9);
+    same(rt, outcome.word_at(48, Size::DoubleWord), 70000);
+    same(rt, outcome.word_at(56, Size::DoubleWord), 0);
+    same(rt, outcome.word_at(64, Size::HalfWord), 0x0a7b);
+    same(rt, outcome.word_at(65, Size::Byte), 10);
+    same(rt, outcome.word_at(66, Size::Byte), 0);
+}
+
+/// Checks what the helper functions answer: a byte of the front, facts and the tag.
+fn has_front_and_facts(rt: &impl Abort, outcome: &Record) {
+    same(rt, outcome.front_byte(0), 0x7b);
+    same(rt, outcome.fact(0), 5);
+    same(rt, outcome.fact(1), 18446744073709551615);
+    same(rt, outcome.fact(15), 0);
+    same(rt, outcome.tag(), b"pay".as_slice());
 }
 
 #[test]
 fn every_key_is_read(rt: HostRuntime) {
     let outcome = read(&rt, rt.alloc(), WHOLE);
-    same(&rt, outcome.word_at(0, Size::Word), 4);
-    same(&rt, outcome.word_at(4, Size::Word), 503);
-    same(&rt, outcome.word_at(8, Size::DoubleWord), 250);
-    same(&rt, outcome.word_at(16, Size::DoubleWord), 1024);
-    same(&rt, outcome.word_at(24, Size::DoubleWord), 4096);
-    same(&rt, outcome.word_at(32, Size::Word), 3);
-    same(&rt, outcome.word_at(36, Size::Word), 9);
-    same(&rt, outcome.word_at(40, Size::DoubleWord), 9);
-    same(&rt, outcome.word_at(48, Size::DoubleWord), 70000);
-    same(&rt, outcome.word_at(56, Size::DoubleWord), 0);
-    same(&rt, outcome.word_at(64, Size::HalfWord), 0x0a7b);
-    same(&rt, outcome.word_at(65, Size::Byte), 10);
-    same(&rt, outcome.word_at(66, Size::Byte), 0);
-    same(&rt, outcome.front_byte(0), 0x7b);
-    same(&rt, outcome.fact(0), 5);
-    same(&rt, outcome.fact(1), 18446744073709551615);
-    same(&rt, outcome.fact(15), 0);
-    same(&rt, outcome.tag(), b"pay".as_slice());
+    has_numbers(&rt, &outcome);
+    has_method_and_body(&rt, &outcome);
+    has_front_and_facts(&rt, &outcome);
 }
 
 /// Checks that these are no outcomes.
@@ -171,10 +188,11 @@ fn a_copied_tag_ends_in_zeros(rt: HostRuntime) {
 
 #[test]
 fn a_tag_starts_with_its_front(rt: HostRuntime) {
-    let pay = read(&rt, rt.alloc(), "{\"tag\":\"706179\"}");
-    is_true(&rt, pay.tag_starts(b"p"));
-    is_true(&rt, pay.tag_starts(b"pay"));
-    is_true(&rt, !pay.tag_starts(b"a"));
-    let p = read(&rt, rt.alloc(), "{\"tag\":\"70\"}");
-    is_true(&rt, !p.tag_starts(b"pa"));
+    let rt = &rt;
+    let pay = read(rt, rt.alloc(), "{\"tag\":\"706179\"}");
+    is_true(rt, pay.tag_starts(b"p"));
+    is_true(rt, pay.tag_starts(b"pay"));
+    is_true(rt, !pay.tag_starts(b"a"));
+    let p = read(rt, rt.alloc(), "{\"tag\":\"70\"}");
+    is_true(rt, !p.tag_starts(b"pa"));
 }

@@ -76,13 +76,14 @@ fn every_size_is_taken(rt: HostRuntime) {
 /// An exit alone is a program, whose answer is never set.
 #[test]
 fn one_slot_is_taken(rt: HostRuntime) {
+    let rt = &rt;
     let alloc = rt.alloc();
-    let bytes = of_size(&rt, alloc, 1);
-    let plain = in_plain_machine(&rt, alloc, &bytes, &patterned(&rt), 1);
-    same(&rt, plain, (1, 1, End::Trap(0, TrapReason::Unset)));
+    let bytes = of_size(rt, alloc, 1);
+    let plain = in_plain_machine(rt, alloc, &bytes, &patterned(rt), 1);
+    same(rt, plain, (1, 1, End::Trap(0, TrapReason::Unset)));
     let refusal = Refusal {
         slot: 0,
         number: RefusalNumber::UnsetRegister,
     };
-    same(&rt, verify(alloc, &bytes, Layout::One).err(), Some(refusal));
+    same(rt, verify(alloc, &bytes, Layout::One).err(), Some(refusal));
 }

@@ -340,9 +340,10 @@ fn are_ended(rt: &impl Abort, alloc: Global, outcome: &Record, rows: &[Ended]) {
 
 #[test]
 fn answers(rt: HostRuntime) {
-    let outcome = outcome_of_kind(&rt, 0);
+    let rt = &rt;
+    let outcome = outcome_of_kind(rt, 0);
     are_ended(
-        &rt,
+        rt,
         rt.alloc(),
         &outcome,
         &[
@@ -351,8 +352,8 @@ fn answers(rt: HostRuntime) {
             (&[], End::Trap(0, TrapReason::Unset)),
         ],
     );
-    let found = end(&rt, rt.alloc(), &[&[EXIT]], &outcome, 0);
-    same(&rt, found, End::OutOfSteps);
+    let found = end(rt, rt.alloc(), &[&[EXIT]], &outcome, 0);
+    same(rt, found, End::OutOfSteps);
 }
 
 /// A kind, the answer, and the steps.

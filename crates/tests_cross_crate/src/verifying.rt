@@ -43,13 +43,14 @@ fn has_budget(rt: &impl Abort, program: &Verified, budget: u32, slots: usize) {
 
 #[test]
 fn programs_are_accepted(rt: HostRuntime) {
+    let rt = &rt;
     let slots = [0xb700000001000000, EXIT];
-    let one = verified(&rt, rt.alloc(), &slots);
-    has_budget(&rt, &one, 2, 2);
-    let bytes = bytes_of_slots(&rt, rt.alloc(), &slots);
-    same(&rt, one.bytes(), bytes.as_slice());
-    let classifier = default_classifier(rt.alloc()).expect(&rt, "the default classifier");
-    has_budget(&rt, &classifier, 6, 8);
+    let one = verified(rt, rt.alloc(), &slots);
+    has_budget(rt, &one, 2, 2);
+    let bytes = bytes_of_slots(rt, rt.alloc(), &slots);
+    same(rt, one.bytes(), bytes.as_slice());
+    let classifier = default_classifier(rt.alloc()).expect(rt, "the default classifier");
+    has_budget(rt, &classifier, 6, 8);
 }
 
 /// A slot that stands before an exit, and the number and the slot of the refusal.
@@ -312,10 +313,11 @@ fn refusal_over_words(
 /// Where two constants meet, ranges keep their bounds; a domain that keeps one word or nothing doesn't.
 #[test]
 fn flat_words_are_too_little(rt: HostRuntime) {
+    let rt = &rt;
     let alloc = rt.alloc();
-    let classifier = default_classifier(alloc).expect(&rt, "the default classifier");
-    let found = refusal_over_words(&rt, alloc, classifier.program());
-    same(&rt, found, None);
+    let classifier = default_classifier(alloc).expect(rt, "the default classifier");
+    let found = refusal_over_words(rt, alloc, classifier.program());
+    same(rt, found, None);
     let slots = &[
         // lddw r1, 0x8000000000000000 / sdiv r1, -1 / lddw r2, 0x8000000000000000
         0x1801000000000000,
@@ -329,9 +331,9 @@ fn flat_words_are_too_little(rt: HostRuntime) {
         0xb700000000000000,
         EXIT,
     ];
-    same(&rt, refusal_of(&rt, alloc, slots), None);
-    let refused = refusal_over_words(&rt, alloc, &decoded(&rt, alloc, slots));
-    same(&rt, refused, Some((RefusalNumber::AnswerRange, 8)));
+    same(rt, refusal_of(rt, alloc, slots), None);
+    let refused = refusal_over_words(rt, alloc, &decoded(rt, alloc, slots));
+    same(rt, refused, Some((RefusalNumber::AnswerRange, 8)));
 }
 
 #[test]

@@ -62,8 +62,9 @@ fn are_counted(rt: &impl Abort, alloc: Global, rows: &[Ladder]) {
 
 #[test]
 fn widths_are_counted(rt: HostRuntime) {
+    let rt = &rt;
     are_counted(
-        &rt,
+        rt,
         rt.alloc(),
         &[
             (0, 0, 0, (2, 1)),
@@ -80,10 +81,10 @@ fn widths_are_counted(rt: HostRuntime) {
         ],
     );
     // lddw r0, 1 / exit: nothing leads to the second half.
-    let wide = bytes_of_slots(&rt, rt.alloc(), &[0x1800000001000000, 0, EXIT]);
-    same(&rt, counted(rt.alloc(), &wide), Ok((2, 1)));
-    let classifier = classifier_bytes(&rt, rt.alloc());
-    same(&rt, counted(rt.alloc(), &classifier), Ok((6, 2)));
+    let wide = bytes_of_slots(rt, rt.alloc(), &[0x1800000001000000, 0, EXIT]);
+    same(rt, counted(rt.alloc(), &wide), Ok((2, 1)));
+    let classifier = classifier_bytes(rt, rt.alloc());
+    same(rt, counted(rt.alloc(), &classifier), Ok((6, 2)));
 }
 
 /// Checks why bytes are refused, and at which slot.
