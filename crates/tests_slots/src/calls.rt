@@ -222,17 +222,18 @@ fn play_by_requests<R: Wait + Abort>(
 
 #[test]
 fn all_calls_are_answered(rt: HostRuntime) {
+    let rt = &rt;
     let alloc = rt.alloc();
-    let mut desk = open_desk(&rt, alloc, &["pay", "ship"]);
-    same(&rt, desk.find("pay"), Some(ServiceId::at(0)));
-    same(&rt, desk.find("ship"), Some(ServiceId::at(1)));
-    same(&rt, desk.find("shi"), None);
-    let seat = seat_of(&rt, alloc, &mut desk);
+    let mut desk = open_desk(rt, alloc, &["pay", "ship"]);
+    same(rt, desk.find("pay"), Some(ServiceId::at(0)));
+    same(rt, desk.find("ship"), Some(ServiceId::at(1)));
+    same(rt, desk.find("shi"), None);
+    let seat = seat_of(rt, alloc, &mut desk);
     let mut caller = Caller::new(&desk, seat);
-    play(&rt, alloc, &mut caller, ALL_CALLS);
-    same(&rt, caller.count(), 8);
-    play_by_requests(&rt, alloc, &mut caller, ALL_CALLS);
-    same(&rt, caller.count(), 16);
-    let seats = Vec::from_array(alloc, [caller.into_seat()]).expect(&rt, "ample memory");
-    same(&rt, close(&rt, alloc, desk, seats).len(), 2);
+    play(rt, alloc, &mut caller, ALL_CALLS);
+    same(rt, caller.count(), 8);
+    play_by_requests(rt, alloc, &mut caller, ALL_CALLS);
+    same(rt, caller.count(), 16);
+    let seats = Vec::from_array(alloc, [caller.into_seat()]).expect(rt, "ample memory");
+    same(rt, close(rt, alloc, desk, seats).len(), 2);
 }

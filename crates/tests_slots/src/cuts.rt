@@ -80,15 +80,16 @@ fn check_books<R: Abort>(rt: &R, books: &[Book], done: &[Done]) {
 
 #[test]
 fn numbers_go_on_over_a_cut_among_16_threads(rt: HostRuntime) {
+    let rt = &rt;
     let alloc = rt.alloc();
-    let mut desk = open_desk(&rt, alloc, &["pay", "ship"]);
-    let seats = seats_of(&rt, alloc, &mut desk, 16);
+    let mut desk = open_desk(rt, alloc, &["pay", "ship"]);
+    let seats = seats_of(rt, alloc, &mut desk, 16);
     let work = AroundACut {
         is_cut: Flag::new(),
     };
-    let worked = work_at_once(&rt, alloc, &desk, seats, &work);
-    same(&rt, worked.done.len(), 16);
-    same(&rt, count_of(&worked.done), 1280);
-    let books = close(&rt, alloc, desk, worked.seats);
-    check_books(&rt, &books, &worked.done);
+    let worked = work_at_once(rt, alloc, &desk, seats, &work);
+    same(rt, worked.done.len(), 16);
+    same(rt, count_of(&worked.done), 1280);
+    let books = close(rt, alloc, desk, worked.seats);
+    check_books(rt, &books, &worked.done);
 }

@@ -30,14 +30,15 @@ fn call<R: Wait + Abort>(
 
 #[test]
 fn two_seats_meet(rt: HostRuntime) {
+    let rt = &rt;
     let alloc = rt.alloc();
-    let mut desk = open_desk(&rt, alloc, &["pay"]);
-    let (first, second) = two_seats(&rt, alloc, &mut desk);
+    let mut desk = open_desk(rt, alloc, &["pay"]);
+    let (first, second) = two_seats(rt, alloc, &mut desk);
     let mut first = Caller::new(&desk, first);
     let mut second = Caller::new(&desk, second);
-    first.meet(&rt, &mut second, "pay");
+    first.meet(rt, &mut second, "pay");
     call(
-        &rt,
+        rt,
         alloc,
         &mut first,
         1,
@@ -45,18 +46,18 @@ fn two_seats_meet(rt: HostRuntime) {
         Answer::Permitted(1),
     );
     call(
-        &rt,
+        rt,
         alloc,
         &mut second,
         2,
         Wish::Acquire,
         Answer::Permitted(2),
     );
-    first.meet(&rt, &mut second, "pay");
+    first.meet(rt, &mut second, "pay");
     let (first, second) = (first.into_seat(), second.into_seat());
-    let book = close_both(&rt, alloc, desk, first, second);
+    let book = close_both(rt, alloc, desk, first, second);
     has_entries(
-        &rt,
+        rt,
         &book,
         &[
             (1, 1, Wish::Acquire, 1, Answer::Permitted(1)),
@@ -114,9 +115,10 @@ fn winner(first: Option<Reply>, ticket: u64) -> u32 {
 
 #[test]
 fn seats_meet_after_two_threads(rt: HostRuntime) {
+    let rt = &rt;
     let alloc = rt.alloc();
-    let mut desk = open_desk(&rt, alloc, &["pay"]);
-    let (first, second) = two_seats(&rt, alloc, &mut desk);
+    let mut desk = open_desk(rt, alloc, &["pay"]);
+    let (first, second) = two_seats(rt, alloc, &mut desk);
     let mut first = Acquirer {
         caller: Caller::new(&desk, first),
         answered: None,
@@ -125,7 +127,7 @@ fn seats_meet_after_two_threads(rt: HostRuntime) {
         caller: Caller::new(&desk, second),
         answered: None,
     };
-    acquire_and_meet(&rt, &mut first, &mut second);
+    acquire_and_meet(rt, &mut first, &mut second);
     let Acquirer {
         caller: first,
         answered: one,
@@ -134,11 +136,11 @@ fn seats_meet_after_two_threads(rt: HostRuntime) {
         caller: second,
         answered: two,
     } = second;
-    same(&rt, has_both_tickets(one, two), true);
+    same(rt, has_both_tickets(one, two), true);
     let (first, second) = (first.into_seat(), second.into_seat());
-    let book = close_both(&rt, alloc, desk, first, second);
+    let book = close_both(rt, alloc, desk, first, second);
     has_entries(
-        &rt,
+        rt,
         &book,
         &[
             (1, winner(one, 1), Wish::Acquire, 3, Answer::Permitted(1)),
@@ -164,13 +166,14 @@ fn cut<R: Wait + Abort>(rt: &R, caller: &mut Caller<'_>)
 
 #[test]
 fn seats_meet_after_a_cut(rt: HostRuntime) {
+    let rt = &rt;
     let alloc = rt.alloc();
-    let mut desk = open_desk(&rt, alloc, &["pay"]);
-    let (first, second) = two_seats(&rt, alloc, &mut desk);
+    let mut desk = open_desk(rt, alloc, &["pay"]);
+    let (first, second) = two_seats(rt, alloc, &mut desk);
     let mut first = Caller::new(&desk, first);
     let mut second = Caller::new(&desk, second);
     call(
-        &rt,
+        rt,
         alloc,
         &mut first,
         1,
@@ -178,30 +181,30 @@ fn seats_meet_after_a_cut(rt: HostRuntime) {
         Answer::Permitted(1),
     );
     call(
-        &rt,
+        rt,
         alloc,
         &mut second,
         2,
         Wish::Release(1),
         Answer::Released,
     );
-    cut(&rt, &mut first);
-    first.meet(&rt, &mut second, "pay");
+    cut(rt, &mut first);
+    first.meet(rt, &mut second, "pay");
     call(
-        &rt,
+        rt,
         alloc,
         &mut second,
         3,
         Wish::Acquire,
         Answer::Permitted(2),
     );
-    first.meet(&rt, &mut second, "pay");
-    same(&rt, first.read(&rt, "pay", 3).entries, 3);
-    second.meet(&rt, &mut first, "pay");
+    first.meet(rt, &mut second, "pay");
+    same(rt, first.read(rt, "pay", 3).entries, 3);
+    second.meet(rt, &mut first, "pay");
     let (first, second) = (first.into_seat(), second.into_seat());
-    let book = close_both(&rt, alloc, desk, first, second);
+    let book = close_both(rt, alloc, desk, first, second);
     has_entries(
-        &rt,
+        rt,
         &book,
         &[(3, 2, Wish::Acquire, 3, Answer::Permitted(2))],
         3,

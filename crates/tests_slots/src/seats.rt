@@ -27,13 +27,14 @@ fn check_seats<R: Abort>(rt: &R, seats: &[Seat], count: u64) {
 
 #[test]
 fn there_are_128_seats(rt: HostRuntime) {
+    let rt = &rt;
     let alloc = rt.alloc();
-    let mut desk = open_desk(&rt, alloc, &["pay"]);
-    let seats = seats_of(&rt, alloc, &mut desk, 128);
-    check_seats(&rt, &seats, 0);
-    same(&rt, seats.len(), 128);
-    same(&rt, desk.sit(alloc).err(), Some(RefusalNumber::SeatsFull));
-    same(&rt, close(&rt, alloc, desk, seats).len(), 1);
+    let mut desk = open_desk(rt, alloc, &["pay"]);
+    let seats = seats_of(rt, alloc, &mut desk, 128);
+    check_seats(rt, &seats, 0);
+    same(rt, seats.len(), 128);
+    same(rt, desk.sit(alloc).err(), Some(RefusalNumber::SeatsFull));
+    same(rt, close(rt, alloc, desk, seats).len(), 1);
 }
 
 /// A ticket of one service, and the release of one that was never issued at the other.
@@ -94,10 +95,11 @@ fn check_books<R: Abort>(rt: &R, books: &[Book], first: u64, second: u64) {
 
 #[test]
 fn all_seats_are_wanted_to_close(rt: HostRuntime) {
+    let rt = &rt;
     let alloc = rt.alloc();
-    let mut desk = open_desk(&rt, alloc, &["pay", "ship"]);
-    let seats = seats_of(&rt, alloc, &mut desk, 4);
-    let worked = work_at_once(&rt, alloc, &desk, seats, &TwoCalls);
-    let books = close_late(&rt, alloc, desk, worked.seats);
-    check_books(&rt, &books, 4, 4);
+    let mut desk = open_desk(rt, alloc, &["pay", "ship"]);
+    let seats = seats_of(rt, alloc, &mut desk, 4);
+    let worked = work_at_once(rt, alloc, &desk, seats, &TwoCalls);
+    let books = close_late(rt, alloc, desk, worked.seats);
+    check_books(rt, &books, 4, 4);
 }

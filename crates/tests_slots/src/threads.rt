@@ -57,19 +57,20 @@ fn check_books<R: Abort>(rt: &R, books: &[Book], done: &[Done]) {
 
 #[test]
 fn four_threads_make_all_entries(rt: HostRuntime) {
+    let rt = &rt;
     let alloc = rt.alloc();
-    let mut desk = open_desk(&rt, alloc, &["pay", "ship"]);
-    let seats = seats_of(&rt, alloc, &mut desk, 4);
+    let mut desk = open_desk(rt, alloc, &["pay", "ship"]);
+    let seats = seats_of(rt, alloc, &mut desk, 4);
     let tickets = Tickets { pay: 100, ship: 50 };
-    let worked = work_at_once(&rt, alloc, &desk, seats, &tickets);
-    same(&rt, worked.done.len(), 4);
-    same(&rt, count_of(&worked.done), 1200);
+    let worked = work_at_once(rt, alloc, &desk, seats, &tickets);
+    same(rt, worked.done.len(), 4);
+    same(rt, count_of(&worked.done), 1200);
     let readings = Readings {
         pay: 800,
         ship: 400,
     };
-    let read = work_at_once(&rt, alloc, &desk, worked.seats, &readings);
-    same(&rt, count_of(&read.done), 1200);
-    let books = close(&rt, alloc, desk, read.seats);
-    check_books(&rt, &books, &worked.done);
+    let read = work_at_once(rt, alloc, &desk, worked.seats, &readings);
+    same(rt, count_of(&read.done), 1200);
+    let books = close(rt, alloc, desk, read.seats);
+    check_books(rt, &books, &worked.done);
 }

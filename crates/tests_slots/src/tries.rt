@@ -71,14 +71,15 @@ fn finish_twice<R: Wait + Abort>(rt: &R, alloc: Global, caller: &mut Caller<'_>)
 
 #[test]
 fn one_seat_is_never_turned_away(rt: HostRuntime) {
+    let rt = &rt;
     let alloc = rt.alloc();
-    let mut desk = open_desk(&rt, alloc, &["pay"]);
-    let seat = seat_of(&rt, alloc, &mut desk);
+    let mut desk = open_desk(rt, alloc, &["pay"]);
+    let seat = seat_of(rt, alloc, &mut desk);
     let mut caller = Caller::new(&desk, seat);
-    finish_twice(&rt, alloc, &mut caller);
-    let seats = Vec::from_array(alloc, [caller.into_seat()]).expect(&rt, "ample memory");
-    let book = close_one(&rt, alloc, desk, seats);
-    has_entries(&rt, &book, FINISHED_TWICE, 3);
+    finish_twice(rt, alloc, &mut caller);
+    let seats = Vec::from_array(alloc, [caller.into_seat()]).expect(rt, "ample memory");
+    let book = close_one(rt, alloc, desk, seats);
+    has_entries(rt, &book, FINISHED_TWICE, 3);
 }
 
 /// Moves the breaker to CLOSED until the journal is full.
@@ -92,18 +93,19 @@ fn fill_journal<R: Abort>(rt: &R, caller: &mut Caller<'_>)
 
 #[test]
 fn a_call_without_an_entry_is_not_counted(rt: HostRuntime) {
+    let rt = &rt;
     let alloc = rt.alloc();
-    let mut desk = open_desk(&rt, alloc, &["pay"]);
-    let seat = seat_of(&rt, alloc, &mut desk);
+    let mut desk = open_desk(rt, alloc, &["pay"]);
+    let seat = seat_of(rt, alloc, &mut desk);
     let mut caller = Caller::new(&desk, seat);
-    fill_journal(&rt, &mut caller);
-    same(&rt, caller.count(), MOST_ENTRIES);
-    let waited = caller.call(&rt, alloc, "pay", 1, Wish::Reset, &OpenGate);
-    same(&rt, waited, FULL);
-    let tried = succeed(&rt, &mut caller, 1, Event::Acquire);
-    same(&rt, tried, FULL);
-    same(&rt, caller.count(), MOST_ENTRIES);
-    same(&rt, caller.read(&rt, "pay", 1).entries, MOST_ENTRIES);
+    fill_journal(rt, &mut caller);
+    same(rt, caller.count(), MOST_ENTRIES);
+    let waited = caller.call(rt, alloc, "pay", 1, Wish::Reset, &OpenGate);
+    same(rt, waited, FULL);
+    let tried = succeed(rt, &mut caller, 1, Event::Acquire);
+    same(rt, tried, FULL);
+    same(rt, caller.count(), MOST_ENTRIES);
+    same(rt, caller.read(rt, "pay", 1).entries, MOST_ENTRIES);
 }
 
 /// A second caller, who tries two calls while the first one has the book.
@@ -127,9 +129,10 @@ impl Held for Intruder<'_> {
 
 #[test]
 fn a_book_that_is_out_is_busy(rt: HostRuntime) {
+    let rt = &rt;
     let alloc = rt.alloc();
-    let mut desk = open_desk(&rt, alloc, &["pay"]);
-    let (first, second) = two_seats(&rt, alloc, &mut desk);
+    let mut desk = open_desk(rt, alloc, &["pay"]);
+    let (first, second) = two_seats(rt, alloc, &mut desk);
     let mut first = Caller::new(&desk, first);
     let mut intruder = Intruder {
         caller: Caller::new(&desk, second),
@@ -137,17 +140,17 @@ fn a_book_that_is_out_is_busy(rt: HostRuntime) {
         release_came_back: false,
     };
     let tried = first.try_call_with("pay", 1, Event::Acquire, &mut intruder);
-    same(&rt, is_answered(&rt, tried), reply(Answer::Permitted(1)));
-    is_true(&rt, intruder.acquire_came_back);
-    is_true(&rt, intruder.release_came_back);
-    same(&rt, intruder.caller.count(), 0);
-    let acquired = succeed(&rt, &mut intruder.caller, 3, Event::Acquire);
-    same(&rt, acquired, reply(Answer::Permitted(2)));
-    same(&rt, intruder.caller.count(), 1);
-    same(&rt, first.read(&rt, "pay", 3).entries, 2);
+    same(rt, is_answered(rt, tried), reply(Answer::Permitted(1)));
+    is_true(rt, intruder.acquire_came_back);
+    is_true(rt, intruder.release_came_back);
+    same(rt, intruder.caller.count(), 0);
+    let acquired = succeed(rt, &mut intruder.caller, 3, Event::Acquire);
+    same(rt, acquired, reply(Answer::Permitted(2)));
+    same(rt, intruder.caller.count(), 1);
+    same(rt, first.read(rt, "pay", 3).entries, 2);
     are_entries(
-        &rt,
-        &first.page(&rt, "pay", 0),
+        rt,
+        &first.page(rt, "pay", 0),
         &[
             (1, 1, Wish::Acquire, 1, Answer::Permitted(1)),
             (2, 2, Wish::Acquire, 3, Answer::Permitted(2)),
