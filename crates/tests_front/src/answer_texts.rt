@@ -271,18 +271,19 @@ fn are_entries(rt: &impl Abort, alloc: Global, book: &Book, rows: &[&str], next:
 
 #[test]
 fn entries_are_written(rt: HostRuntime) {
+    let rt = &rt;
     let alloc = rt.alloc();
-    let mut book = book(&rt, alloc);
+    let mut book = book(rt, alloc);
     apply(&mut book, 1, 1000, Event::Acquire);
-    let finished = finish(&rt, alloc, &book, 1);
+    let finished = finish(rt, alloc, &book, 1);
     apply(&mut book, 2, 900, finished);
-    apply(&mut book, 2, 0, install(&rt, alloc));
+    apply(&mut book, 2, 0, install(rt, alloc));
     apply(&mut book, 2, 0, Event::Acquire);
     apply(&mut book, 2, 0, Event::Release(2));
     apply(&mut book, 2, 0, Event::Move(State::ForcedOpen));
     apply(&mut book, 2, 1001, Event::Reset);
     are_entries(
-        &rt,
+        rt,
         alloc,
         &book,
         &[
@@ -306,18 +307,19 @@ fn is_page(rt: &impl Abort, alloc: Global, book: &Book, from: u64, text: &str) {
 
 #[test]
 fn pages_are_written(rt: HostRuntime) {
+    let rt = &rt;
     let alloc = rt.alloc();
-    let mut book = book(&rt, alloc);
+    let mut book = book(rt, alloc);
     apply(&mut book, 1, 7, Event::Acquire);
     let first =
         "{\"entries\":[{\"event\":\"acquire\",\"moment\":7,\"number\":1,\"reply\":{\"state\":\"CLOSED\",\"ticket\":1,\"version\":1},\"seat\":1}],\"next\":2}";
-    is_page(&rt, alloc, &book, 1, first);
-    same(&rt, first.len(), 123);
+    is_page(rt, alloc, &book, 1, first);
+    same(rt, first.len(), 123);
     apply(&mut book, 2, 8, Event::Release(1));
     let both =
         "{\"entries\":[{\"event\":\"acquire\",\"moment\":7,\"number\":1,\"reply\":{\"state\":\"CLOSED\",\"ticket\":1,\"version\":1},\"seat\":1},{\"event\":\"release\",\"moment\":8,\"number\":2,\"reply\":{\"fate\":\"released\",\"state\":\"CLOSED\"},\"seat\":2,\"ticket\":1}],\"next\":3}";
-    is_page(&rt, alloc, &book, 1, both);
-    is_page(&rt, alloc, &book, 3, "{\"entries\":[],\"next\":3}");
+    is_page(rt, alloc, &book, 1, both);
+    is_page(rt, alloc, &book, 3, "{\"entries\":[],\"next\":3}");
     let last = "{\"entries\":[],\"next\":18446744073709551615}";
-    is_page(&rt, alloc, &book, u64::MAX, last);
+    is_page(rt, alloc, &book, u64::MAX, last);
 }

@@ -52,22 +52,23 @@ fn report(rt: &impl Abort, alloc: Global, ticket: u64) -> Request {
 
 #[test]
 fn events_are_replied_to(rt: HostRuntime) {
+    let rt = &rt;
     let alloc = rt.alloc();
-    let mut book = book(&rt, alloc);
+    let mut book = book(rt, alloc);
     let closed = State::Closed;
     let permitted = Reply::Permitted {
         ticket: 1,
         version: 1,
         state: closed,
     };
-    is_replied(&rt, alloc, &mut book, Request::Acquire, permitted);
+    is_replied(rt, alloc, &mut book, Request::Acquire, permitted);
     let installed = Reply::Installed {
         version: 2,
         budget: 2,
         layout: Layout::One,
     };
-    let request = install(&rt, alloc, &IGNORING);
-    is_replied(&rt, alloc, &mut book, request, installed);
+    let request = install(rt, alloc, &IGNORING);
+    is_replied(rt, alloc, &mut book, request, installed);
     let finished = Reply::Finished {
         fate: Fate::Recorded,
         verdict: Verdict::Success,
@@ -75,21 +76,21 @@ fn events_are_replied_to(rt: HostRuntime) {
         version: 1,
         state: closed,
     };
-    is_replied(&rt, alloc, &mut book, report(&rt, alloc, 1), finished);
+    is_replied(rt, alloc, &mut book, report(rt, alloc, 1), finished);
     let unknown = Reply::Refused(RefusalNumber::NoTicket);
-    is_replied(&rt, alloc, &mut book, report(&rt, alloc, 2), unknown);
+    is_replied(rt, alloc, &mut book, report(rt, alloc, 2), unknown);
     let spent = Reply::Refused(RefusalNumber::TicketSpent);
-    is_replied(&rt, alloc, &mut book, Request::Release(1), spent);
+    is_replied(rt, alloc, &mut book, Request::Release(1), spent);
     let opened = Reply::Moved {
         state: State::Open,
         period: 2,
     };
-    is_replied(&rt, alloc, &mut book, Request::Move(State::Open), opened);
+    is_replied(rt, alloc, &mut book, Request::Move(State::Open), opened);
     let reset = Reply::Moved {
         state: closed,
         period: 3,
     };
-    is_replied(&rt, alloc, &mut book, Request::Reset, reset);
+    is_replied(rt, alloc, &mut book, Request::Reset, reset);
 }
 
 /// Why a program is refused that seat 1 asks to install; None where it is answered otherwise.
@@ -102,15 +103,16 @@ fn refusal_of(alloc: Global, book: &mut Book, request: Request) -> Option<Refusa
 
 #[test]
 fn refused_programs_change_nothing(rt: HostRuntime) {
+    let rt = &rt;
     let alloc = rt.alloc();
-    let mut book = book(&rt, alloc);
-    let request = install(&rt, alloc, &IGNORING[8..]);
+    let mut book = book(rt, alloc);
+    let request = install(rt, alloc, &IGNORING[8..]);
     let unset = Refusal {
         slot: 0,
         number: RefusalNumber::UnsetRegister,
     };
-    same(&rt, refusal_of(alloc, &mut book, request), Some(unset));
-    same(&rt, book.last_number(), 0);
+    same(rt, refusal_of(alloc, &mut book, request), Some(unset));
+    same(rt, book.last_number(), 0);
 }
 
 /// How many entries are answered; None where it is answered otherwise.
@@ -137,17 +139,18 @@ fn is_moved(rt: &impl Abort, alloc: Global, book: &mut Book, state: State) {
 
 #[test]
 fn journals_are_read_rolled_and_cut(rt: HostRuntime) {
+    let rt = &rt;
     let alloc = rt.alloc();
-    let mut book = book(&rt, alloc);
-    is_moved(&rt, alloc, &mut book, State::Open);
-    is_moved(&rt, alloc, &mut book, State::Closed);
-    same(&rt, entries_read(alloc, &mut book), Some(2));
-    same(&rt, entries_of(alloc, &mut book, Request::Page(2)), Some(1));
-    same(&rt, entries_of(alloc, &mut book, Request::Roll(1)), Some(1));
-    same(&rt, entries_read(alloc, &mut book), Some(2));
-    same(&rt, entries_of(alloc, &mut book, Request::Page(1)), Some(1));
-    same(&rt, entries_of(alloc, &mut book, Request::Cut), Some(1));
-    same(&rt, entries_of(alloc, &mut book, Request::Page(1)), Some(0));
+    let mut book = book(rt, alloc);
+    is_moved(rt, alloc, &mut book, State::Open);
+    is_moved(rt, alloc, &mut book, State::Closed);
+    same(rt, entries_read(alloc, &mut book), Some(2));
+    same(rt, entries_of(alloc, &mut book, Request::Page(2)), Some(1));
+    same(rt, entries_of(alloc, &mut book, Request::Roll(1)), Some(1));
+    same(rt, entries_read(alloc, &mut book), Some(2));
+    same(rt, entries_of(alloc, &mut book, Request::Page(1)), Some(1));
+    same(rt, entries_of(alloc, &mut book, Request::Cut), Some(1));
+    same(rt, entries_of(alloc, &mut book, Request::Page(1)), Some(0));
 }
 
 /// A gate that counts how often it is called, and keeps the last ticket.
@@ -192,39 +195,40 @@ fn seen_behind(
 
 #[test]
 fn reports_pass_the_gate_once(rt: HostRuntime) {
+    let rt = &rt;
     let alloc = rt.alloc();
-    let mut book = book(&rt, alloc);
+    let mut book = book(rt, alloc);
     let gate = CountingGate::new();
     let book = &mut book;
     same(
-        &rt,
+        rt,
         seen_behind(alloc, book, Request::Acquire, &gate),
         (0, 0),
     );
     same(
-        &rt,
+        rt,
         seen_behind(alloc, book, Request::Acquire, &gate),
         (0, 0),
     );
     same(
-        &rt,
-        seen_behind(alloc, book, report(&rt, alloc, 2), &gate),
+        rt,
+        seen_behind(alloc, book, report(rt, alloc, 2), &gate),
         (1, 2),
     );
     // A look that is refused doesn't come to the gate: of a ticket that has ended, and of one that was never issued.
     same(
-        &rt,
-        seen_behind(alloc, book, report(&rt, alloc, 2), &gate),
+        rt,
+        seen_behind(alloc, book, report(rt, alloc, 2), &gate),
         (1, 2),
     );
     same(
-        &rt,
-        seen_behind(alloc, book, report(&rt, alloc, 9), &gate),
+        rt,
+        seen_behind(alloc, book, report(rt, alloc, 9), &gate),
         (1, 2),
     );
     same(
-        &rt,
-        seen_behind(alloc, book, report(&rt, alloc, 1), &gate),
+        rt,
+        seen_behind(alloc, book, report(rt, alloc, 1), &gate),
         (2, 1),
     );
 }

@@ -55,8 +55,9 @@ fn has_text(rt: &impl Abort, value: &Value, key: &str, wanted: Option<&str>) {
 
 #[test]
 fn whole_numbers_are_written_as_such(rt: HostRuntime) {
+    let rt = &rt;
     are_numbers(
-        &rt,
+        rt,
         rt.alloc(),
         &[
             ("{\"n\":0}", Some(0)),
@@ -73,10 +74,10 @@ fn whole_numbers_are_written_as_such(rt: HostRuntime) {
             ("[1]", None),
         ],
     );
-    let value = value(&rt, rt.alloc(), "{\"do\":\"read\",\"at\":1}");
-    has_text(&rt, &value, "do", Some("read"));
-    has_text(&rt, &value, "at", None);
-    has_text(&rt, &value, "to", None);
+    let value = value(rt, rt.alloc(), "{\"do\":\"read\",\"at\":1}");
+    has_text(rt, &value, "do", Some("read"));
+    has_text(rt, &value, "at", None);
+    has_text(rt, &value, "to", None);
 }
 
 /// The configuration in a text.
@@ -92,10 +93,11 @@ fn parts_of(rt: &impl Abort, alloc: Global, text: &str) -> ConfigParts {
 
 #[test]
 fn missing_values_are_the_defaults(rt: HostRuntime) {
-    let defaults = parts_of(&rt, rt.alloc(), "{}");
-    same(&rt, defaults, ConfigParts::DEFAULT);
+    let rt = &rt;
+    let defaults = parts_of(rt, rt.alloc(), "{}");
+    same(rt, defaults, ConfigParts::DEFAULT);
     let whole = parts_of(
-        &rt,
+        rt,
         rt.alloc(),
         "{\"failureRateThreshold\":1,\"slowCallRateThreshold\":2,\"slowCallDurationThreshold\":3,\"permittedNumberOfCallsInHalfOpenState\":4,\"maxWaitDurationInHalfOpenState\":9,\"slidingWindowType\":\"COUNT_BASED\",\"slidingWindowSize\":5,\"minimumNumberOfCalls\":6,\"waitDurationInOpenState\":7,\"maxConcurrentCalls\":8,\"maxWaitDuration\":0}",
     );
@@ -112,7 +114,7 @@ fn missing_values_are_the_defaults(rt: HostRuntime) {
         max_concurrent_calls: 8,
         max_wait_duration: 0,
     };
-    same(&rt, whole, parts);
+    same(rt, whole, parts);
 }
 
 #[test]
@@ -244,12 +246,13 @@ fn are_no_reports(rt: &impl Abort, alloc: Global, texts: &[&str]) {
 
 #[test]
 fn reports_are_read(rt: HostRuntime) {
+    let rt = &rt;
     let good = "{\"outcome\":{\"duration_ms\":7},\"ticket\":3,\"other\":null}";
-    let reported = report_in(&rt, rt.alloc(), good).expect(&rt, "a report");
-    same(&rt, reported.ticket, 3);
-    same(&rt, reported.outcome.duration(), 7);
+    let reported = report_in(rt, rt.alloc(), good).expect(rt, "a report");
+    same(rt, reported.ticket, 3);
+    same(rt, reported.outcome.duration(), 7);
     are_no_reports(
-        &rt,
+        rt,
         rt.alloc(),
         &[
             "{}",

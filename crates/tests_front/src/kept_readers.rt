@@ -103,11 +103,12 @@ fn nested(rt: &impl Abort, alloc: Global, depth: usize) -> Vec<u8> {
 
 #[test]
 fn arrays_are_nested_127_deep_at_most(rt: HostRuntime) {
+    let rt = &rt;
     let alloc = rt.alloc();
     let mut kept = JsonReader::new(alloc);
-    let deepest = nested(&rt, alloc, DEEPEST);
-    reads(&rt, alloc, &mut kept, deepest.as_slice(), true);
-    let deeper = nested(&rt, alloc, DEEPEST + 1);
-    reads(&rt, alloc, &mut kept, deeper.as_slice(), false);
-    reads(&rt, alloc, &mut kept, deepest.as_slice(), true);
+    let deepest = nested(rt, alloc, DEEPEST);
+    reads(rt, alloc, &mut kept, deepest.as_slice(), true);
+    let deeper = nested(rt, alloc, DEEPEST + 1);
+    reads(rt, alloc, &mut kept, deeper.as_slice(), false);
+    reads(rt, alloc, &mut kept, deepest.as_slice(), true);
 }

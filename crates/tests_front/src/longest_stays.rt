@@ -295,9 +295,10 @@ fn a_reading_ends_no_stay(rt: HostRuntime) {
 
 #[test]
 fn a_call_that_nobody_reports_holds_half_open_no_longer(rt: HostRuntime) {
+    let rt = &rt;
     let alloc = rt.alloc();
     let input = joined_text(
-        &rt,
+        rt,
         alloc,
         &[
             HALF_A_SECOND,
@@ -313,7 +314,7 @@ fn a_call_that_nobody_reports_holds_half_open_no_longer(rt: HostRuntime) {
         ],
     );
     let before = text_of(
-        &rt,
+        rt,
         alloc,
         Shown {
             total: 1,
@@ -321,7 +322,7 @@ fn a_call_that_nobody_reports_holds_half_open_no_longer(rt: HostRuntime) {
         },
     );
     let after = text_of(
-        &rt,
+        rt,
         alloc,
         Shown {
             period: 4,
@@ -330,7 +331,7 @@ fn a_call_that_nobody_reports_holds_half_open_no_longer(rt: HostRuntime) {
         },
     );
     prints(
-        &rt,
+        rt,
         alloc,
         &input,
         &[
@@ -398,22 +399,23 @@ fn a_longest_stay_may_be_long(rt: HostRuntime) {
 /// A version too many is refused with nothing changed, also where the longest stay is over.
 #[test]
 fn a_refused_install_ends_no_stay(rt: HostRuntime) {
+    let rt = &rt;
     let alloc = rt.alloc();
-    let mut input = joined_text(&rt, alloc, &[HALF_A_SECOND, MOVE]);
-    let mut printed = joined_text(&rt, alloc, &[MOVED]);
+    let mut input = joined_text(rt, alloc, &[HALF_A_SECOND, MOVE]);
+    let mut printed = joined_text(rt, alloc, &[MOVED]);
     for version in 2..=256_u64 {
         let line = format!(in alloc; "200 {{\"budget\":2,\"version\":{version}}}\n");
-        let line = line.expect(&rt, "ample memory");
-        printed.push_str(&line).expect(&rt, "ample memory");
+        let line = line.expect(rt, "ample memory");
+        printed.push_str(&line).expect(rt, "ample memory");
         let install =
             "{\"at\":499,\"do\":\"install\",\"program\":\"b700000002000000 9500000000000000\"}\n";
-        input.push_str(install).expect(&rt, "ample memory");
+        input.push_str(install).expect(rt, "ample memory");
     }
     let late =
         "{\"at\":500,\"do\":\"install\",\"program\":\"b700000002000000 9500000000000000\"}\n{\"at\":500,\"do\":\"read\"}\n{\"at\":500,\"do\":\"acquire\"}\n";
-    input.push_str(late).expect(&rt, "ample memory");
+    input.push_str(late).expect(rt, "ample memory");
     let reading = text_of(
-        &rt,
+        rt,
         alloc,
         Shown {
             version: 256,
@@ -424,7 +426,7 @@ fn a_refused_install_ends_no_stay(rt: HostRuntime) {
         },
     );
     prints(
-        &rt,
+        rt,
         alloc,
         &input,
         &[

@@ -184,9 +184,10 @@ fn are_no_configurations(rt: &impl Abort, alloc: Global, configs: &[&str]) {
 
 #[test]
 fn configurations_are_read_whole(rt: HostRuntime) {
+    let rt = &rt;
     let alloc = rt.alloc();
     are_configurations(
-        &rt,
+        rt,
         alloc,
         &[
             "{}",
@@ -199,7 +200,7 @@ fn configurations_are_read_whole(rt: HostRuntime) {
         ],
     );
     are_no_configurations(
-        &rt,
+        rt,
         alloc,
         &[
             "[]",
@@ -223,9 +224,9 @@ fn configurations_are_read_whole(rt: HostRuntime) {
             "{\"at\":0,\"do\":\"read\"}",
         ],
     );
-    has_no_configuration(&rt, alloc, b"");
-    has_no_configuration(&rt, alloc, b"\n \n   \n");
-    has_no_configuration(&rt, alloc, b"\xff\n");
+    has_no_configuration(rt, alloc, b"");
+    has_no_configuration(rt, alloc, b"\n \n   \n");
+    has_no_configuration(rt, alloc, b"\xff\n");
 }
 
 /// Checks what is printed for lines behind a configuration. Each row is a line and what is printed.
@@ -326,17 +327,18 @@ fn printed_bytes(rt: &impl Abort, alloc: Global, input: &[u8]) -> (ReplayEnded, 
 
 #[test]
 fn long_lines_are_read(rt: HostRuntime) {
+    let rt = &rt;
     let alloc = rt.alloc();
-    let config = repeated(&rt, alloc, b" ", 100_000);
-    let event = repeated(&rt, alloc, b" ", 1_000_000);
+    let config = repeated(rt, alloc, b" ", 100_000);
+    let event = repeated(rt, alloc, b" ", 1_000_000);
     let acquire = b"{\"at\":0,\"do\":\"acquire\"}\n";
-    let others = repeated(&rt, alloc, b"{\"at\":0,\"do\":\"frob\"}\n", 2000);
+    let others = repeated(rt, alloc, b"{\"at\":0,\"do\":\"frob\"}\n", 2000);
     let pieces: &[&[u8]] = &[&config, b"{}\n", &event, acquire, &others];
-    let input = joined(&rt, alloc, pieces);
+    let input = joined(rt, alloc, pieces);
     let size = ACQUIRED.len() + 2000 * BAD_VALUE.len();
     same(
-        &rt,
-        printed_bytes(&rt, alloc, &input),
+        rt,
+        printed_bytes(rt, alloc, &input),
         (ReplayEnded::Done, size),
     );
 }

@@ -197,16 +197,17 @@ fn installed(rt: &impl Abort, alloc: Global, last: u32) -> String {
 
 #[test]
 fn a_cut_keeps_the_last_version(rt: HostRuntime) {
+    let rt = &rt;
     let alloc = rt.alloc();
-    let installs = installs(&rt, alloc, 256);
+    let installs = installs(rt, alloc, 256);
     let cut = "{\"at\":0,\"do\":\"cut\"}\n";
-    let input = joined_text(&rt, alloc, &[&installs, cut, INSTALL]);
+    let input = joined_text(rt, alloc, &[&installs, cut, INSTALL]);
     prints(
-        &rt,
+        rt,
         alloc,
         &input,
         &[
-            &installed(&rt, alloc, 256),
+            &installed(rt, alloc, 256),
             "503 {\"error\":36,\"name\":\"VersionsFull\"}\n",
             "200 {\"entries\":255}\n",
             "200 {\"budget\":2,\"version\":257}\n",
@@ -216,16 +217,17 @@ fn a_cut_keeps_the_last_version(rt: HostRuntime) {
 
 #[test]
 fn a_roll_leaves_room_for_versions(rt: HostRuntime) {
+    let rt = &rt;
     let alloc = rt.alloc();
-    let installs = installs(&rt, alloc, 256);
+    let installs = installs(rt, alloc, 256);
     let roll = "{\"at\":0,\"do\":\"roll\",\"to\":0}\n";
-    let input = joined_text(&rt, alloc, &[&installs, roll, INSTALL]);
+    let input = joined_text(rt, alloc, &[&installs, roll, INSTALL]);
     prints(
-        &rt,
+        rt,
         alloc,
         &input,
         &[
-            &installed(&rt, alloc, 256),
+            &installed(rt, alloc, 256),
             "503 {\"error\":36,\"name\":\"VersionsFull\"}\n",
             "200 {\"entries\":0}\n",
             "200 {\"budget\":2,\"version\":257}\n",

@@ -72,13 +72,14 @@ fn is_answered(rt: &impl Abort, alloc: Global, input: &[u8], printed: &[u8]) {
 
 #[test]
 fn very_many_events_are_answered(rt: HostRuntime) {
+    let rt = &rt;
     let alloc = rt.alloc();
-    let events = repeated(&rt, alloc, b"{\"at\":1,\"do\":\"frob\"}\n", 65_600);
-    let input = joined(&rt, alloc, &[b"{}\n", &events, ACQUIRE]);
+    let events = repeated(rt, alloc, b"{\"at\":1,\"do\":\"frob\"}\n", 65_600);
+    let input = joined(rt, alloc, &[b"{}\n", &events, ACQUIRE]);
     let refused = b"422 {\"error\":59,\"name\":\"BadField\"}\n";
-    let refused = repeated(&rt, alloc, refused, 65_600);
-    let printed = joined(&rt, alloc, &[&refused, ACQUIRED]);
-    is_true(&rt, answered(&rt, alloc, &input) == printed);
+    let refused = repeated(rt, alloc, refused, 65_600);
+    let printed = joined(rt, alloc, &[&refused, ACQUIRED]);
+    is_true(rt, answered(rt, alloc, &input) == printed);
 }
 
 /// Checks that so many blank lines are passed over.
@@ -141,23 +142,25 @@ fn slowly_answered(rt: &impl Abort, alloc: Global, input: &[u8]) -> Vec<u8> {
 
 #[test]
 fn answers_go_out_byte_by_byte(rt: HostRuntime) {
+    let rt = &rt;
     let alloc = rt.alloc();
-    let input = joined(&rt, alloc, &[b"{}\n", ACQUIRE, b"{}"]);
-    let text = slowly_answered(&rt, alloc, &input);
-    is_true(&rt, text.starts_with(ACQUIRED));
-    same(&rt, text, answered(&rt, alloc, &input));
+    let input = joined(rt, alloc, &[b"{}\n", ACQUIRE, b"{}"]);
+    let text = slowly_answered(rt, alloc, &input);
+    is_true(rt, text.starts_with(ACQUIRED));
+    same(rt, text, answered(rt, alloc, &input));
 }
 
 #[test]
 fn long_lines_are_answered(rt: HostRuntime) {
+    let rt = &rt;
     let alloc = rt.alloc();
-    let letters = repeated(&rt, alloc, b"x", 1 << 20);
+    let letters = repeated(rt, alloc, b"x", 1 << 20);
     let event = b"{\"at\":1,\"do\":\"acquire\",\"note\":\"";
-    let input = joined(&rt, alloc, &[b"{}\n", event, &letters, b"\"}\n"]);
-    is_answered(&rt, alloc, &input, ACQUIRED);
-    let blanks = repeated(&rt, alloc, b" ", 1 << 20);
-    let input = joined(&rt, alloc, &[b"{", &blanks, b"}\n", ACQUIRE]);
-    is_answered(&rt, alloc, &input, ACQUIRED);
+    let input = joined(rt, alloc, &[b"{}\n", event, &letters, b"\"}\n"]);
+    is_answered(rt, alloc, &input, ACQUIRED);
+    let blanks = repeated(rt, alloc, b" ", 1 << 20);
+    let input = joined(rt, alloc, &[b"{", &blanks, b"}\n", ACQUIRE]);
+    is_answered(rt, alloc, &input, ACQUIRED);
 }
 
 /// A thousand keys that no outcome has, with their values.
@@ -172,16 +175,17 @@ fn unknown_keys(rt: &impl Abort, alloc: Global) -> String {
 
 #[test]
 fn outcomes_may_have_many_unknown_keys(rt: HostRuntime) {
+    let rt = &rt;
     let alloc = rt.alloc();
     let report = b"{\"at\":1,\"do\":\"report\",\"ticket\":1,\"outcome\":{";
-    let keys = unknown_keys(&rt, alloc);
+    let keys = unknown_keys(rt, alloc);
     let kind = b"\"kind\":\"timeout\"}}\n";
     let pieces: &[&[u8]] = &[b"{}\n", ACQUIRE, report, keys.as_bytes(), kind];
-    let input = joined(&rt, alloc, pieces);
+    let input = joined(rt, alloc, pieces);
     let recorded =
         b"200 {\"fate\":\"recorded\",\"state\":\"CLOSED\",\"steps\":4,\"verdict\":\"failure\",\"version\":1}\n";
-    let printed = joined(&rt, alloc, &[ACQUIRED, recorded]);
-    is_true(&rt, answered(&rt, alloc, &input) == printed);
+    let printed = joined(rt, alloc, &[ACQUIRED, recorded]);
+    is_true(rt, answered(rt, alloc, &input) == printed);
 }
 
 #[test]
