@@ -97,20 +97,21 @@ fn is_converted(rt: &impl Abort, order: ByteOrder, size: Size, before: u64, afte
 
 #[test]
 fn single_words_are_negated_and_converted(rt: HostRuntime) {
+    let rt = &rt;
     let seven = Flat::One(7);
     same(
-        &rt,
+        rt,
         negation(Width::Bits64, seven),
         Flat::One(0xffff_ffff_ffff_fff9),
     );
-    same(&rt, negation(Width::Bits32, seven), Flat::One(0xffff_fff9));
-    same(&rt, negation(Width::Bits64, ANY), ANY);
+    same(rt, negation(Width::Bits32, seven), Flat::One(0xffff_fff9));
+    same(rt, negation(Width::Bits64, ANY), ANY);
     let odd = 0x1234_8091;
-    is_moved(&rt, Width::Bits64, Size::Byte, odd, 0xffff_ffff_ffff_ff91);
-    is_moved(&rt, Width::Bits32, Size::HalfWord, odd, 0xffff_8091);
-    is_converted(&rt, ByteOrder::Little, Size::HalfWord, odd, 0x8091);
-    is_converted(&rt, ByteOrder::Big, Size::HalfWord, odd, 0x9180);
-    is_converted(&rt, ByteOrder::Swap, Size::Word, odd, 0x9180_3412);
+    is_moved(rt, Width::Bits64, Size::Byte, odd, 0xffff_ffff_ffff_ff91);
+    is_moved(rt, Width::Bits32, Size::HalfWord, odd, 0xffff_8091);
+    is_converted(rt, ByteOrder::Little, Size::HalfWord, odd, 0x8091);
+    is_converted(rt, ByteOrder::Big, Size::HalfWord, odd, 0x9180);
+    is_converted(rt, ByteOrder::Swap, Size::Word, odd, 0x9180_3412);
 }
 
 /// A comparison, its width, whether it holds, and what it then tells of any word and five.

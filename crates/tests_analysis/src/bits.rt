@@ -43,14 +43,15 @@ fn joins(rt: &impl Abort, a: Pair, b: Pair, wanted: Pair) {
 
 #[test]
 fn single_words_and_joins(rt: HostRuntime) {
-    same(&rt, seen(KnownBits::constant(5)), (5, 0));
-    same(&rt, seen(KnownBits::top()), (0, u64::MAX));
+    let rt = &rt;
+    same(rt, seen(KnownBits::constant(5)), (5, 0));
+    same(rt, seen(KnownBits::top()), (0, u64::MAX));
     let twelve_or_ten = having((0b1100, 0)).join(having((0b1010, 0)));
-    same(&rt, twelve_or_ten.value(), 0b1000);
-    same(&rt, twelve_or_ten.unknown(), 0b0110);
+    same(rt, twelve_or_ten.value(), 0b1000);
+    same(rt, twelve_or_ten.unknown(), 0b0110);
     let either = (0b1000, 0b0001);
-    joins(&rt, either, (0b1010, 0), (0b1000, 0b0011));
-    joins(&rt, either, (0b1001, 0), (0b1000, 0b0001));
+    joins(rt, either, (0b1010, 0), (0b1000, 0b0011));
+    joins(rt, either, (0b1001, 0), (0b1000, 0b0001));
 }
 
 /// Checks what an operation makes of two values.
@@ -219,21 +220,22 @@ fn has_low_zeros(rt: &impl Abort, value: KnownBits, count: u32, wanted: bool)
 
 #[test]
 fn what_is_known_of_all_words(rt: HostRuntime) {
+    let rt = &rt;
     let a = having((0b1000, 0b0100));
     let bounds = Bounds {
         low: 0b1000,
         high: 0b1100,
     };
-    same(&rt, a.bounds(), bounds);
+    same(rt, a.bounds(), bounds);
     let bits = Bits {
         value: 0b1000,
         unknown: 0b0100,
     };
-    same(&rt, a.bits(), bits);
-    has_low_zeros(&rt, a, 2, true);
-    has_low_zeros(&rt, a, 3, false);
-    has_low_zeros(&rt, known(0b1000, 0), 4, false);
-    has_low_zeros(&rt, KnownBits::top(), 0, true);
+    same(rt, a.bits(), bits);
+    has_low_zeros(rt, a, 2, true);
+    has_low_zeros(rt, a, 3, false);
+    has_low_zeros(rt, known(0b1000, 0), 4, false);
+    has_low_zeros(rt, KnownBits::top(), 0, true);
 }
 
 /// A relation and two values, each before and after.

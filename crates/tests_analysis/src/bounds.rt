@@ -31,20 +31,21 @@ fn joins(rt: &impl Abort, a: Ends, b: Ends, wanted: Ends) {
 
 #[test]
 fn words_and_bounds(rt: HostRuntime) {
-    let three_to_nine = range(&rt, (3, 9));
-    same(&rt, (three_to_nine.low(), three_to_nine.high()), (3, 9));
-    same(&rt, three_to_nine.bounds(), Bounds { low: 3, high: 9 });
-    same(&rt, Range::constant(7), range(&rt, (7, 7)));
-    same(&rt, Range::top(), range(&rt, (0, MAX)));
-    joins(&rt, (3, 9), (5, 20), (3, 20));
-    joins(&rt, (5, 20), (3, 9), (3, 20));
+    let rt = &rt;
+    let three_to_nine = range(rt, (3, 9));
+    same(rt, (three_to_nine.low(), three_to_nine.high()), (3, 9));
+    same(rt, three_to_nine.bounds(), Bounds { low: 3, high: 9 });
+    same(rt, Range::constant(7), range(rt, (7, 7)));
+    same(rt, Range::top(), range(rt, (0, MAX)));
+    joins(rt, (3, 9), (5, 20), (3, 20));
+    joins(rt, (5, 20), (3, 9), (3, 20));
     let clamped = three_to_nine.clamp(Bounds { low: 4, high: 5 });
-    same(&rt, clamped, range(&rt, (4, 5)));
+    same(rt, clamped, range(rt, (4, 5)));
     let odd = Bits {
         value: 1,
         unknown: MAX - 1,
     };
-    same(&rt, three_to_nine.fix(odd), three_to_nine);
+    same(rt, three_to_nine.fix(odd), three_to_nine);
 }
 
 /// Checks whether so many low bits are known to be zero.
@@ -57,6 +58,7 @@ fn has_low_zeros(rt: &impl Abort, ends: Ends, count: u32, wanted: bool)
 
 #[test]
 fn known_bits(rt: HostRuntime) {
+    let rt = &rt;
     let one = Bits {
         value: 7,
         unknown: 0,
@@ -65,13 +67,13 @@ fn known_bits(rt: HostRuntime) {
         value: 0,
         unknown: MAX,
     };
-    same(&rt, range(&rt, (7, 7)).bits(), one);
-    same(&rt, range(&rt, (7, 8)).bits(), any);
-    has_low_zeros(&rt, (8, 8), 3, true);
-    has_low_zeros(&rt, (8, 8), 4, false);
-    has_low_zeros(&rt, (8, 16), 3, false);
-    has_low_zeros(&rt, (7, 7), 0, true);
-    has_low_zeros(&rt, (0, 0), 63, true);
+    same(rt, range(rt, (7, 7)).bits(), one);
+    same(rt, range(rt, (7, 8)).bits(), any);
+    has_low_zeros(rt, (8, 8), 3, true);
+    has_low_zeros(rt, (8, 8), 4, false);
+    has_low_zeros(rt, (8, 16), 3, false);
+    has_low_zeros(rt, (7, 7), 0, true);
+    has_low_zeros(rt, (0, 0), 63, true);
 }
 
 /// An operation, two ranges, and what it makes of them.

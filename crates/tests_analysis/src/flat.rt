@@ -96,10 +96,11 @@ fn one_word_is_shifted_and_converted(rt: HostRuntime) {
 
 #[test]
 fn a_join_keeps_a_word_that_both_have(rt: HostRuntime) {
-    same(&rt, Flat::One(3).join(Flat::One(3)), Flat::One(3));
-    same(&rt, Flat::One(3).join(Flat::One(4)), ANY);
-    same(&rt, Flat::One(3).join(ANY), ANY);
-    same(&rt, ANY.join(Flat::One(3)), ANY);
+    let rt = &rt;
+    same(rt, Flat::One(3).join(Flat::One(3)), Flat::One(3));
+    same(rt, Flat::One(3).join(Flat::One(4)), ANY);
+    same(rt, Flat::One(3).join(ANY), ANY);
+    same(rt, ANY.join(Flat::One(3)), ANY);
 }
 
 /// Checks the bounds of what is known of a word.
@@ -121,14 +122,15 @@ fn has_low_zeros(rt: &impl Abort, value: Flat, count: u32, wanted: bool)
 
 #[test]
 fn bounds_and_bits_are_those_of_the_word(rt: HostRuntime) {
+    let rt = &rt;
     let twelve = Flat::One(12);
-    has_bounds(&rt, twelve, 12, 12);
-    has_bounds(&rt, Flat::top(), 0, u64::MAX);
-    has_bits(&rt, twelve, 12, 0);
-    has_bits(&rt, ANY, 0, u64::MAX);
-    has_low_zeros(&rt, twelve, 2, true);
-    has_low_zeros(&rt, twelve, 3, false);
-    has_low_zeros(&rt, ANY, 0, false);
+    has_bounds(rt, twelve, 12, 12);
+    has_bounds(rt, Flat::top(), 0, u64::MAX);
+    has_bits(rt, twelve, 12, 0);
+    has_bits(rt, ANY, 0, u64::MAX);
+    has_low_zeros(rt, twelve, 2, true);
+    has_low_zeros(rt, twelve, 3, false);
+    has_low_zeros(rt, ANY, 0, false);
 }
 
 /// A relation and two values, each before and after.

@@ -40,22 +40,23 @@ fn are_equal(rt: &impl Abort, a: Two, b: Two, wanted: Two) {
 
 #[test]
 fn each_part_takes_its_own_step(rt: HostRuntime) {
+    let rt = &rt;
     let a = both(Flat::One(6), ANY);
     let b = both(Flat::One(6), Flat::One(3));
     let c = both(ANY, Flat::One(3));
-    joins(&rt, a, b, both(Flat::One(6), ANY));
-    joins(&rt, c, b, both(ANY, Flat::One(3)));
-    adds(&rt, b, b, both(Flat::One(12), Flat::One(6)));
-    adds(&rt, a, b, both(Flat::One(12), ANY));
-    are_equal(&rt, c, a, both(Flat::One(6), Flat::One(3)));
+    joins(rt, a, b, both(Flat::One(6), ANY));
+    joins(rt, c, b, both(ANY, Flat::One(3)));
+    adds(rt, b, b, both(Flat::One(12), Flat::One(6)));
+    adds(rt, a, b, both(Flat::One(12), ANY));
+    are_equal(rt, c, a, both(Flat::One(6), Flat::One(3)));
     let shifted = b.shift(Shift::Left, 2);
-    same(&rt, shifted, both(Flat::One(24), Flat::One(12)));
+    same(rt, shifted, both(Flat::One(24), Flat::One(12)));
     let converted = c.convert(Conversion::Swapped, Size::HalfWord);
-    same(&rt, converted, both(ANY, Flat::One(0x300)));
-    same(&rt, a.clamp(EIGHT_TO_THIRTEEN), a);
-    same(&rt, a.fix(EVEN), a);
-    same(&rt, Two::constant(7), both(Flat::One(7), Flat::One(7)));
-    same(&rt, Two::top(), both(ANY, ANY));
+    same(rt, converted, both(ANY, Flat::One(0x300)));
+    same(rt, a.clamp(EIGHT_TO_THIRTEEN), a);
+    same(rt, a.fix(EVEN), a);
+    same(rt, Two::constant(7), both(Flat::One(7), Flat::One(7)));
+    same(rt, Two::top(), both(ANY, ANY));
 }
 
 /// Checks that the bounds are those of one word.
@@ -76,17 +77,18 @@ fn has_low_zeros(rt: &impl Abort, value: Two, count: u32, wanted: bool)
 
 #[test]
 fn either_part_answers(rt: HostRuntime) {
+    let rt = &rt;
     let crossed = both(Flat::One(6), Flat::One(3));
-    has_bounds(&rt, both(ANY, Flat::One(3)), 3);
-    has_bounds(&rt, both(Flat::One(6), ANY), 6);
+    has_bounds(rt, both(ANY, Flat::One(3)), 3);
+    has_bounds(rt, both(Flat::One(6), ANY), 6);
     // Where they cross, it is the first.
-    has_bounds(&rt, crossed, 6);
+    has_bounds(rt, crossed, 6);
     let three = Bits {
         value: 3,
         unknown: 0,
     };
-    same(&rt, crossed.bits(), three);
-    has_low_zeros(&rt, both(Flat::One(6), ANY), 1, true);
-    has_low_zeros(&rt, both(ANY, Flat::One(6)), 1, true);
-    has_low_zeros(&rt, both(ANY, Flat::One(6)), 2, false);
+    same(rt, crossed.bits(), three);
+    has_low_zeros(rt, both(Flat::One(6), ANY), 1, true);
+    has_low_zeros(rt, both(ANY, Flat::One(6)), 1, true);
+    has_low_zeros(rt, both(ANY, Flat::One(6)), 2, false);
 }

@@ -1,9 +1,9 @@
-//! What is known of the stack behind stores, loads and joins, worked out by hand: over any domain, and
-//! over the flat one.
+//! What is known of the stack behind stores, loads and joins, worked out by hand, over the flat
+//! domain.
 ghost use Rattle.std.specs.Prelude.{◌≤◌, ◌+◌};
 
-use crate::checks::{same, same_at};
-use abs_domain::{Domain, Flat};
+use crate::checks::{is_found, is_refusal, same_at};
+use abs_domain::Flat;
 use abs_regs::{AbsVal, Address};
 use bpf_profile::{Extension, Size};
 use refusals::RefusalNumber;
@@ -19,62 +19,57 @@ const SIZES: [Size; 4] = [Size::Byte, Size::HalfWord, Size::Word, Size::DoubleWo
 
 const ANY: AbsVal<Flat> = AbsVal::Number(Flat::Any);
 
-type Loaded<D> = Result<AbsVal<D>, RefusalNumber>;
+type Loaded = Result<AbsVal<Flat>, RefusalNumber>;
 
 /// The offset that lies so many bytes before the stack's end.
 fn before(bytes: u64) -> u64 {
     0u64.wrapping_sub(bytes)
 }
 
-fn number<D: Domain>(word: u64) -> AbsVal<D> {
-    AbsVal::Number(D::constant(word))
+fn number(word: u64) -> AbsVal<Flat> {
+    AbsVal::Number(Flat::One(word))
 }
 
-fn load<D: Domain>(state: &StackState<D>, bytes_before: u64, size: Size) -> Loaded<D> {
+fn load(state: &StackState<Flat>, bytes_before: u64, size: Size) -> Loaded {
     let address = Address::Stack(before(bytes_before));
     state.load(CONTEXT, address, Extension::Zero, size)
 }
 
-fn load_context<D: Domain>(
-    state: &StackState<D>,
-    context_size: u64,
-    offset: D,
-    size: Size,
-) -> Loaded<D> {
+fn load_context(state: &StackState<Flat>, context_size: u64, offset: Flat, size: Size) -> Loaded {
     let address = Address::Context(offset);
     state.load(context_size, address, Extension::Sign, size)
 }
 
 /// The stack before the first instruction.
-fn at_entry<D: Domain>(rt: &impl Abort, alloc: Global) -> StackState<D> {
+fn at_entry(rt: &impl Abort, alloc: Global) -> StackState<Flat> {
     StackState::entry(alloc).expect(rt, "memory for a stack")
 }
 
 /// The same stack once more.
-fn copy<D: Domain>(rt: &impl Abort, alloc: Global, state: &StackState<D>) -> StackState<D> {
+fn copy(rt: &impl Abort, alloc: Global, state: &StackState<Flat>) -> StackState<Flat> {
     let mut copied = at_entry(rt, alloc);
     copied.copy_from(state);
     copied
 }
 
 /// What a store of this value makes of a stack; the stack stays where it is refused.
-fn store<D: Domain>(
-    mut state: StackState<D>,
+fn store(
+    mut state: StackState<Flat>,
     bytes_before: u64,
-    value: AbsVal<D>,
+    value: AbsVal<Flat>,
     size: Size,
-) -> StackState<D> {
+) -> StackState<Flat> {
     let _refused = state.store(Address::Stack(before(bytes_before)), value, size);
     state
 }
 
 /// Why a store of this value is refused, if it is.
-fn refusal_of_store<D: Domain>(
+fn refusal_of_store(
     rt: &impl Abort,
     alloc: Global,
-    state: &StackState<D>,
-    address: Address<D>,
-    value: AbsVal<D>,
+    state: &StackState<Flat>,
+    address: Address<Flat>,
+    value: AbsVal<Flat>,
     size: Size,
 ) -> Option<RefusalNumber> {
     copy(rt, alloc, state).store(address, value, size).err()
@@ -128,13 +123,13 @@ fn last_cell(rt: &impl Abort, alloc: Global, cell: Cell<Flat>) -> StackState<Fla
 }
 
 /// Checks what is loaded of a seven that was stored in some size.
-fn is_loaded(rt: &impl Abort, alloc: Global, size: Size, read: Size, wanted: Loaded<Flat>) {
+fn is_loaded(rt: &impl Abort, alloc: Global, size: Size, read: Size, wanted: Loaded) {
     let state = store(at_entry(rt, alloc), 16, number(7), size);
-    same_at(rt, load(&state, 16, read), wanted, (&size, &read));
+    is_found(rt, load(&state, 16, read), wanted);
 }
 
 /// Checks what each size loads of a seven that was stored in some size.
-fn are_loaded(rt: &impl Abort, alloc: Global, size: Size, wanted: [Loaded<Flat>; 4]) {
+fn are_loaded(rt: &impl Abort, alloc: Global, size: Size, wanted: [Loaded; 4]) {
     is_loaded(rt, alloc, size, Size::Byte, wanted[0]);
     is_loaded(rt, alloc, size, Size::HalfWord, wanted[1]);
     is_loaded(rt, alloc, size, Size::Word, wanted[2]);
@@ -144,25 +139,26 @@ fn are_loaded(rt: &impl Abort, alloc: Global, size: Size, wanted: [Loaded<Flat>;
 /// Checks that a store sets nothing beside its own bytes.
 fn bytes_beside_are_unset(rt: &impl Abort, alloc: Global, size: Size) {
     let unset = Err(RefusalNumber::UnsetStack);
-    let state = store(at_entry(rt, alloc), 16, number::<Flat>(7), size);
-    same_at(rt, load(&state, 8, Size::Byte), unset, &size);
-    same_at(rt, load(&state, 17, Size::Byte), unset, &size);
+    let state = store(at_entry(rt, alloc), 16, number(7), size);
+    is_found(rt, load(&state, 8, Size::Byte), unset);
+    is_found(rt, load(&state, 17, Size::Byte), unset);
 }
 
 #[test]
 fn numbers_load_in_each_size(rt: HostRuntime) {
+    let rt = &rt;
     let alloc = rt.alloc();
     let any = Ok(ANY);
     let seven = Ok(number(7));
     let unset = Err(RefusalNumber::UnsetStack);
-    are_loaded(&rt, alloc, Size::Byte, [any, unset, unset, unset]);
-    are_loaded(&rt, alloc, Size::HalfWord, [any, any, unset, unset]);
-    are_loaded(&rt, alloc, Size::Word, [any, any, any, unset]);
-    are_loaded(&rt, alloc, Size::DoubleWord, [any, any, any, seven]);
-    bytes_beside_are_unset(&rt, alloc, Size::Byte);
-    bytes_beside_are_unset(&rt, alloc, Size::HalfWord);
-    bytes_beside_are_unset(&rt, alloc, Size::Word);
-    bytes_beside_are_unset(&rt, alloc, Size::DoubleWord);
+    are_loaded(rt, alloc, Size::Byte, [any, unset, unset, unset]);
+    are_loaded(rt, alloc, Size::HalfWord, [any, any, unset, unset]);
+    are_loaded(rt, alloc, Size::Word, [any, any, any, unset]);
+    are_loaded(rt, alloc, Size::DoubleWord, [any, any, any, seven]);
+    bytes_beside_are_unset(rt, alloc, Size::Byte);
+    bytes_beside_are_unset(rt, alloc, Size::HalfWord);
+    bytes_beside_are_unset(rt, alloc, Size::Word);
+    bytes_beside_are_unset(rt, alloc, Size::DoubleWord);
 }
 
 /// Checks that of a pointer in the last cell no part is loaded, and that no part of one is stored.
@@ -175,16 +171,16 @@ fn has_no_part(
 ) {
     let used = RefusalNumber::PointerUsed;
     let state = store(at_entry(rt, alloc), 8, pointer, Size::DoubleWord);
-    same_at(rt, load(&state, bytes_before, size), Err(used), &size);
+    is_found(rt, load(&state, bytes_before, size), Err(used));
     let address = Address::Stack(before(bytes_before));
     let refused = refusal_of_store(rt, alloc, &state, address, pointer, size);
-    same_at(rt, refused, Some(used), &size);
+    is_refusal(rt, refused, Some(used));
 }
 
 /// Checks that a pointer is stored and loaded whole, or not at all.
 fn is_loaded_whole(rt: &impl Abort, alloc: Global, pointer: AbsVal<Flat>) {
     let state = store(at_entry(rt, alloc), 8, pointer, Size::DoubleWord);
-    same(rt, load(&state, 8, Size::DoubleWord), Ok(pointer));
+    is_found(rt, load(&state, 8, Size::DoubleWord), Ok(pointer));
     has_no_part(rt, alloc, pointer, 8, Size::Word);
     has_no_part(rt, alloc, pointer, 4, Size::Word);
     has_no_part(rt, alloc, pointer, 2, Size::HalfWord);
@@ -203,14 +199,14 @@ fn pointers_load_whole(rt: HostRuntime) {
 fn is_refused(rt: &impl Abort, alloc: Global, offset: u64, size: Size, expected: RefusalNumber) {
     let state: StackState<Flat> = at_entry(rt, alloc);
     let found = state.load(CONTEXT, Address::Stack(offset), Extension::Zero, size);
-    same_at(rt, found, Err(expected), (&offset, &size));
+    is_found(rt, found, Err(expected));
     let stored = if expected == RefusalNumber::UnsetStack {
         None
     } else {
         Some(expected)
     };
     let refused = refusal_of_store(rt, alloc, &state, Address::Stack(offset), number(1), size);
-    same_at(rt, refused, stored, (&offset, &size));
+    is_refusal(rt, refused, stored);
 }
 
 /// Checks why each size is refused at an offset.
@@ -242,9 +238,10 @@ const ALL_BUT_ONE: [RefusalNumber; 4] = [IS_OUTSIDE, IS_MISALIGNED, IS_MISALIGNE
 
 #[test]
 fn offsets_are_aligned_and_inside(rt: HostRuntime) {
+    let rt = &rt;
     let alloc = rt.alloc();
     are_refused_before(
-        &rt,
+        rt,
         alloc,
         &[
             (520, ALL_OUTSIDE),
@@ -255,13 +252,13 @@ fn offsets_are_aligned_and_inside(rt: HostRuntime) {
             (1, [NOT_SET, IS_MISALIGNED, IS_MISALIGNED, IS_MISALIGNED]),
         ],
     );
-    are_refused(&rt, alloc, 0, &ALL_OUTSIDE);
-    are_refused(&rt, alloc, 1, &ALL_BUT_ONE);
-    are_refused(&rt, alloc, 1 << 63, &ALL_OUTSIDE);
+    are_refused(rt, alloc, 0, &ALL_OUTSIDE);
+    are_refused(rt, alloc, 1, &ALL_BUT_ONE);
+    are_refused(rt, alloc, 1 << 63, &ALL_OUTSIDE);
 }
 
 /// The bytes of a context, an offset, a size, and what is loaded.
-type OfContext = (u64, Flat, Size, Loaded<Flat>);
+type OfContext = (u64, Flat, Size, Loaded);
 
 /// Checks what is loaded from contexts.
 fn are_loaded_of_context(rt: &impl Abort, alloc: Global, rows: &[OfContext]) {
@@ -269,21 +266,22 @@ fn are_loaded_of_context(rt: &impl Abort, alloc: Global, rows: &[OfContext]) {
     for row in rows {
         let (context_size, offset, size, expected) = *row;
         let found = load_context(&state, context_size, offset, size);
-        same_at(rt, found, expected, (&context_size, &offset, &size));
+        is_found(rt, found, expected);
     }
 }
 
 /// A load that is refused, since it goes past the end.
-const OUTSIDE: Loaded<Flat> = Err(RefusalNumber::OutOfBounds);
+const OUTSIDE: Loaded = Err(RefusalNumber::OutOfBounds);
 
 /// A load that is refused for its offset.
-const MISALIGNED: Loaded<Flat> = Err(RefusalNumber::Misaligned);
+const MISALIGNED: Loaded = Err(RefusalNumber::Misaligned);
 
 #[test]
 fn the_context_is_aligned_inside_and_read_only(rt: HostRuntime) {
+    let rt = &rt;
     let alloc = rt.alloc();
     are_loaded_of_context(
-        &rt,
+        rt,
         alloc,
         &[
             (CONTEXT, Flat::One(0), Size::DoubleWord, Ok(ANY)),
@@ -303,14 +301,14 @@ fn the_context_is_aligned_inside_and_read_only(rt: HostRuntime) {
     );
     let offset = Address::Context(Flat::One(1));
     let written = refusal_of_store(
-        &rt,
+        rt,
         alloc,
-        &at_entry(&rt, alloc),
+        &at_entry(rt, alloc),
         offset,
         AbsVal::Unset,
         Size::Word,
     );
-    same(&rt, written, Some(RefusalNumber::ContextWrite));
+    is_refusal(rt, written, Some(RefusalNumber::ContextWrite));
 }
 
 /// Checks why an unset value is not stored at an offset.
@@ -330,7 +328,7 @@ fn unset_is_not_stored(
         AbsVal::Unset,
         size,
     );
-    same_at(rt, refused, Some(wanted), (&size, &offset));
+    is_refusal(rt, refused, Some(wanted));
 }
 
 #[test]
@@ -366,18 +364,19 @@ fn zeros_are_stored(
 
 #[test]
 fn parts_keep_the_bytes_that_were_set(rt: HostRuntime) {
+    let rt = &rt;
     let alloc = rt.alloc();
-    part_is_kept(&rt, alloc, number(5), 255);
-    part_is_kept(&rt, alloc, AbsVal::Stack(before(8)), 4);
-    part_is_kept(&rt, alloc, AbsVal::Context(Flat::One(0)), 4);
-    let state = at_entry(&rt, alloc);
-    let state = zeros_are_stored(&rt, alloc, state, 8, Size::Byte, 0x01);
-    let state = zeros_are_stored(&rt, alloc, state, 6, Size::HalfWord, 0x0d);
-    let state = zeros_are_stored(&rt, alloc, state, 4, Size::Word, 0xfd);
-    let state = zeros_are_stored(&rt, alloc, state, 7, Size::Byte, 0xff);
-    same(&rt, load(&state, 8, Size::DoubleWord), Ok(ANY));
+    part_is_kept(rt, alloc, number(5), 255);
+    part_is_kept(rt, alloc, AbsVal::Stack(before(8)), 4);
+    part_is_kept(rt, alloc, AbsVal::Context(Flat::One(0)), 4);
+    let state = at_entry(rt, alloc);
+    let state = zeros_are_stored(rt, alloc, state, 8, Size::Byte, 0x01);
+    let state = zeros_are_stored(rt, alloc, state, 6, Size::HalfWord, 0x0d);
+    let state = zeros_are_stored(rt, alloc, state, 4, Size::Word, 0xfd);
+    let state = zeros_are_stored(rt, alloc, state, 7, Size::Byte, 0xff);
+    is_found(rt, load(&state, 8, Size::DoubleWord), Ok(ANY));
     let whole = store(state, 8, number(9), Size::DoubleWord);
-    has_cell(&rt, alloc, &whole, 63, Cell::Kept(number(9)));
+    has_cell(rt, alloc, &whole, 63, Cell::Kept(number(9)));
 }
 
 /// Checks the join of two stacks of which the last cell is known.
@@ -451,15 +450,16 @@ fn joined(mut state: StackState<Flat>, other: &StackState<Flat>) -> StackState<F
 
 #[test]
 fn stacks_are_joined_cell_by_cell(rt: HostRuntime) {
+    let rt = &rt;
     let alloc = rt.alloc();
-    let one = store(at_entry(&rt, alloc), 8, number(1), Size::DoubleWord);
-    let both = store(copy(&rt, alloc, &one), 512, number(2), Size::Word);
-    let state = joined(copy(&rt, alloc, &both), &one);
-    has_cell(&rt, alloc, &state, 63, Cell::Kept(number(1)));
-    has_cell(&rt, alloc, &state, 0, Cell::Bytes(0));
+    let one = store(at_entry(rt, alloc), 8, number(1), Size::DoubleWord);
+    let both = store(copy(rt, alloc, &one), 512, number(2), Size::Word);
+    let state = joined(copy(rt, alloc, &both), &one);
+    has_cell(rt, alloc, &state, 63, Cell::Kept(number(1)));
+    has_cell(rt, alloc, &state, 0, Cell::Bytes(0));
     let again = joined(both, &store(one, 510, number(3), Size::HalfWord));
-    has_cell(&rt, alloc, &again, 0, Cell::Bytes(12));
-    has_cell(&rt, alloc, &again, 1, Cell::Bytes(0));
+    has_cell(rt, alloc, &again, 0, Cell::Bytes(12));
+    has_cell(rt, alloc, &again, 1, Cell::Bytes(0));
 }
 
 /// Checks whether each byte of a stretch is set.
@@ -470,25 +470,31 @@ fn stretch_is_set(rt: &impl Abort, state: &StackState<Flat>, place: u64, count: 
     same_at(rt, found, wanted, (&place, &count));
 }
 
+/// Checks the bytes around a stretch from place 6 to 18.
+fn is_set_from_6_to_18(rt: &impl Abort, written: &StackState<Flat>) {
+    stretch_is_set(rt, written, 6, 13, true);
+    stretch_is_set(rt, written, 5, 1, false);
+    stretch_is_set(rt, written, 5, 3, false);
+    stretch_is_set(rt, written, 18, 1, true);
+    stretch_is_set(rt, written, 18, 2, false);
+    stretch_is_set(rt, written, 6, 0, true);
+    stretch_is_set(rt, written, 5, 0, true);
+    stretch_is_set(rt, written, 511, 1, false);
+}
+
 #[test]
 fn stretches_cross_cells(rt: HostRuntime) {
+    let rt = &rt;
     let alloc = rt.alloc();
-    let state = store(at_entry(&rt, alloc), 504, number(1), Size::DoubleWord);
-    let mut written = copy(&rt, alloc, &state);
+    let state = store(at_entry(rt, alloc), 504, number(1), Size::DoubleWord);
+    let mut written = copy(rt, alloc, &state);
     written.write_stretch(6, 13);
-    has_cell(&rt, alloc, &written, 0, Cell::Bytes(0xc0));
-    has_cell(&rt, alloc, &written, 1, Cell::Bytes(0xff));
-    has_cell(&rt, alloc, &written, 2, Cell::Bytes(0x07));
-    stretch_is_set(&rt, &written, 6, 13, true);
-    stretch_is_set(&rt, &written, 5, 1, false);
-    stretch_is_set(&rt, &written, 5, 3, false);
-    stretch_is_set(&rt, &written, 18, 1, true);
-    stretch_is_set(&rt, &written, 18, 2, false);
-    stretch_is_set(&rt, &written, 6, 0, true);
-    stretch_is_set(&rt, &written, 5, 0, true);
-    stretch_is_set(&rt, &written, 511, 1, false);
-    stretch_is_set(&rt, &state, 8, 8, true);
+    has_cell(rt, alloc, &written, 0, Cell::Bytes(0xc0));
+    has_cell(rt, alloc, &written, 1, Cell::Bytes(0xff));
+    has_cell(rt, alloc, &written, 2, Cell::Bytes(0x07));
+    is_set_from_6_to_18(rt, &written);
+    stretch_is_set(rt, &state, 8, 8, true);
     let mut all = state;
     all.write_stretch(0, 512);
-    stretch_is_set(&rt, &all, 0, 512, true);
+    stretch_is_set(rt, &all, 0, 512, true);
 }

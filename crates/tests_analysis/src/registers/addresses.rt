@@ -1,6 +1,6 @@
 //! Addresses of loads and stores (RFC 9669, section 5).
 use super::{ANY, CONTEXT, EIGHT, MINUS_8, MINUS_16, STACK, UNSET};
-use crate::checks::same_at;
+use crate::checks::same;
 use abs_domain::Flat;
 use abs_regs::{AbsVal, Address};
 use refusals::RefusalNumber;
@@ -9,11 +9,20 @@ use std::process::Abort;
 /// A value, a distance, and the address so far from it.
 type Moved = (AbsVal<Flat>, u64, Address<Flat>);
 
+/// Checks an address, or why there is none.
+fn is_address(
+    rt: &impl Abort,
+    found: Result<Address<Flat>, RefusalNumber>,
+    wanted: Result<Address<Flat>, RefusalNumber>,
+) {
+    same(rt, found, wanted);
+}
+
 /// Checks addresses.
 fn are_moved(rt: &impl Abort, rows: &[Moved]) {
     for row in rows {
         let (value, distance, address) = *row;
-        same_at(rt, value.address(distance), Ok(address), row);
+        is_address(rt, value.address(distance), Ok(address));
     }
 }
 
@@ -44,7 +53,7 @@ fn pointers_are_moved_by_the_offset(rt: HostRuntime) {
 /// Checks that a value is no address, so far from it.
 fn is_no_address(rt: &impl Abort, value: AbsVal<Flat>, distance: u64, refusal: RefusalNumber) {
     let found = value.address(distance);
-    same_at(rt, found, Err(refusal), (&value, &distance));
+    is_address(rt, found, Err(refusal));
 }
 
 /// Checks that a value is no address.

@@ -1,7 +1,7 @@
 //! Arithmetic on numbers and pointers (RFC 9669, sections 4.1 and 4.2).
 use super::{ANY, CONTEXT, EIGHT, MINUS_8, MINUS_16, STACK, UNSET, number};
-use crate::checks::{same, same_at};
-use abs_domain::{Domain, Flat};
+use crate::checks::{is_found, is_refusal};
+use abs_domain::Flat;
 use abs_regs::AbsVal;
 use bpf_profile::{ByteOrder, Operation, Size, Width};
 use refusals::RefusalNumber;
@@ -25,12 +25,7 @@ const ON_NUMBERS_ALONE: [Operation; 11] = [
 ];
 
 /// The refusal of an operation, or None where it isn't refused.
-fn refusal<D: Domain>(
-    operation: Operation,
-    width: Width,
-    a: AbsVal<D>,
-    b: AbsVal<D>,
-) -> Option<RefusalNumber> {
+fn refusal(operation: Operation, width: Width, a: Value, b: Value) -> Option<RefusalNumber> {
     match a.arithmetic(operation, width, b) {
         Ok(_) => None,
         Err(refusal) => Some(refusal),
@@ -47,7 +42,7 @@ fn is_refused(
     wanted: RefusalNumber,
 ) {
     let found = refusal(operation, width, a, b);
-    same_at(rt, found, Some(wanted), (&operation, &width, &a, &b));
+    is_refusal(rt, found, Some(wanted));
 }
 
 /// Checks that an operation is refused, and with its operands exchanged, too.
@@ -116,15 +111,16 @@ fn two_pointers_are_refused(rt: &impl Abort, operation: Operation, width: Width)
 
 #[test]
 fn differences_of_two_pointers_or_from_a_number_are_refused(rt: HostRuntime) {
+    let rt = &rt;
     let (difference, whole) = (Operation::Subtract, Width::Bits64);
     let used = RefusalNumber::PointerUsed;
-    is_refused(&rt, difference, whole, EIGHT, STACK, used);
-    is_refused(&rt, difference, whole, ANY, STACK, used);
-    is_refused(&rt, difference, whole, EIGHT, CONTEXT, used);
-    is_refused(&rt, difference, whole, ANY, CONTEXT, used);
+    is_refused(rt, difference, whole, EIGHT, STACK, used);
+    is_refused(rt, difference, whole, ANY, STACK, used);
+    is_refused(rt, difference, whole, EIGHT, CONTEXT, used);
+    is_refused(rt, difference, whole, ANY, CONTEXT, used);
     for operation in &[Operation::Add, Operation::Subtract, Operation::Xor] {
-        two_pointers_are_refused(&rt, *operation, Width::Bits32);
-        two_pointers_are_refused(&rt, *operation, Width::Bits64);
+        two_pointers_are_refused(rt, *operation, Width::Bits32);
+        two_pointers_are_refused(rt, *operation, Width::Bits64);
     }
 }
 
@@ -144,7 +140,7 @@ fn are_moved(rt: &impl Abort, rows: &[Moved]) {
     for row in rows {
         let (operation, a, b, moved) = *row;
         let found = a.arithmetic(operation, Width::Bits64, b);
-        same_at(rt, found, Ok(moved), row);
+        is_found(rt, found, Ok(moved));
     }
 }
 
@@ -216,9 +212,9 @@ fn are_computed(rt: &impl Abort, rows: &[Computed]) {
     for row in rows {
         let (operation, width, a, b, result) = *row;
         let found = number(a).arithmetic(operation, width, number(b));
-        same_at(rt, found, Ok(number(result)), row);
+        is_found(rt, found, Ok(number(result)));
         let unknown = number(a).arithmetic(operation, width, ANY);
-        same_at(rt, unknown, Ok(ANY), row);
+        is_found(rt, unknown, Ok(ANY));
     }
 }
 
@@ -243,7 +239,7 @@ type Found = Result<Value, RefusalNumber>;
 /// Checks a move to one destination.
 fn is_moved(rt: &impl Abort, destination: Value, width: Width, operand: Value, moved: Found) {
     let found = destination.arithmetic(Operation::Move, width, operand);
-    same_at(rt, found, moved, (&width, &destination, &operand));
+    is_found(rt, found, moved);
 }
 
 /// A width, an operand and what is moved.
@@ -297,7 +293,7 @@ fn are_extended(rt: &impl Abort, rows: &[(Width, Size, u64)]) {
     for row in rows {
         let (width, size, wanted) = *row;
         let found = number(ODD).moved_signed(width, size);
-        same_at(rt, found, Ok(number(wanted)), row);
+        is_found(rt, found, Ok(number(wanted)));
     }
 }
 
@@ -306,14 +302,15 @@ fn are_reordered(rt: &impl Abort, rows: &[(ByteOrder, Size, u64)]) {
     for row in rows {
         let (order, size, wanted) = *row;
         let found = number(ODD).converted(order, size);
-        same_at(rt, found, Ok(number(wanted)), row);
+        is_found(rt, found, Ok(number(wanted)));
     }
 }
 
 #[test]
 fn numbers_are_negated_extended_and_reordered(rt: HostRuntime) {
+    let rt = &rt;
     are_extended(
-        &rt,
+        rt,
         &[
             (Width::Bits64, Size::Byte, 0xffff_ffff_ffff_ff91),
             (Width::Bits64, Size::HalfWord, 0xffff_ffff_ffff_8091),
@@ -323,7 +320,7 @@ fn numbers_are_negated_extended_and_reordered(rt: HostRuntime) {
         ],
     );
     are_reordered(
-        &rt,
+        rt,
         &[
             (ByteOrder::Little, Size::HalfWord, 0x8091),
             (ByteOrder::Big, Size::HalfWord, 0x9180),
@@ -333,24 +330,24 @@ fn numbers_are_negated_extended_and_reordered(rt: HostRuntime) {
             (ByteOrder::Swap, Size::DoubleWord, 0x9180_3412_0000_0000),
         ],
     );
-    same(&rt, EIGHT.negated(Width::Bits64), Ok(BACK_BY_8));
-    same(&rt, EIGHT.negated(Width::Bits32), Ok(HALF_BACK_BY_8));
-    same(&rt, ANY.negated(Width::Bits32), Ok(ANY));
-    same(&rt, ANY.moved_signed(Width::Bits32, Size::Byte), Ok(ANY));
-    same(&rt, ANY.converted(ByteOrder::Big, Size::Word), Ok(ANY));
+    is_found(rt, EIGHT.negated(Width::Bits64), Ok(BACK_BY_8));
+    is_found(rt, EIGHT.negated(Width::Bits32), Ok(HALF_BACK_BY_8));
+    is_found(rt, ANY.negated(Width::Bits32), Ok(ANY));
+    is_found(rt, ANY.moved_signed(Width::Bits32, Size::Byte), Ok(ANY));
+    is_found(rt, ANY.converted(ByteOrder::Big, Size::Word), Ok(ANY));
 }
 
 /// Checks that no value is made of this one by a negation or by an extension of its sign.
 fn is_not_extended(rt: &impl Abort, value: Value, width: Width, refusal: RefusalNumber) {
-    same_at(rt, value.negated(width), Err(refusal), (&width, &value));
+    is_found(rt, value.negated(width), Err(refusal));
     let extended = value.moved_signed(width, Size::HalfWord);
-    same_at(rt, extended, Err(refusal), (&width, &value));
+    is_found(rt, extended, Err(refusal));
 }
 
 /// Checks that the bytes of a value can't be put in this order.
 fn is_not_reordered(rt: &impl Abort, value: Value, order: ByteOrder, refusal: RefusalNumber) {
     let reordered = value.converted(order, Size::DoubleWord);
-    same_at(rt, reordered, Err(refusal), (&order, &value));
+    is_found(rt, reordered, Err(refusal));
 }
 
 /// Checks that a value is neither negated, extended nor reordered.

@@ -2,7 +2,7 @@
 ghost use Rattle.std.specs.Prelude.{◌<◌};
 
 use super::{ANY, CONTEXT, EIGHT, STACK, UNSET};
-use crate::checks::{is_true_at, same_at};
+use crate::checks::{is_true_at, is_value, same};
 use abs_domain::Flat;
 use abs_regs::{AbsVal, RegFile};
 use bpf_profile::{Comparison, Operand, Register, Width};
@@ -34,6 +34,15 @@ fn branched(
     Ok((registers.get(two), registers.get(Register::new(3))))
 }
 
+/// Checks what is left of R2 and R3, or why they aren't compared.
+fn is_branched(
+    rt: &impl Abort,
+    found: Result<Pair, RefusalNumber>,
+    wanted: Result<Pair, RefusalNumber>,
+) {
+    same(rt, found, wanted);
+}
+
 /// The register of a number, as an operand.
 fn register(number: u8) -> Operand
     requires { number < 11 }
@@ -49,7 +58,7 @@ fn are_told(rt: &impl Abort, rows: &[Told]) {
     for row in rows {
         let (comparison, width, holds, before, after) = *row;
         let found = branched(comparison, width, holds, before, &register(3));
-        same_at(rt, found, Ok(after), row);
+        is_branched(rt, found, Ok(after));
     }
 }
 
@@ -133,7 +142,7 @@ fn tells_of_word(
 ) {
     let right = Operand::Immediate(word);
     let found = branched(comparison, Width::Bits64, holds, (ANY, three), &right);
-    same_at(rt, found, Ok((after, three)), (&comparison, &holds, &word));
+    is_branched(rt, found, Ok((after, three)));
 }
 
 /// A comparison, whether it holds, a word, and what is then known of any number.
@@ -170,7 +179,7 @@ fn a_register_equal_to_a_word_becomes_it(rt: HostRuntime) {
 /// Checks that a comparison of R2 with itself tells nothing.
 fn tells_nothing(rt: &impl Abort, comparison: Comparison, width: Width, holds: bool, before: Pair) {
     let found = branched(comparison, width, holds, before, &register(2));
-    same_at(rt, found, Ok(before), (&comparison, &width, &before));
+    is_branched(rt, found, Ok(before));
 }
 
 /// Checks that a comparison of R2 with itself tells nothing, at either width and on either way.
@@ -195,7 +204,7 @@ fn are_alike(rt: &impl Abort, one: RegFile<Flat>, other: RegFile<Flat>, numbers:
     for number in numbers {
         assert!(rt; *number < 11);
         let register = Register::new(*number);
-        same_at(rt, one.get(register), other.get(register), number);
+        is_value(rt, one.get(register), other.get(register));
     }
 }
 
@@ -221,7 +230,7 @@ fn is_refused(
     refusal: RefusalNumber,
 ) {
     let found = branched(comparison, width, holds, before, right);
-    same_at(rt, found, Err(refusal), (&comparison, &width, &before));
+    is_branched(rt, found, Err(refusal));
 }
 
 /// Checks that a comparison of R2 with R3 is refused, at either width and on either way.
@@ -261,8 +270,9 @@ const USED: RefusalNumber = RefusalNumber::PointerUsed;
 
 #[test]
 fn comparisons_take_numbers_alone(rt: HostRuntime) {
+    let rt = &rt;
     are_not_compared(
-        &rt,
+        rt,
         &[
             (UNSET, EIGHT, UNSET_REGISTER),
             (EIGHT, UNSET, UNSET_REGISTER),
@@ -279,7 +289,7 @@ fn comparisons_take_numbers_alone(rt: HostRuntime) {
             (STACK, CONTEXT, USED),
         ],
     );
-    is_not_compared(&rt, UNSET, UNSET_REGISTER);
-    is_not_compared(&rt, STACK, USED);
-    is_not_compared(&rt, CONTEXT, USED);
+    is_not_compared(rt, UNSET, UNSET_REGISTER);
+    is_not_compared(rt, STACK, USED);
+    is_not_compared(rt, CONTEXT, USED);
 }

@@ -1,13 +1,13 @@
 //! What is known of eleven registers.
 use super::{ANY, CONTEXT, EIGHT, STACK, UNSET, number};
-use crate::checks::{same, same_at};
-use abs_domain::{Domain, Flat};
+use crate::checks::is_value;
+use abs_domain::Flat;
 use abs_regs::{AbsVal, RegFile};
 use bpf_profile::{Operand, Register};
 use std::process::Abort;
 
 /// What is known of the register of a number.
-fn known<D: Domain>(rt: &impl Abort, registers: RegFile<D>, number: u8) -> AbsVal<D> {
+fn known(rt: &impl Abort, registers: RegFile<Flat>, number: u8) -> AbsVal<Flat> {
     assert!(rt; number < 11);
     registers.get(Register::new(number))
 }
@@ -16,7 +16,7 @@ fn known<D: Domain>(rt: &impl Abort, registers: RegFile<D>, number: u8) -> AbsVa
 fn are_known(rt: &impl Abort, registers: RegFile<Flat>, wanted: &[AbsVal<Flat>; 11]) {
     for number in 0..11u8 {
         let found = known(rt, registers, number);
-        same_at(rt, found, wanted[number as usize], &number);
+        is_value(rt, found, wanted[number as usize]);
     }
 }
 
@@ -47,7 +47,7 @@ fn one_is_set(rt: &impl Abort, set: u8) {
         } else {
             known(rt, RegFile::entry(), number)
         };
-        same_at(rt, known(rt, registers, number), wanted, (&set, &number));
+        is_value(rt, known(rt, registers, number), wanted);
     }
 }
 
@@ -96,7 +96,7 @@ fn registers_are_joined_each_with_its_own(rt: HostRuntime) {
 /// Checks what is read of an operand where the stack's address is in R2.
 fn reads(rt: &impl Abort, operand: Operand, wanted: AbsVal<Flat>) {
     let registers = RegFile::entry().with(Register::new(2), STACK);
-    same(rt, registers.operand(operand), wanted);
+    is_value(rt, registers.operand(operand), wanted);
 }
 
 #[test]
@@ -111,7 +111,7 @@ fn operands_are_registers_or_words(rt: HostRuntime) {
 fn are_alike(rt: &impl Abort, one: RegFile<Flat>, other: RegFile<Flat>) {
     for number in 0..11u8 {
         let wanted = known(rt, other, number);
-        same_at(rt, known(rt, one, number), wanted, &number);
+        is_value(rt, known(rt, one, number), wanted);
     }
 }
 

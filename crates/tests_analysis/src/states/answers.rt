@@ -32,15 +32,16 @@ fn is_no_answer(rt: &impl Abort, alloc: Global, answer: AbsVal<Flat>, refusal: R
 
 #[test]
 fn answers_are_numbers_of_at_most_two(rt: HostRuntime) {
+    let rt = &rt;
     let alloc = rt.alloc();
-    is_answer(&rt, alloc, 0);
-    is_answer(&rt, alloc, 1);
-    is_answer(&rt, alloc, 2);
-    is_no_answer(&rt, alloc, UNSET, RefusalNumber::UnsetRegister);
-    is_no_answer(&rt, alloc, STACK, RefusalNumber::PointerUsed);
-    is_no_answer(&rt, alloc, AbsVal::Stack(0), RefusalNumber::PointerUsed);
-    is_no_answer(&rt, alloc, CONTEXT, RefusalNumber::PointerUsed);
-    is_no_answer(&rt, alloc, number(3), RefusalNumber::AnswerRange);
-    is_no_answer(&rt, alloc, number(u64::MAX), RefusalNumber::AnswerRange);
-    is_no_answer(&rt, alloc, ANY, RefusalNumber::AnswerRange);
+    is_answer(rt, alloc, 0);
+    is_answer(rt, alloc, 1);
+    is_answer(rt, alloc, 2);
+    is_no_answer(rt, alloc, UNSET, RefusalNumber::UnsetRegister);
+    is_no_answer(rt, alloc, STACK, RefusalNumber::PointerUsed);
+    is_no_answer(rt, alloc, AbsVal::Stack(0), RefusalNumber::PointerUsed);
+    is_no_answer(rt, alloc, CONTEXT, RefusalNumber::PointerUsed);
+    is_no_answer(rt, alloc, number(3), RefusalNumber::AnswerRange);
+    is_no_answer(rt, alloc, number(u64::MAX), RefusalNumber::AnswerRange);
+    is_no_answer(rt, alloc, ANY, RefusalNumber::AnswerRange);
 }

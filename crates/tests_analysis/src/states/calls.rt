@@ -60,20 +60,21 @@ fn fact_is_refused(rt: &impl Abort, alloc: Global, one: AbsVal<Flat>, refusal: R
 
 #[test]
 fn facts_have_the_numbers_0_to_15(rt: HostRuntime) {
+    let rt = &rt;
     let alloc = rt.alloc();
     for fact in &[0, 1, 15] {
         // The second argument isn't read.
-        fact_is_read(&rt, alloc, *fact, UNSET);
-        fact_is_read(&rt, alloc, *fact, EIGHT);
-        fact_is_read(&rt, alloc, *fact, STACK);
+        fact_is_read(rt, alloc, *fact, UNSET);
+        fact_is_read(rt, alloc, *fact, EIGHT);
+        fact_is_read(rt, alloc, *fact, STACK);
     }
     let argument = RefusalNumber::HelperArgument;
-    fact_is_refused(&rt, alloc, UNSET, RefusalNumber::UnsetRegister);
-    fact_is_refused(&rt, alloc, number(16), argument);
-    fact_is_refused(&rt, alloc, number(u64::MAX), argument);
-    fact_is_refused(&rt, alloc, ANY, argument);
-    fact_is_refused(&rt, alloc, STACK, argument);
-    fact_is_refused(&rt, alloc, CONTEXT, argument);
+    fact_is_refused(rt, alloc, UNSET, RefusalNumber::UnsetRegister);
+    fact_is_refused(rt, alloc, number(16), argument);
+    fact_is_refused(rt, alloc, number(u64::MAX), argument);
+    fact_is_refused(rt, alloc, ANY, argument);
+    fact_is_refused(rt, alloc, STACK, argument);
+    fact_is_refused(rt, alloc, CONTEXT, argument);
 }
 
 /// The bytes of a context, a front byte, and whether it lies inside.
@@ -148,12 +149,13 @@ fn is_no_front_byte(rt: &impl Abort, alloc: Global, one: AbsVal<Flat>, refusal: 
 
 #[test]
 fn the_number_of_a_front_byte_is_known(rt: HostRuntime) {
+    let rt = &rt;
     let alloc = rt.alloc();
     let argument = RefusalNumber::HelperArgument;
-    is_no_front_byte(&rt, alloc, UNSET, RefusalNumber::UnsetRegister);
-    is_no_front_byte(&rt, alloc, ANY, argument);
-    is_no_front_byte(&rt, alloc, STACK, argument);
-    is_no_front_byte(&rt, alloc, CONTEXT, argument);
+    is_no_front_byte(rt, alloc, UNSET, RefusalNumber::UnsetRegister);
+    is_no_front_byte(rt, alloc, ANY, argument);
+    is_no_front_byte(rt, alloc, STACK, argument);
+    is_no_front_byte(rt, alloc, CONTEXT, argument);
 }
 
 /// Checks that no helper of this number is known, whatever the arguments are.

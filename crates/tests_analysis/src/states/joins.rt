@@ -5,7 +5,7 @@ use super::{
     ANY, CONTEXT, EIGHT, STACK, UNSET, at_entry, cell_of, copy, number, registers_are_alike,
     sample, set_bytes_are, stacks_are_alike, stored_before,
 };
-use crate::checks::{is_true, same_at};
+use crate::checks::{is_found, is_true, is_value};
 use abs_domain::Flat;
 use abs_regs::AbsVal;
 use abs_states::AbsState;
@@ -46,7 +46,7 @@ const END: AbsVal<Flat> = AbsVal::Stack(0);
 fn are_known(rt: &impl Abort, state: &AbsState<Flat>, wanted: &[AbsVal<Flat>; 11]) {
     for number in 0..11u8 {
         let found = state.registers.get(Register::new(number));
-        same_at(rt, found, wanted[number as usize], &number);
+        is_value(rt, found, wanted[number as usize]);
     }
 }
 
@@ -54,7 +54,7 @@ fn are_known(rt: &impl Abort, state: &AbsState<Flat>, wanted: &[AbsVal<Flat>; 11
 fn no_cell_is_known(rt: &impl Abort, state: &AbsState<Flat>) {
     for cell in 0..64 {
         let unset = Err(RefusalNumber::UnsetStack);
-        same_at(rt, cell_of(state, cell), unset, &cell);
+        is_found(rt, cell_of(state, cell), unset);
     }
     is_true(rt, set_bytes_are(state, 0, 0));
 }
@@ -105,7 +105,7 @@ fn has_cell(
 )
     requires { cell < 64 }
 {
-    same_at(rt, cell_of(state, cell), wanted, &cell);
+    is_found(rt, cell_of(state, cell), wanted);
 }
 
 /// Checks what is known where the two paths meet.
@@ -127,15 +127,10 @@ fn is_joined(rt: &impl Abort, state: &AbsState<Flat>) {
 
 #[test]
 fn registers_and_stacks_are_joined(rt: HostRuntime) {
+    let rt = &rt;
     let alloc = rt.alloc();
-    is_joined(
-        &rt,
-        &joined(first_path(&rt, alloc), &second_path(&rt, alloc)),
-    );
-    is_joined(
-        &rt,
-        &joined(second_path(&rt, alloc), &first_path(&rt, alloc)),
-    );
+    is_joined(rt, &joined(first_path(rt, alloc), &second_path(rt, alloc)));
+    is_joined(rt, &joined(second_path(rt, alloc), &first_path(rt, alloc)));
 }
 
 /// Checks that the same is known of a state and of one that is copied from it.
@@ -147,14 +142,10 @@ fn is_copied(rt: &impl Abort, mut copied: AbsState<Flat>, state: &AbsState<Flat>
 
 #[test]
 fn a_copy_is_the_same(rt: HostRuntime) {
+    let rt = &rt;
     let alloc = rt.alloc();
-    let state = with_cells(
-        &rt,
-        alloc,
-        &sample(&rt, alloc),
-        [EIGHT, ANY, STACK, CONTEXT],
-    );
-    is_copied(&rt, at_entry(&rt, alloc), &state);
+    let state = with_cells(rt, alloc, &sample(rt, alloc), [EIGHT, ANY, STACK, CONTEXT]);
+    is_copied(rt, at_entry(rt, alloc), &state);
     // What was there before is forgotten.
-    is_copied(&rt, second_path(&rt, alloc), &at_entry(&rt, alloc));
+    is_copied(rt, second_path(rt, alloc), &at_entry(rt, alloc));
 }

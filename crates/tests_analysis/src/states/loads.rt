@@ -297,6 +297,7 @@ fn values_are_loaded_from_the_stack(rt: HostRuntime) {
 
 #[test]
 fn a_load_may_replace_its_base(rt: HostRuntime) {
+    let rt = &rt;
     let alloc = rt.alloc();
     let four = Register::new(4);
     let instruction = Instruction::Load {
@@ -306,10 +307,10 @@ fn a_load_may_replace_its_base(rt: HostRuntime) {
         base: four,
         offset: MINUS_8,
     };
-    let state = stored(&rt, alloc, CONTEXT);
-    let wanted = Ok(with(&rt, alloc, &state, four, CONTEXT));
+    let state = stored(rt, alloc, CONTEXT);
+    let wanted = Ok(with(rt, alloc, &state, four, CONTEXT));
     is_true(
-        &rt,
-        makes(&rt, alloc, &state, CONTEXT_SIZE, &instruction, &wanted),
+        rt,
+        makes(rt, alloc, &state, CONTEXT_SIZE, &instruction, &wanted),
     );
 }

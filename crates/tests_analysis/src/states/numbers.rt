@@ -230,18 +230,19 @@ fn converts(
 
 #[test]
 fn numbers_are_negated_extended_and_reordered(rt: HostRuntime) {
+    let rt = &rt;
     let alloc = rt.alloc();
     let two = Register::new(2);
     let six = Register::new(6);
-    converts(&rt, alloc, &negate(two), two, minus(0x1234_8091));
+    converts(rt, alloc, &negate(two), two, minus(0x1234_8091));
     let whole = move_signed(Width::Bits64, Size::HalfWord, six, two);
-    converts(&rt, alloc, &whole, six, 0xffff_ffff_ffff_8091);
+    converts(rt, alloc, &whole, six, 0xffff_ffff_ffff_8091);
     let half = move_signed(Width::Bits32, Size::Byte, six, two);
-    converts(&rt, alloc, &half, six, 0xffff_ff91);
+    converts(rt, alloc, &half, six, 0xffff_ff91);
     let big = convert(ByteOrder::Big, Size::Word, two);
-    converts(&rt, alloc, &big, two, 0x9180_3412);
+    converts(rt, alloc, &big, two, 0x9180_3412);
     let little = convert(ByteOrder::Little, Size::HalfWord, two);
-    converts(&rt, alloc, &little, two, 0x8091);
+    converts(rt, alloc, &little, two, 0x8091);
 }
 
 /// Checks why what is in a register is neither negated, extended nor reordered.

@@ -1,6 +1,6 @@
 //! Some instructions in a row, each from what is known after the one before.
 use super::{CONTEXT_SIZE, Found, at_entry, minus, register};
-use crate::checks::same;
+use crate::checks::is_refusal;
 use abs_states::AbsState;
 use bpf_profile::{Comparison, Extension, Instruction, Operand, Operation, Register, Size, Width};
 use refusals::RefusalNumber;
@@ -49,7 +49,7 @@ fn ends(
     instructions: &[Instruction],
     wanted: Option<RefusalNumber>,
 ) {
-    same(rt, refusal_of(followed(rt, alloc, instructions)), wanted);
+    is_refusal(rt, refusal_of(followed(rt, alloc, instructions)), wanted);
 }
 
 /// The last eight bytes of the stack are pointed at by R1.

@@ -6,7 +6,7 @@ use super::{
     STACK, START, UNSET, cell_of, makes, minus, number, register, registers_are_alike, sample_with,
     set_bytes_are, transferred,
 };
-use crate::checks::{is_true, is_true_at, same_at};
+use crate::checks::{is_found, is_true, is_true_at};
 use abs_domain::Flat;
 use abs_regs::AbsVal;
 use abs_states::AbsState;
@@ -85,20 +85,21 @@ fn is_unset(rt: &impl Abort, alloc: Global, base: AbsVal<Flat>, value: AbsVal<Fl
 
 #[test]
 fn base_and_value_are_set_before_all_else(rt: HostRuntime) {
+    let rt = &rt;
     let alloc = rt.alloc();
-    is_unset(&rt, alloc, UNSET, UNSET);
-    is_unset(&rt, alloc, UNSET, EIGHT);
-    is_unset(&rt, alloc, UNSET, STACK);
-    is_unset(&rt, alloc, EIGHT, UNSET);
-    is_unset(&rt, alloc, CONTEXT, UNSET);
-    is_unset(&rt, alloc, STACK, UNSET);
+    is_unset(rt, alloc, UNSET, UNSET);
+    is_unset(rt, alloc, UNSET, EIGHT);
+    is_unset(rt, alloc, UNSET, STACK);
+    is_unset(rt, alloc, EIGHT, UNSET);
+    is_unset(rt, alloc, CONTEXT, UNSET);
+    is_unset(rt, alloc, STACK, UNSET);
     // So it is with an immediate, which is set.
     let instruction = store(Size::Byte, 0, Operand::Immediate(1));
     let unset = Err(RefusalNumber::UnsetRegister);
-    let state = based(&rt, alloc, UNSET, EIGHT);
+    let state = based(rt, alloc, UNSET, EIGHT);
     is_true(
-        &rt,
-        makes(&rt, alloc, &state, CONTEXT_SIZE, &instruction, &unset),
+        rt,
+        makes(rt, alloc, &state, CONTEXT_SIZE, &instruction, &unset),
     );
 }
 
@@ -177,8 +178,8 @@ fn has_cell(rt: &impl Abort, found: &Found, cell: u64, value: AbsVal<Flat>)
     requires { cell < 64 }
 {
     match found {
-        Ok(after) => same_at(rt, cell_of(after, cell), Ok(value), &cell),
-        Err(refusal) => is_true_at(rt, false, (&cell, &value, refusal)),
+        Ok(after) => is_found(rt, cell_of(after, cell), Ok(value)),
+        Err(refusal) => is_true_at(rt, false, refusal),
     }
 }
 
@@ -189,7 +190,7 @@ fn has_bytes(rt: &impl Abort, found: &Found, state: &AbsState<Flat>, first: u64,
             is_true_at(rt, set_bytes_are(after, first, end), (&first, &end));
             is_true_at(rt, registers_are_alike(after, state), (&first, &end));
         }
-        Err(refusal) => is_true_at(rt, false, (&first, &end, refusal)),
+        Err(refusal) => is_true_at(rt, false, refusal),
     }
 }
 
@@ -227,12 +228,13 @@ fn are_stored(rt: &impl Abort, alloc: Global, base: AbsVal<Flat>, offset: u64, c
 
 #[test]
 fn values_are_stored_whole(rt: HostRuntime) {
+    let rt = &rt;
     let alloc = rt.alloc();
-    are_stored(&rt, alloc, END, MINUS_8, 63);
-    are_stored(&rt, alloc, END, MINUS_512, 0);
-    are_stored(&rt, alloc, STACK, 0, 62);
-    are_stored(&rt, alloc, STACK, 8, 63);
-    are_stored(&rt, alloc, START, 16, 2);
+    are_stored(rt, alloc, END, MINUS_8, 63);
+    are_stored(rt, alloc, END, MINUS_512, 0);
+    are_stored(rt, alloc, STACK, 0, 62);
+    are_stored(rt, alloc, STACK, 8, 63);
+    are_stored(rt, alloc, START, 16, 2);
 }
 
 /// Checks that a word is in its cell once it is stored, and no other byte is set, and that no register is changed.
@@ -275,10 +277,11 @@ fn both_set_bytes(rt: &impl Abort, alloc: Global, size: Size, offset: u64, first
 
 #[test]
 fn low_bytes_of_numbers_are_stored(rt: HostRuntime) {
+    let rt = &rt;
     let alloc = rt.alloc();
-    both_set_bytes(&rt, alloc, Size::Byte, 15, 511, 512);
-    both_set_bytes(&rt, alloc, Size::Byte, 0, 496, 497);
-    both_set_bytes(&rt, alloc, Size::HalfWord, 2, 498, 500);
-    both_set_bytes(&rt, alloc, Size::Word, 4, 500, 504);
-    both_set_bytes(&rt, alloc, Size::Word, minus(496), 0, 4);
+    both_set_bytes(rt, alloc, Size::Byte, 15, 511, 512);
+    both_set_bytes(rt, alloc, Size::Byte, 0, 496, 497);
+    both_set_bytes(rt, alloc, Size::HalfWord, 2, 498, 500);
+    both_set_bytes(rt, alloc, Size::Word, 4, 500, 504);
+    both_set_bytes(rt, alloc, Size::Word, minus(496), 0, 4);
 }

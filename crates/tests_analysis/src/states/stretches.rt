@@ -228,13 +228,14 @@ fn leaves_bytes(
 
 #[test]
 fn a_copied_tag_leaves_of_a_kept_value_what_it_does_not_cover(rt: HostRuntime) {
+    let rt = &rt;
     let alloc = rt.alloc();
-    leaves_bytes(&rt, alloc, EIGHT, 14, 2, 496, 504);
-    leaves_bytes(&rt, alloc, EIGHT, 8, 4, 496, 508);
-    leaves_bytes(&rt, alloc, ANY, 20, 4, 492, 504);
-    leaves_bytes(&rt, alloc, STACK, 14, 2, 498, 500);
-    leaves_bytes(&rt, alloc, CONTEXT, 20, 8, 492, 500);
-    leaves_bytes(&rt, alloc, STACK, 8, 4, 504, 508);
+    leaves_bytes(rt, alloc, EIGHT, 14, 2, 496, 504);
+    leaves_bytes(rt, alloc, EIGHT, 8, 4, 496, 508);
+    leaves_bytes(rt, alloc, ANY, 20, 4, 492, 504);
+    leaves_bytes(rt, alloc, STACK, 14, 2, 498, 500);
+    leaves_bytes(rt, alloc, CONTEXT, 20, 8, 492, 500);
+    leaves_bytes(rt, alloc, STACK, 8, 4, 504, 508);
 }
 
 /// What is wanted of a comparison in a state: its answer isn't known, or a byte isn't set.
@@ -316,10 +317,11 @@ fn is_read(rt: &impl Abort, alloc: Global, place: u64, count: u64, are_set: bool
 
 #[test]
 fn what_helper_3_wrote_helper_4_reads(rt: HostRuntime) {
+    let rt = &rt;
     let alloc = rt.alloc();
-    is_read(&rt, alloc, 40, 10, true);
-    is_read(&rt, alloc, 36, 6, true);
-    is_read(&rt, alloc, 41, 10, false);
-    is_read(&rt, alloc, 40, 11, false);
-    is_read(&rt, alloc, 30, 1, false);
+    is_read(rt, alloc, 40, 10, true);
+    is_read(rt, alloc, 36, 6, true);
+    is_read(rt, alloc, 41, 10, false);
+    is_read(rt, alloc, 40, 11, false);
+    is_read(rt, alloc, 30, 1, false);
 }
