@@ -128,17 +128,18 @@ fn another_method_is_told(rt: HostRuntime) {
 
 #[test]
 fn answers_follow_one_another(rt: HostRuntime) {
+    let rt = &rt;
     let alloc = rt.alloc();
-    let mut written = Vec::from_slice(alloc, b"before ").expect(&rt, "ample memory");
+    let mut written = Vec::from_slice(alloc, b"before ").expect(rt, "ample memory");
     let short = AnswerMessage {
         body: b"1",
         ..PERMITTED
     };
-    write(&rt, alloc, &mut written, &short);
-    write(&rt, alloc, &mut written, &short);
+    write(rt, alloc, &mut written, &short);
+    write(rt, alloc, &mut written, &short);
     let text =
         "before HTTP/1.1 200 OK\r\nContent-Type: application/json\r\nContent-Length: 1\r\n\r\n1HTTP/1.1 200 OK\r\nContent-Type: application/json\r\nContent-Length: 1\r\n\r\n1";
-    same_at(&rt, written.as_slice(), text.as_bytes(), text);
+    same_at(rt, written.as_slice(), text.as_bytes(), text);
 }
 
 /// The answer of each status begins with its line.

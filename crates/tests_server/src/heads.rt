@@ -62,18 +62,19 @@ fn push(rt: &impl Abort, text: &mut String, more: &str) {
 
 #[test]
 fn parts_of_a_head_are_found(rt: HostRuntime) {
+    let rt = &rt;
     let text = "POST /v1/services/pay/acquire?x HTTP/1.1\r\nHost: a\r\n\r\nbody";
-    let found = head(&rt, rt.alloc(), text).expect(&rt, "a head");
+    let found = head(rt, rt.alloc(), text).expect(rt, "a head");
     same(
-        &rt,
+        rt,
         text.get(found.method.start..found.method.end),
         Some("POST"),
     );
     let target = text.get(found.target.start..found.target.end);
-    same(&rt, target, Some("/v1/services/pay/acquire?x"));
-    same(&rt, found.size, 53);
-    same(&rt, found.body, 0);
-    is_true(&rt, !found.closes);
+    same(rt, target, Some("/v1/services/pay/acquire?x"));
+    same(rt, found.size, 53);
+    same(rt, found.body, 0);
+    is_true(rt, !found.closes);
 }
 
 /// The beginnings of a text are parts of its head, until that is whole.
@@ -159,11 +160,12 @@ fn has_too_many_fields(rt: &impl Abort, alloc: Global, fields: usize) {
 
 #[test]
 fn heads_have_at_most_32_fields(rt: HostRuntime) {
+    let rt = &rt;
     let alloc = rt.alloc();
-    let most = long_head(&rt, alloc, 0, 32);
-    is_true(&rt, head(&rt, alloc, most.as_str()).is_some());
-    has_too_many_fields(&rt, alloc, 33);
-    has_too_many_fields(&rt, alloc, 1_000);
+    let most = long_head(rt, alloc, 0, 32);
+    is_true(rt, head(rt, alloc, most.as_str()).is_some());
+    has_too_many_fields(rt, alloc, 33);
+    has_too_many_fields(rt, alloc, 1_000);
 }
 
 /// Fields, with the refusal of a request that has them.
@@ -250,8 +252,9 @@ fn are_closing(rt: &impl Abort, alloc: Global, rows: &[(&str, bool)]) {
 
 #[test]
 fn connections_end_where_they_are_asked_to(rt: HostRuntime) {
+    let rt = &rt;
     are_closing(
-        &rt,
+        rt,
         rt.alloc(),
         &[
             ("", false),
@@ -264,7 +267,7 @@ fn connections_end_where_they_are_asked_to(rt: HostRuntime) {
         ],
     );
     let old = "GET / HTTP/1.0\r\nConnection: keep-alive\r\n\r\n";
-    is_true(&rt, head(&rt, rt.alloc(), old).expect(&rt, "a head").closes);
+    is_true(rt, head(rt, rt.alloc(), old).expect(rt, "a head").closes);
 }
 
 /// A message that is refused, and whether its method is HEAD.

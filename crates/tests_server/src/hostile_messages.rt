@@ -213,10 +213,11 @@ const CHROMIUM: &str =
 
 #[test]
 fn real_clients_are_answered(rt: HostRuntime) {
+    let rt = &rt;
     let alloc = rt.alloc();
-    let mut books = pay(&rt, alloc);
+    let mut books = pay(rt, alloc);
     are_answered_in_turn(
-        &rt,
+        rt,
         alloc,
         &mut books,
         &[
@@ -226,10 +227,10 @@ fn real_clients_are_answered(rt: HostRuntime) {
             (CURL_POST, REPORTED),
         ],
     );
-    let program = INSTALL.get(INSTALL.len() - 16..).expect(&rt, "a program");
-    let mut input = Vec::from_slice(alloc, CURL_PUT.as_bytes()).expect(&rt, "ample memory");
-    input.extend_from_slice(program).expect(&rt, "ample memory");
-    is_answered(&rt, alloc, &mut books, &input, INSTALLED, Ended::Closed);
+    let program = INSTALL.get(INSTALL.len() - 16..).expect(rt, "a program");
+    let mut input = Vec::from_slice(alloc, CURL_PUT.as_bytes()).expect(rt, "ample memory");
+    input.extend_from_slice(program).expect(rt, "ample memory");
+    is_answered(rt, alloc, &mut books, &input, INSTALLED, Ended::Closed);
 }
 
 /// The answer to the first call for a ticket where the connection ends behind it.

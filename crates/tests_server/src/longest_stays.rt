@@ -344,10 +344,11 @@ fn are_answered_over_http<A: Answerer, R: Wait + Abort>(rt: &R, alloc: Global, a
 
 #[test]
 fn each_event_finds_the_longest_stay_over_in_a_replay(rt: HostRuntime) {
+    let rt = &rt;
     let alloc = rt.alloc();
-    let mut input = joined(&rt, alloc, &[HALF_A_SECOND]);
+    let mut input = joined(rt, alloc, &[HALF_A_SECOND]);
     let mut printed = String::new(alloc);
-    for step in &all_steps(&rt, alloc) {
+    for step in &all_steps(rt, alloc) {
         let Step {
             moment,
             name,
@@ -356,12 +357,12 @@ fn each_event_finds_the_longest_stay_over_in_a_replay(rt: HostRuntime) {
             body,
         } = step;
         let line = format!(in alloc; "{{\"at\":{moment},\"do\":\"{name}\"{members}}}\n");
-        let line = line.expect(&rt, "ample memory");
-        input.push_str(&line).expect(&rt, "ample memory");
-        let answer = format!(in alloc; "{status} {body}\n").expect(&rt, "ample memory");
-        printed.push_str(&answer).expect(&rt, "ample memory");
+        let line = line.expect(rt, "ample memory");
+        input.push_str(&line).expect(rt, "ample memory");
+        let answer = format!(in alloc; "{status} {body}\n").expect(rt, "ample memory");
+        printed.push_str(&answer).expect(rt, "ample memory");
     }
-    ends(&rt, alloc, &["replay"], input.as_bytes(), 0, &printed);
+    ends(rt, alloc, &["replay"], input.as_bytes(), 0, &printed);
 }
 
 #[test]

@@ -149,21 +149,22 @@ fn one_is_left(rt: &impl Abort, alloc: Global, listener: &TcpListener) -> io::Re
 
 #[test]
 fn workers_share_the_connections(rt: HostRuntime) -> Result<(), Fail> {
+    let rt = &rt;
     let alloc = rt.alloc();
-    let listener = TcpListener::bind(&rt, "127.0.0.1:0")?;
+    let listener = TcpListener::bind(rt, "127.0.0.1:0")?;
     let address = listener.local_addr()?;
-    let streams = connect(&rt, alloc, address, 8)?;
+    let streams = connect(rt, alloc, address, 8)?;
     // The pool is to serve eight: it ends, and the ninth is not answered.
-    let further = ask(&rt, address, ACQUIRE)?;
-    let workers = workers(&rt, alloc, 3)?;
+    let further = ask(rt, address, ACQUIRE)?;
+    let workers = workers(rt, alloc, 3)?;
     assert_eq!(rt; workers.len(), 3);
-    let workers = pool(&rt, alloc, &listener, 8, workers)?;
-    same(&rt, workers.len(), 3);
-    same(&rt, failures(&workers), 0);
-    have_answered(&rt, &workers, 8);
-    are_answered(&rt, alloc, &streams, "\"version\":1}")?;
-    one_is_left(&rt, alloc, &listener)?;
-    same(&rt, answer(alloc, &further)?.len(), 0);
+    let workers = pool(rt, alloc, &listener, 8, workers)?;
+    same(rt, workers.len(), 3);
+    same(rt, failures(&workers), 0);
+    have_answered(rt, &workers, 8);
+    are_answered(rt, alloc, &streams, "\"version\":1}")?;
+    one_is_left(rt, alloc, &listener)?;
+    same(rt, answer(alloc, &further)?.len(), 0);
     Ok(())
 }
 
@@ -223,27 +224,28 @@ fn serving_ends_where_the_listener_fails(rt: HostRuntime) -> Result<(), Fail> {
 
 #[test]
 fn connections_are_served_by_one_worker(rt: HostRuntime) -> Result<(), Fail> {
+    let rt = &rt;
     let alloc = rt.alloc();
-    let listener = TcpListener::bind(&rt, "127.0.0.1:0")?;
+    let listener = TcpListener::bind(rt, "127.0.0.1:0")?;
     let address = listener.local_addr()?;
-    let first = ask(&rt, address, ACQUIRE)?;
+    let first = ask(rt, address, ACQUIRE)?;
     // A message that is cut short ends its connection alone.
-    let cut = ask(&rt, address, "POST")?;
-    let last = ask(&rt, address, ACQUIRE)?;
-    let mut books = pay(&rt, alloc);
+    let cut = ask(rt, address, "POST")?;
+    let last = ask(rt, address, ACQUIRE)?;
+    let mut books = pay(rt, alloc);
     let mut clock = Readings { times: 0 };
     let limits = Limits {
         connections: 3,
         most_open: DEFAULT_OPEN,
     };
-    let ended = serve_connections(&rt, alloc, &listener, limits, &mut books, &mut clock);
-    same(&rt, ended, Ok(()));
-    same(&rt, (entries(&books), clock.times), (2, 2));
-    same(&rt, answer(alloc, &cut)?.len(), 0);
+    let ended = serve_connections(rt, alloc, &listener, limits, &mut books, &mut clock);
+    same(rt, ended, Ok(()));
+    same(rt, (entries(&books), clock.times), (2, 2));
+    same(rt, answer(alloc, &cut)?.len(), 0);
     let ending = "{\"state\":\"CLOSED\",\"ticket\":1,\"version\":1}";
-    is_answered(&rt, alloc, &first, ending)?;
+    is_answered(rt, alloc, &first, ending)?;
     let ending = "{\"state\":\"CLOSED\",\"ticket\":2,\"version\":1}";
-    is_answered(&rt, alloc, &last, ending)?;
+    is_answered(rt, alloc, &last, ending)?;
     Ok(())
 }
 

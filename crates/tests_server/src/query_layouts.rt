@@ -140,22 +140,23 @@ fn ignores(rt: &impl Abort, alloc: Global, route: Route, number: Option<&str>, b
 
 #[test]
 fn other_routes_ignore_the_query(rt: HostRuntime) {
+    let rt = &rt;
     let alloc = rt.alloc();
-    ignores(&rt, alloc, Route::Acquire, None, b"");
+    ignores(rt, alloc, Route::Acquire, None, b"");
     ignores(
-        &rt,
+        rt,
         alloc,
         Route::Report,
         None,
         b"{\"ticket\":1,\"outcome\":{}}",
     );
-    ignores(&rt, alloc, Route::Release, None, b"{\"ticket\":1}");
-    ignores(&rt, alloc, Route::Transition, None, b"{\"state\":\"OPEN\"}");
-    ignores(&rt, alloc, Route::Reset, None, b"");
-    ignores(&rt, alloc, Route::Cut, None, b"");
-    ignores(&rt, alloc, Route::Roll, None, b"{\"to\":1}");
-    ignores(&rt, alloc, Route::State, None, b"");
-    ignores(&rt, alloc, Route::Journal, Some("1"), b"");
+    ignores(rt, alloc, Route::Release, None, b"{\"ticket\":1}");
+    ignores(rt, alloc, Route::Transition, None, b"{\"state\":\"OPEN\"}");
+    ignores(rt, alloc, Route::Reset, None, b"");
+    ignores(rt, alloc, Route::Cut, None, b"");
+    ignores(rt, alloc, Route::Roll, None, b"{\"to\":1}");
+    ignores(rt, alloc, Route::State, None, b"");
+    ignores(rt, alloc, Route::Journal, Some("1"), b"");
 }
 
 /// The message that asks to install the program that looks at byte 64, behind this query.
@@ -264,13 +265,14 @@ fn ends(rt: &(impl Wait + Abort), alloc: Global, books: &mut Books, message: &[u
 
 #[test]
 fn a_program_sees_the_longer_front(rt: HostRuntime) {
+    let rt = &rt;
     let alloc = rt.alloc();
-    let mut books = pay(&rt, alloc);
-    let message = install(&rt, alloc, "?layout=2");
-    ends(&rt, alloc, &mut books, &message, FOR_LAYOUT_2);
+    let mut books = pay(rt, alloc);
+    let message = install(rt, alloc, "?layout=2");
+    ends(rt, alloc, &mut books, &message, FOR_LAYOUT_2);
     let ticket = "{\"state\":\"CLOSED\",\"ticket\":1,\"version\":2}";
-    ends(&rt, alloc, &mut books, ACQUIRE.as_bytes(), ticket);
+    ends(rt, alloc, &mut books, ACQUIRE.as_bytes(), ticket);
     let recorded =
         "{\"fate\":\"recorded\",\"state\":\"CLOSED\",\"steps\":4,\"verdict\":\"failure\",\"version\":2}";
-    ends(&rt, alloc, &mut books, REPORT.as_bytes(), recorded);
+    ends(rt, alloc, &mut books, REPORT.as_bytes(), recorded);
 }

@@ -47,12 +47,13 @@ fn ignores(rt: &impl Abort, alloc: Global, route: Route, number: Option<&str>, b
 
 #[test]
 fn other_routes_ignore_their_body(rt: HostRuntime) {
+    let rt = &rt;
     let bodies: &[&[u8]] = &[b"", b"{}", b"{", b"\xff"];
-    ignores(&rt, rt.alloc(), Route::Acquire, None, bodies);
-    ignores(&rt, rt.alloc(), Route::Reset, None, bodies);
-    ignores(&rt, rt.alloc(), Route::Cut, None, bodies);
-    ignores(&rt, rt.alloc(), Route::State, None, bodies);
-    ignores(&rt, rt.alloc(), Route::Journal, Some("7"), bodies);
+    ignores(rt, rt.alloc(), Route::Acquire, None, bodies);
+    ignores(rt, rt.alloc(), Route::Reset, None, bodies);
+    ignores(rt, rt.alloc(), Route::Cut, None, bodies);
+    ignores(rt, rt.alloc(), Route::State, None, bodies);
+    ignores(rt, rt.alloc(), Route::Journal, Some("7"), bodies);
 }
 
 /// Each body is the program that is to be installed.
@@ -93,18 +94,16 @@ fn reports_name_ticket_and_outcome(rt: HostRuntime) {
 
 #[test]
 fn releases_transitions_and_rolls_are_read(rt: HostRuntime) {
+    let rt = &rt;
     let body = b"{\"ticket\":18446744073709551615,\"outcome\":null}";
-    let release = asked(&rt, rt.alloc(), Route::Release, None, body);
-    is_true(&rt, matches!(release, Ok(Request::Release(u64::MAX))));
+    let release = asked(rt, rt.alloc(), Route::Release, None, body);
+    is_true(rt, matches!(release, Ok(Request::Release(u64::MAX))));
     let body = b" {\"state\":\"HALF_OPEN\",\"ticket\":1}\r\n";
-    let transition = asked(&rt, rt.alloc(), Route::Transition, None, body);
-    is_true(
-        &rt,
-        matches!(transition, Ok(Request::Move(State::HalfOpen))),
-    );
+    let transition = asked(rt, rt.alloc(), Route::Transition, None, body);
+    is_true(rt, matches!(transition, Ok(Request::Move(State::HalfOpen))));
     let body = b"{\"to\":18446744073709551615,\"from\":1}";
-    let roll = asked(&rt, rt.alloc(), Route::Roll, None, body);
-    is_true(&rt, matches!(roll, Ok(Request::Roll(u64::MAX))));
+    let roll = asked(rt, rt.alloc(), Route::Roll, None, body);
+    is_true(rt, matches!(roll, Ok(Request::Roll(u64::MAX))));
 }
 
 /// The refusal of what a route is asked for, if any.
@@ -156,10 +155,11 @@ fn refuses(rt: &impl Abort, alloc: Global, route: Route) {
 
 #[test]
 fn bodies_that_are_no_json_are_refused_first(rt: HostRuntime) {
-    refuses(&rt, rt.alloc(), Route::Report);
-    refuses(&rt, rt.alloc(), Route::Release);
-    refuses(&rt, rt.alloc(), Route::Transition);
-    refuses(&rt, rt.alloc(), Route::Roll);
+    let rt = &rt;
+    refuses(rt, rt.alloc(), Route::Report);
+    refuses(rt, rt.alloc(), Route::Release);
+    refuses(rt, rt.alloc(), Route::Transition);
+    refuses(rt, rt.alloc(), Route::Roll);
 }
 
 /// A route and a body with a wrong value.
@@ -219,16 +219,17 @@ fn are_no_pages(rt: &impl Abort, alloc: Global, numbers: &[&str]) {
 
 #[test]
 fn pages_begin_at_a_number(rt: HostRuntime) {
+    let rt = &rt;
     are_pages(
-        &rt,
+        rt,
         rt.alloc(),
         &[("0", 0), ("1", 1), ("18446744073709551615", u64::MAX)],
     );
     are_no_pages(
-        &rt,
+        rt,
         rt.alloc(),
         &["+1", "-1", "x", "1.0", "18446744073709551616"],
     );
-    let missing = refusal(&rt, rt.alloc(), Route::Journal, None, b"");
-    same(&rt, missing, Some(RefusalNumber::BadValue));
+    let missing = refusal(rt, rt.alloc(), Route::Journal, None, b"");
+    same(rt, missing, Some(RefusalNumber::BadValue));
 }

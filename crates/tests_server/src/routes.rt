@@ -88,9 +88,10 @@ fn are_journals(rt: &impl Abort, routes: &Routes, rows: &[(&str, &str)]) {
 
 #[test]
 fn journal_has_a_number(rt: HostRuntime) {
+    let rt = &rt;
     are_journals(
-        &rt,
-        &routes(&rt, rt.alloc()),
+        rt,
+        &routes(rt, rt.alloc()),
         &[
             ("/v1/services/pay/journal/1", "1"),
             (
@@ -103,8 +104,8 @@ fn journal_has_a_number(rt: HostRuntime) {
             ("/v1/services/pay/journal/%37", "%37"),
         ],
     );
-    same_at(&rt, Route::Journal.word(), "journal", "word");
-    same_at(&rt, Route::Journal.method(), "GET", "method");
+    same_at(rt, Route::Journal.word(), "journal", "word");
+    same_at(rt, Route::Journal.method(), "GET", "method");
 }
 
 /// Each path finds its route of its service.

@@ -118,23 +118,20 @@ fn last_number(end: &ServerEnd) -> u64 {
 
 #[test]
 fn connections_are_served(rt: HostRuntime) -> Result<(), Fail> {
+    let rt = &rt;
     let file =
         "{\"listen\":\"127.0.0.1:0\",\"workers\":1,\"connections\":3,\"services\":[{\"name\":\"pay\"}]}";
     let alloc = rt.alloc();
     let inputs = &[ACQUIRE, "POST", STATE, ACQUIRE];
-    let mut out = Counted::new(Caller::new(&rt, alloc, inputs, false));
-    let mut clock = SystemClock::new(&rt);
+    let mut out = Counted::new(Caller::new(rt, alloc, inputs, false));
+    let mut clock = SystemClock::new(rt);
     let mut err = Counted::new(Vec::new(alloc));
-    let end = serve_file(&rt, alloc, file.as_bytes(), &mut out, &mut err, &mut clock);
-    same(
-        &rt,
-        (end.status, end.status.code()),
-        (ServerStatus::Done, 0),
-    );
+    let end = serve_file(rt, alloc, file.as_bytes(), &mut out, &mut err, &mut clock);
+    same(rt, (end.status, end.status.code()), (ServerStatus::Done, 0));
     // The book comes back as its three connections left it: without the ticket that the fourth asked for.
-    same(&rt, (last_number(&end), end.counts.len()), (1, 0));
-    same(&rt, (out.failures(), err.inner().len()), (0, 0));
-    are_answered(&rt, alloc, &out.inner().streams)?;
+    same(rt, (last_number(&end), end.counts.len()), (1, 0));
+    same(rt, (out.failures(), err.inner().len()), (0, 0));
+    are_answered(rt, alloc, &out.inner().streams)?;
     Ok(())
 }
 
@@ -191,17 +188,18 @@ where
 
 #[test]
 fn refusals_that_cannot_be_flushed_are_failures(rt: HostRuntime) {
+    let rt = &rt;
     let alloc = rt.alloc();
     let mut err = Counted::new(Vec::new(alloc));
-    let mut clock = SystemClock::new(&rt);
-    let mut out = Counted::new(Caller::new(&rt, alloc, &[], true));
-    let end = serve_file(&rt, alloc, b"{}", &mut out, &mut err, &mut clock);
-    is_refused_unflushed(&rt, &end, &out);
-    let mut out = Counted::new(Caller::new(&rt, alloc, &[], true));
+    let mut clock = SystemClock::new(rt);
+    let mut out = Counted::new(Caller::new(rt, alloc, &[], true));
+    let end = serve_file(rt, alloc, b"{}", &mut out, &mut err, &mut clock);
+    is_refused_unflushed(rt, &end, &out);
+    let mut out = Counted::new(Caller::new(rt, alloc, &[], true));
     let path = "no such file";
-    let end = serve_path(&rt, alloc, path, &mut out, &mut err, &mut clock);
-    is_refused_unflushed(&rt, &end, &out);
-    same(&rt, err.inner().len(), 0);
+    let end = serve_path(rt, alloc, path, &mut out, &mut err, &mut clock);
+    is_refused_unflushed(rt, &end, &out);
+    same(rt, err.inner().len(), 0);
 }
 
 /// What a server prints for a file that it refuses: on standard output, and on standard error.
@@ -218,50 +216,52 @@ where
 
 #[test]
 fn busy_addresses_are_refused(rt: HostRuntime) -> Result<(), Fail> {
-    let listener = TcpListener::bind(&rt, "127.0.0.1:0")?;
+    let rt = &rt;
+    let listener = TcpListener::bind(rt, "127.0.0.1:0")?;
     let port = listener.local_addr()?.port();
     let file = format!(in rt.alloc();
         "{{\"listen\":\"127.0.0.1:{port}\",\"workers\":1,\"connections\":1,\"services\":[{{\"name\":\"pay\"}}]}}"
     )?;
-    let (status, text, why) = refused(&rt, rt.alloc(), &file);
+    let (status, text, why) = refused(rt, rt.alloc(), &file);
     let listen = ServerStatus::Refused(RefusalNumber::Listen);
-    same(&rt, (status, status.code()), (listen, 1));
-    same(&rt, text.as_slice(), b"refused 48 Listen\n".as_slice());
+    same(rt, (status, status.code()), (listen, 1));
+    same(rt, text.as_slice(), b"refused 48 Listen\n".as_slice());
     let told = format!(in rt.alloc(); "127.0.0.1:{port}: Address already in use (os error 98)\n")?;
-    same(&rt, why.as_slice(), told.as_bytes());
+    same(rt, why.as_slice(), told.as_bytes());
     Ok(())
 }
 
 #[test]
 fn files_that_cannot_be_used_are_refused(rt: HostRuntime) -> Result<(), Fail> {
-    let (status, text, why) = refused(&rt, rt.alloc(), "{}");
+    let rt = &rt;
+    let (status, text, why) = refused(rt, rt.alloc(), "{}");
     let bad_config = ServerStatus::Refused(RefusalNumber::BadConfig);
-    same(&rt, (status, status.code()), (bad_config, 1));
-    same(&rt, text.as_slice(), b"refused 47 BadConfig\n".as_slice());
+    same(rt, (status, status.code()), (bad_config, 1));
+    same(rt, text.as_slice(), b"refused 47 BadConfig\n".as_slice());
     same(
-        &rt,
+        rt,
         why.as_slice(),
         b"listen: the key is missing\n".as_slice(),
     );
     let mut out = Counted::new(Vec::new(rt.alloc()));
     let mut err = Counted::new(Vec::new(rt.alloc()));
-    let mut clock = SystemClock::new(&rt);
+    let mut clock = SystemClock::new(rt);
     let end = serve_path(
-        &rt,
+        rt,
         rt.alloc(),
         "no such file",
         &mut out,
         &mut err,
         &mut clock,
     );
-    same(&rt, (end.status, end.status.code()), (bad_config, 1));
+    same(rt, (end.status, end.status.code()), (bad_config, 1));
     same(
-        &rt,
+        rt,
         out.inner().as_slice(),
         b"refused 47 BadConfig\n".as_slice(),
     );
     same(
-        &rt,
+        rt,
         err.inner().as_slice(),
         b"no such file: No such file or directory (os error 2)\n".as_slice(),
     );

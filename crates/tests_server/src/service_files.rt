@@ -31,23 +31,25 @@ fn have_services(rt: &impl Abort, settings: &Settings, services: &[Service<'_>])
 
 #[test]
 fn files_are_read(rt: HostRuntime) {
+    let rt = &rt;
     let text =
         "{\"listen\":\"127.0.0.1:8080\",\"workers\":4,\"connections\":0,\"services\":[{\"name\":\"pay\",\"config\":{\"slidingWindowSize\":7},\"program\":\"b700000002000000 9500000000000000\"},{\"name\":\"a-1_z\"}]}";
-    let settings = read(&rt, rt.alloc(), text).expect(&rt, "a file");
-    same(&rt, settings.listen.port(), 8080);
-    is_true(&rt, settings.listen.is_ipv4());
-    same(&rt, settings.workers, 4);
-    same(&rt, settings.connections, 0);
-    have_services(&rt, &settings, &[("pay", 7, 2), ("a-1_z", 100, 6)]);
+    let settings = read(rt, rt.alloc(), text).expect(rt, "a file");
+    same(rt, settings.listen.port(), 8080);
+    is_true(rt, settings.listen.is_ipv4());
+    same(rt, settings.workers, 4);
+    same(rt, settings.connections, 0);
+    have_services(rt, &settings, &[("pay", 7, 2), ("a-1_z", 100, 6)]);
 }
 
 #[test]
 fn addresses_may_be_of_version_6(rt: HostRuntime) {
+    let rt = &rt;
     let text =
         "{\"listen\":\"[::1]:0\",\"workers\":64,\"connections\":18446744073709551615,\"services\":[{\"name\":\"a\"}]}";
-    let settings = read(&rt, rt.alloc(), text).expect(&rt, "a file");
-    is_true(&rt, settings.listen.is_ipv6());
-    same(&rt, settings.connections, u64::MAX);
+    let settings = read(rt, rt.alloc(), text).expect(rt, "a file");
+    is_true(rt, settings.listen.is_ipv6());
+    same(rt, settings.connections, u64::MAX);
 }
 
 /// The keeper that a file with this text between its workers and its connections gives; none where it can't be used.
@@ -227,8 +229,9 @@ fn can_be_used(rt: &impl Abort, alloc: Global, count: u32, size: usize, is_used:
 
 #[test]
 fn services_and_names_have_a_limit(rt: HostRuntime) {
-    can_be_used(&rt, rt.alloc(), 64, 2, true);
-    can_be_used(&rt, rt.alloc(), 65, 2, false);
-    can_be_used(&rt, rt.alloc(), 1, 64, true);
-    can_be_used(&rt, rt.alloc(), 1, 65, false);
+    let rt = &rt;
+    can_be_used(rt, rt.alloc(), 64, 2, true);
+    can_be_used(rt, rt.alloc(), 65, 2, false);
+    can_be_used(rt, rt.alloc(), 1, 64, true);
+    can_be_used(rt, rt.alloc(), 1, 65, false);
 }

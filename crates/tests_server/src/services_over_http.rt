@@ -67,47 +67,50 @@ fn journals_are_paged(rt: HostRuntime) {
 
 #[test]
 fn programs_are_installed_whole(rt: HostRuntime) {
+    let rt = &rt;
     let alloc = rt.alloc();
-    let mut books = pay(&rt, alloc);
-    let cut = INSTALL.get(..INSTALL.len() - 1).expect(&rt, "a byte");
-    is_answered(&rt, alloc, &mut books, cut, "", Ended::Truncated);
+    let mut books = pay(rt, alloc);
+    let cut = INSTALL.get(..INSTALL.len() - 1).expect(rt, "a byte");
+    is_answered(rt, alloc, &mut books, cut, "", Ended::Truncated);
     let state = b"GET /v1/services/pay/state HTTP/1.1\r\n\r\n";
-    let (_, written) = served(&rt, alloc, &mut books, state);
-    is_true(&rt, written.ends_with(b"\"total\":0,\"version\":1}"));
-    is_answered(&rt, alloc, &mut books, INSTALL, INSTALLED, Ended::Closed);
-    same(&rt, version(&books), 2);
+    let (_, written) = served(rt, alloc, &mut books, state);
+    is_true(rt, written.ends_with(b"\"total\":0,\"version\":1}"));
+    is_answered(rt, alloc, &mut books, INSTALL, INSTALLED, Ended::Closed);
+    same(rt, version(&books), 2);
 }
 
 #[test]
 fn refused_calls_are_unavailable(rt: HostRuntime) {
+    let rt = &rt;
     let alloc = rt.alloc();
-    let mut books = pay(&rt, alloc);
+    let mut books = pay(rt, alloc);
     let forced =
         b"POST /v1/services/pay/transition HTTP/1.1\r\nContent-Length: 23\r\n\r\n{\"state\":\"FORCED_OPEN\"}";
-    let (ended, _) = served(&rt, alloc, &mut books, forced);
-    same(&rt, ended, Ended::Closed);
+    let (ended, _) = served(rt, alloc, &mut books, forced);
+    same(rt, ended, Ended::Closed);
     let text =
         "HTTP/1.1 503 Service Unavailable\r\nContent-Type: application/json\r\nContent-Length: 38\r\n\r\n{\"error\":31,\"name\":\"CallNotPermitted\"}";
     let input = ACQUIRE.as_bytes();
-    is_answered(&rt, alloc, &mut books, input, text, Ended::Closed);
+    is_answered(rt, alloc, &mut books, input, text, Ended::Closed);
 }
 
 #[test]
 fn journals_are_rolled(rt: HostRuntime) {
+    let rt = &rt;
     let alloc = rt.alloc();
-    let mut books = pay(&rt, alloc);
+    let mut books = pay(rt, alloc);
     let roll = "POST /v1/services/pay/roll HTTP/1.1\r\nContent-Length: 8\r\n\r\n{\"to\":1}";
-    let input = joined(&rt, alloc, &[ACQUIRE, roll, roll, JOURNAL]);
+    let input = joined(rt, alloc, &[ACQUIRE, roll, roll, JOURNAL]);
     let one =
         "HTTP/1.1 200 OK\r\nContent-Type: application/json\r\nContent-Length: 13\r\n\r\n{\"entries\":1}";
     let none =
         "HTTP/1.1 200 OK\r\nContent-Type: application/json\r\nContent-Length: 13\r\n\r\n{\"entries\":0}";
     let page =
         "HTTP/1.1 200 OK\r\nContent-Type: application/json\r\nContent-Length: 23\r\n\r\n{\"entries\":[],\"next\":1}";
-    let text = joined(&rt, alloc, &[ACQUIRED, one, none, page]);
+    let text = joined(rt, alloc, &[ACQUIRED, one, none, page]);
     let input = input.as_bytes();
-    is_answered(&rt, alloc, &mut books, input, &text, Ended::Closed);
-    same(&rt, version(&books), 1);
+    is_answered(rt, alloc, &mut books, input, &text, Ended::Closed);
+    same(rt, version(&books), 1);
 }
 
 const HALF_OPEN: &str =
