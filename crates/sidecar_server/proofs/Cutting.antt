@@ -3,9 +3,10 @@ use Rattle.std.proofs.Common.{◌≡◌, sym, subst, ℕ, List, Option, inl, inr
 use Rattle.std.specs.Io.KnownBytes.{Appends}
 use Rattle.refusals.specs.declared.RefusalNumber.{RefusalNumber}
 use Rattle.refusals.specs.declared.RefusalNumber.TheVariants as refusal
-use Rattle.sidecar_server.specs.declared.serving.ServerStatus.{ServerStatus}
-use Rattle.sidecar_server.specs.declared.serving.ServerStatus.TheVariants as status
-use Rattle.sidecar_server.specs.Server.{refused_line, IsUsable, IsFileRefused, IsServerRefusal, IsRefused, IsCutShort, IsServerOutput}
+use Rattle.server_lines.specs.declared.status.ServerStatus.{ServerStatus}
+use Rattle.server_lines.specs.declared.status.ServerStatus.TheVariants as status
+use Rattle.server_lines.specs.Lines.{refused_line, IsRefused, IsCutShort}
+use Rattle.sidecar_server.specs.Server.{IsUsable, IsFileRefused, IsServerRefusal, IsServerOutput}
 
 -- ---- a server that serves a file
 

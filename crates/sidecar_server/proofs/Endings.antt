@@ -2,9 +2,10 @@
 use Rattle.std.proofs.Common.{◌≡◌, refl, sym, subst, ℕ, List, Option, Some, None}
 use Rattle.event_loop.specs.Numbers.{ends}
 use Rattle.event_loop.specs.declared.failure.ListenerFailed.{ListenerFailed}
-use Rattle.sidecar_server.specs.declared.serving.ServerStatus.{ServerStatus}
-use Rattle.sidecar_server.specs.declared.serving.ServerStatus.TheVariants as status
-use Rattle.sidecar_server.specs.Server.{IsServing, IsServerOutput, IsListening, IsOver, ended_by}
+use Rattle.server_lines.specs.declared.status.ServerStatus.{ServerStatus}
+use Rattle.server_lines.specs.declared.status.ServerStatus.TheVariants as status
+use Rattle.server_lines.specs.Lines.{IsListening}
+use Rattle.sidecar_server.specs.Server.{IsServing, IsServerOutput, IsOver, ended_by}
 
 -- it has told its address
 pub served_listens : (s : ServerStatus) (before after : Option (List ℕ)) → IsServing s → IsServerOutput s before after → IsListening before after

@@ -2,7 +2,6 @@ pub mod Cutting
 pub mod Openings
 pub mod Crews
 pub mod Seating
-pub mod Silence
 pub mod Endings
 pub mod Along
 pub mod SlotSeating

@@ -1,14 +1,15 @@
 //! Serving by many workers, each with a seat of one desk, whose books lie behind locks.
 ghost use Rattle.std.specs.Prelude.{◌≡◌, ◌≤◌, map, vec_len, IfOk, IfErr};
 ghost use Rattle.service_file.specs.Settled.{HasCounts};
-ghost use Rattle.sidecar_server.specs.Server.{IsServerOutput, IsServerCause, IsServing, IsOver, IsQuiet, end_of};
+ghost use Rattle.server_lines.specs.Lines.{IsServerCause, IsQuiet};
+ghost use Rattle.sidecar_server.specs.Server.{IsServerOutput, IsServing, IsOver, end_of};
 ghost use Rattle.http_desk.specs.Seated.{seated};
 ghost use Rattle.sidecar_server.specs.Slotted.{workers_of};
 ghost use Rattle.sidecar_server.specs.Served.{seats_of, services_of, seats_with, counts_of, AreClosed, HasServedAtDesk};
 
 use crate::opening::opened_by;
 use crate::pooling::serve_by_pool;
-use crate::serving::{ServerEnd, ServerStatus, limits_of};
+use crate::serving::{ServerEnd, limits_of};
 use book::Book;
 use counted_io::Counted;
 use desk::{Desk, Offered, Seat};
@@ -16,6 +17,7 @@ use http_desk::SeatedAnswerer;
 use http_front::Clock;
 use http_pool::Worker;
 use refusals::RefusalNumber;
+use server_lines::ServerStatus;
 use service::OpenGate;
 use service_file::Settings;
 use std::alloc::{AllocError, Global};
@@ -100,7 +102,7 @@ fn closed<L: Ledger, M: Ledger + Offered>(
 }
 
 /// Opens a desk, listens and serves by as many workers as the settings say. Once they have ended it closes the desk.
-#[tactic(auto, using(crate::proofs::Silence::quiet_kept))]
+#[tactic(auto, using(server_lines::proofs::Silence::quiet_kept))]
 pub(crate) fn serve_at_desk<
     L: Ledger + Send + Sync,
     M: Ledger + Offered + Send + Sync,

@@ -4,18 +4,20 @@ ghost use Rattle.std.specs.List.{AllByRecursion};
 ghost use Rattle.service_file.specs.Settled.{HasCounts};
 ghost use Rattle.slot_desk.specs.Seats.{IsSeatOf};
 ghost use Rattle.http_slots.specs.Seated.{seated};
-ghost use Rattle.sidecar_server.specs.Server.{IsServerOutput, IsServerCause, IsServing, IsOver, IsQuiet, end_of};
+ghost use Rattle.server_lines.specs.Lines.{IsServerCause, IsQuiet};
+ghost use Rattle.sidecar_server.specs.Server.{IsServerOutput, IsServing, IsOver, end_of};
 ghost use Rattle.sidecar_server.specs.Slotted.{slot_seats_of, workers_of, slot_seats_with, slot_counts_of, AreClosedSlots, HasServedAtSlots};
 
 use crate::opening::opened_by;
 use crate::pooling::serve_by_pool;
-use crate::serving::{ServerEnd, ServerStatus, limits_of};
+use crate::serving::{ServerEnd, limits_of};
 use book::Book;
 use counted_io::Counted;
 use http_front::Clock;
 use http_pool::Worker;
 use http_slots::SlotAnswerer;
 use refusals::RefusalNumber;
+use server_lines::ServerStatus;
 use service::OpenGate;
 use service_file::Settings;
 use slot_desk::{Desk, Seat};
@@ -97,7 +99,7 @@ fn closed(alloc: Global, desk: Desk, seats: Vec<Seat>) -> Result<(Vec<Book>, Vec
 }
 
 /// Opens a desk, listens and serves by as many workers as the settings say. Once they have ended it closes the desk.
-#[tactic(auto, using(crate::proofs::Silence::quiet_kept))]
+#[tactic(auto, using(server_lines::proofs::Silence::quiet_kept))]
 pub(crate) fn serve_at_slots<
     R: Threads + Wait + time::Clock + Sync + Net<Listener = TcpListener, Stream = TcpStream>,
     O: Write,

@@ -11,4 +11,5 @@ mod pooling;
 mod serving;
 
 pub use clock::SystemClock;
-pub use serving::{ServerEnd, ServerStatus, serve_file, serve_path};
+pub use server_lines::ServerStatus;
+pub use serving::{ServerEnd, serve_file, serve_path};

@@ -2,7 +2,7 @@
 //! nothing else changes.
 ghost use Rattle.std.specs.Prelude.{◌≡◌};
 ghost use Rattle.counted_io.specs.Counting.{AppendsPart};
-ghost use Rattle.sidecar_server.specs.Server.{IsNotice};
+ghost use Rattle.server_lines.specs.Lines.{IsNotice};
 
 use config_mistakes::file_mistake;
 use counted_io::Counted;
@@ -10,25 +10,13 @@ use http_pool::threads_at_once;
 use std::alloc::{AllocError, Global};
 use std::io::Write;
 use std::thread::Threads;
-use std::{io, time};
+use std::time;
 
 /// Writes what is wrong with a file's text.
 pub(crate) fn notify_mistake<E: Write>(alloc: Global, text: &[u8], err: &mut Counted<E>) {
     if let Ok(Some(mistake)) = file_mistake(alloc, text)
         && let Ok(line) = format!(in alloc; "{mistake}\n")
     {
-        let _sent = err.send(line.as_bytes());
-    }
-}
-
-/// Writes an error of the system that was met with something of a name.
-pub(crate) fn notify_error<E: Write>(
-    alloc: Global,
-    name: &str,
-    error: &io::Error,
-    err: &mut Counted<E>,
-) {
-    if let Ok(line) = format!(in alloc; "{name}: {error}\n") {
         let _sent = err.send(line.as_bytes());
     }
 }

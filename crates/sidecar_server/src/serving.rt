@@ -1,75 +1,32 @@
 //! The command `serve`.
-ghost use Rattle.std.specs.Prelude.{◌≡◌, ℕ, List, [], None, IfOk, IfErr, OnOk, ⊤};
+ghost use Rattle.std.specs.Prelude.{◌≡◌, ℕ, List, [], None, IfOk, IfErr, ⊤};
 ghost use Rattle.std.specs.Io.KnownBytes.{Appends};
-ghost use Rattle.refusals.specs.declared.RefusalNumber.TheVariants.{BadConfig, Listen};
+ghost use Rattle.refusals.specs.declared.RefusalNumber.TheVariants.{BadConfig};
 ghost use Rattle.service_file.specs.Settled.{HasCounts};
-ghost use Rattle.sidecar_server.specs.Server.{refused_line, IsListening, IsUsable, IsFileRefused, IsServerRefusal, IsLineCut, IsCutShort, IsRefused, IsUnheard, IsServerCause, IsServerOutput, IsServing, IsOver, IsQuiet, HasServedFile, status_of, ended_by, end_of, code_of};
+ghost use Rattle.server_lines.specs.Lines.{refused_line, IsCutShort, IsRefused, IsServerCause, IsQuiet};
+ghost use Rattle.sidecar_server.specs.Server.{IsUsable, IsFileRefused, IsServerRefusal, IsServerOutput, IsServing, IsOver, HasServedFile, ended_by, end_of};
 ghost use Rattle.sidecar_server.specs.Served.{HasServedAlone, HasServedBy};
 
 use crate::at_desk::serve_at_desk;
 use crate::at_slots::serve_at_slots;
-use crate::notices::{notify_error, notify_mistake};
+use crate::notices::notify_mistake;
 use crate::opening::{books_of, open};
 use book::Book;
 use counted_io::Counted;
 use http_front::Clock;
 use http_pool::{Limits, ListenerFailed, serve_connections};
-use refusals::{RefusalNumber, RefusalText};
+use refusals::RefusalNumber;
+use server_lines::{ServerStatus, listen, refuse, refuse_for};
 use service_file::{Keeper, Settings, read_settings};
-use std::alloc::{AllocError, Global};
+use std::alloc::Global;
 use std::fs::{File, Files};
 use std::io::{ErrorKind, Read, Write};
 use std::marker::Brand;
-use std::net::{Net, SocketAddr, TcpListener, TcpStream};
+use std::net::{Net, TcpListener, TcpStream};
 use std::sync::Wait;
 use std::sync::ledger::Blank;
 use std::thread::Threads;
 use std::{io, time};
-
-/// How the server ended.
-#[derive(Clone, Copy, Debug, PartialEq, Eq)]
-pub enum ServerStatus {
-    /// It has served its connections.
-    Done,
-    /// It has served connections, and the listener accepts no more.
-    ListenerFailed,
-    /// It was refused, and the refusal was printed: `BadConfig` where the file can't be read or used,
-    /// `Listen` where the address can't be bound.
-    Refused(RefusalNumber),
-    /// A write failed.
-    WriteFailed,
-    /// What was written can't be flushed.
-    FlushFailed,
-    /// Memory ran out.
-    OutOfMemory,
-}
-
-impl ServerStatus {
-    /// The status with which the program ends: 0 where it is done, else 1.
-    pub fn code(self) -> u8
-        ensures { result ≡ code_of self }
-    {
-        match self {
-            ServerStatus::Done => 0,
-            ServerStatus::ListenerFailed
-            | ServerStatus::Refused(_)
-            | ServerStatus::WriteFailed
-            | ServerStatus::FlushFailed
-            | ServerStatus::OutOfMemory => 1,
-        }
-    }
-}
-
-impl From<AllocError> for ServerStatus {
-    ghost use Rattle.std.specs.Prelude.{◌≡◌};
-    ghost use Rattle.sidecar_server.specs.declared.serving.ServerStatus.TheVariants.{OutOfMemory};
-
-    ghost from_gives = { λ _ status. status ≡ OutOfMemory };
-
-    fn from(_error: AllocError) -> ServerStatus {
-        ServerStatus::OutOfMemory
-    }
-}
 
 /// How a server ended, and what it leaves.
 #[derive(Drop)]
@@ -130,99 +87,8 @@ pub(crate) fn limits_of(settings: &Settings) -> Limits
     }
 }
 
-/// Prints a line at once.
-fn print<O: Write>(line: &str, out: &mut Counted<O>) -> Result<(), ServerStatus>
-    ensures printed { OnOk result (Appends (O.contents out.old.inner) (O.contents out.new.inner) line.now) }
-    ensures failed { IfErr result (λ status. IsLineCut status line.now (O.contents out.old.inner) (O.contents out.new.inner)) }
-    ensures cause { IsServerCause (status_of result) out.old.failures out.new.failures }
-{
-    if out.send(line.as_bytes()).is_err() {
-        return Err(ServerStatus::WriteFailed);
-    }
-    if out.flush().is_err() {
-        return Err(ServerStatus::FlushFailed);
-    }
-    Ok(())
-}
-
-/// Prints a refusal as a line.
-fn refuse<O: Write>(alloc: Global, number: RefusalNumber, out: &mut Counted<O>) -> ServerStatus
-    ensures refused { IsRefused result number (O.contents out.old.inner) (O.contents out.new.inner) }
-    ensures cause { IsServerCause result out.old.failures out.new.failures }
-{
-    let shown = RefusalText { number, place: 0 };
-    let Ok(line) = format!(in alloc; "{shown}\n") else {
-        return ServerStatus::OutOfMemory;
-    };
-    match print(&line, out) {
-        Ok(()) => ServerStatus::Refused(number),
-        Err(status) => status,
-    }
-}
-
-/// Listens on an address. Answers the address that is bound, with its port where the system chose it.
-fn bound<R>(rt: &R, address: SocketAddr) -> io::Result<(TcpListener, SocketAddr)>
-where
-    R: Net<Listener = TcpListener, Stream = TcpStream>,
-{
-    let listener = TcpListener::bind(rt, address)?;
-    let address = listener.local_addr()?;
-    Ok((listener, address))
-}
-
-/// Prints that an address can't be bound, and then why on `err`.
-#[tactic(auto, using(crate::proofs::Silence::quiet_kept))]
-fn refuse_address<O: Write, E: Write>(
-    alloc: Global,
-    address: SocketAddr,
-    error: &io::Error,
-    out: &mut Counted<O>,
-    err: &mut Counted<E>,
-) -> ServerStatus
-    ensures refused { IsRefused result Listen (O.contents out.old.inner) (O.contents out.new.inner) }
-    ensures quiet { IsQuiet result (E.contents err.old.inner) (E.contents err.new.inner) }
-    ensures cause { IsServerCause result out.old.failures out.new.failures }
-{
-    let status = refuse(alloc, RefusalNumber::Listen, out);
-    if let ServerStatus::Refused(_) = status
-        && let Ok(name) = format!(in alloc; "{address}")
-    {
-        notify_error(alloc, &name, error, err);
-    }
-    status
-}
-
-/// Listens on an address, and prints the line that says so at once. Where the address can't be bound it prints the
-/// refusal, and why on `err`.
-#[tactic(auto, using(crate::proofs::Silence::quiet_kept))]
-pub(crate) fn listen<R, O: Write, E: Write>(
-    rt: &R,
-    alloc: Global,
-    address: SocketAddr,
-    out: &mut Counted<O>,
-    err: &mut Counted<E>,
-) -> Result<TcpListener, ServerStatus>
-where
-    R: Net<Listener = TcpListener, Stream = TcpStream>,
-    ensures listening { OnOk result (IsListening (O.contents out.old.inner) (O.contents out.new.inner)) }
-    ensures unheard { IfErr result (λ status. IsUnheard status (O.contents out.old.inner) (O.contents out.new.inner)) }
-    ensures heard { OnOk result (err.new ≡ err.old) }
-    ensures quiet { IsQuiet (status_of result) (E.contents err.old.inner) (E.contents err.new.inner) }
-    ensures cause { IsServerCause (status_of result) out.old.failures out.new.failures }
-{
-    let (listener, address) = match bound(rt, address) {
-        Ok(bound) => bound,
-        Err(error) => return Err(refuse_address(alloc, address, &error, out, err)),
-    };
-    let Ok(line) = format!(in alloc; "listening {address}\n") else {
-        return Err(ServerStatus::OutOfMemory);
-    };
-    print(&line, out)?;
-    Ok(listener)
-}
-
 /// Opens the services, listens and serves by one worker, who has the books to itself.
-#[tactic(auto, using(crate::proofs::Silence::quiet_kept))]
+#[tactic(auto, using(server_lines::proofs::Silence::quiet_kept))]
 fn serve_alone<R, O: Write, E: Write, C: Clock>(
     rt: &R,
     alloc: Global,
@@ -287,7 +153,7 @@ where
 }
 
 /// Prints that a file's text can't be used, and then what is wrong with it on `err`.
-#[tactic(auto, using(crate::proofs::Silence::quiet_kept))]
+#[tactic(auto, using(server_lines::proofs::Silence::quiet_kept))]
 fn refuse_text<O: Write, E: Write>(
     alloc: Global,
     text: &[u8],
@@ -311,7 +177,7 @@ fn refuse_text<O: Write, E: Write>(
 /// can't be used or the address can't be bound it prints the refusal as a line, and a line on `err` that says why, for
 /// people. There is also a line on `err` where the system runs fewer workers at once than the file says, and where the
 /// listener accepts no more connections.
-#[tactic(auto, using(crate::proofs::Silence::quiet_kept))]
+#[tactic(auto, using(server_lines::proofs::Silence::quiet_kept))]
 pub fn serve_file<R, O: Write, E: Write, C: Clock + Copy + Send>(
     rt: &R,
     alloc: Global,
@@ -361,28 +227,8 @@ fn read<R: Files>(rt: &R, alloc: Global, path: &str) -> io::Result<Vec<u8>> {
     Ok(text)
 }
 
-/// Prints that a file can't be read, and then why on `err`.
-#[tactic(auto, using(crate::proofs::Silence::quiet_kept))]
-fn refuse_path<O: Write, E: Write>(
-    alloc: Global,
-    path: &str,
-    error: &io::Error,
-    out: &mut Counted<O>,
-    err: &mut Counted<E>,
-) -> ServerStatus
-    ensures refused { IsRefused result BadConfig (O.contents out.old.inner) (O.contents out.new.inner) }
-    ensures quiet { IsQuiet result (E.contents err.old.inner) (E.contents err.new.inner) }
-    ensures cause { IsServerCause result out.old.failures out.new.failures }
-{
-    let status = refuse(alloc, RefusalNumber::BadConfig, out);
-    if let ServerStatus::Refused(_) = status {
-        notify_error(alloc, path, error, err);
-    }
-    status
-}
-
 /// Serves as the file at a path says. One that can't be read is refused as one that can't be used.
-#[tactic(auto, using(crate::proofs::Silence::quiet_kept))]
+#[tactic(auto, using(server_lines::proofs::Silence::quiet_kept))]
 pub fn serve_path<R, O: Write, E: Write, C: Clock + Copy + Send>(
     rt: &R,
     alloc: Global,
@@ -416,6 +262,9 @@ where
         Err(error) if error.kind() == ErrorKind::OutOfMemory => {
             ServerEnd::without(alloc, ServerStatus::OutOfMemory)
         }
-        Err(error) => ServerEnd::without(alloc, refuse_path(alloc, path, &error, out, err)),
+        Err(error) => {
+            let number = RefusalNumber::BadConfig;
+            ServerEnd::without(alloc, refuse_for(alloc, number, path, &error, out, err))
+        }
     }
 }

@@ -1,7 +1,8 @@
 use Rattle.std.proofs.Common.{◌∙◌, Some, None, sym, subst}
 use Rattle.service_file.specs.Settled.{IsRead}
 use Rattle.refusals.specs.declared.RefusalNumber.TheVariants.{BadConfig}
-use Rattle.sidecar_server.specs.Server.{IsUsable, IsFileRefused, IsCutShort}
+use Rattle.server_lines.specs.Lines.{IsCutShort}
+use Rattle.sidecar_server.specs.Server.{IsUsable, IsFileRefused}
 use Rattle.sidecar_server.proofs.Cutting.{ended_short, refused_file, refused_short}
 use Rattle.sidecar_server.proofs.Endings.{served_listens}
 use Rattle.sidecar_server.proofs.serving.serve_file.Goals as goal

@@ -1,7 +1,8 @@
 use Rattle.std.proofs.Common.{sym, subst}
 use Rattle.std.specs.Bool.{⊤}
 use Rattle.refusals.specs.declared.RefusalNumber.TheVariants.{BadConfig}
-use Rattle.sidecar_server.specs.Server.{IsServerRefusal, IsCutShort}
+use Rattle.server_lines.specs.Lines.{IsCutShort}
+use Rattle.sidecar_server.specs.Server.{IsServerRefusal}
 use Rattle.sidecar_server.proofs.Cutting.{is_server_refusal, refused_short}
 use Rattle.sidecar_server.proofs.serving.serve_path.Goals as goal
 
@@ -11,5 +12,5 @@ returns-in-Ok-clause-refused g c =
 
 pub returns-in-Err-2-clause-part : goal.returns-in-Err-2-clause-part
 returns-in-Err-2-clause-part g c =
-    subst (λ s. IsCutShort ⊤ IsServerRefusal s (g.O.Write.contents c.args.out.now.inner) (g.O.Write.contents c.refuse_path.new.out.inner)) (sym c.without-in-Err-2.ensures)
-    (refused_short ⊤ IsServerRefusal c.refuse_path.result BadConfig _ _ tt c.refuse_path.ensures.refused)
+    subst (λ s. IsCutShort ⊤ IsServerRefusal s (g.O.Write.contents c.args.out.now.inner) (g.O.Write.contents c.refuse_for.new.out.inner)) (sym c.without-in-Err-2.ensures)
+    (refused_short ⊤ IsServerRefusal c.refuse_for.result BadConfig _ _ tt c.refuse_for.ensures.refused)

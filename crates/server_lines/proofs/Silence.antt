@@ -1,9 +1,9 @@
 -- What is written on standard error where a server is quiet.
 use Rattle.std.proofs.Common.{◌≡◌, refl, sym, subst, ℕ, List, Option, Result, Ok, Err, inl}
 use Rattle.std.specs.Result.{IsErrAnd}
-use Rattle.sidecar_server.specs.declared.serving.ServerStatus.{ServerStatus}
-use Rattle.sidecar_server.specs.declared.serving.ServerStatus.TheVariants as status
-use Rattle.sidecar_server.specs.Server.{IsNotice, IsQuiet, status_of}
+use Rattle.server_lines.specs.declared.status.ServerStatus.{ServerStatus}
+use Rattle.server_lines.specs.declared.status.ServerStatus.TheVariants as status
+use Rattle.server_lines.specs.Lines.{IsNotice, IsQuiet, status_of}
 
 -- where nothing is written, there is nothing to say
 pub quiet_kept : (s : ServerStatus) (v : Option (List ℕ)) → IsQuiet s v v
