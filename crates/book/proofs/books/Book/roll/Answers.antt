@@ -1,4 +1,4 @@
-use Rattle.std.proofs.Common.{◌≡◌, ◌+◌, ◌≤◌, min, length, List, arith, ap, sym, ◌∙◌, Ok, Err, refl, subst}
+use Rattle.std.proofs.Common.{◌≡◌, ◌+◌, ◌≤◌, min, length, List, arith, ap, sym, ◌∙◌, Ok, Err, refl, subst, rules}
 use Rattle.std.proofs.lemmas.List.{length-take-le}
 use Rattle.refusals.specs.declared.RefusalNumber.TheVariants as refusal
 use Rattle.service_profile.specs.Answers.{is_worn_out, IsRolled, held_lines}
@@ -75,3 +75,6 @@ returns-in-Err-clause-rolled c =
     let same : after ≡ before = ap (λ (ls : List EntryData). journal (opening_of c.self.inside.service.config c.self.inside.start) (all_lines c.self.inside.handed.items ls) (rolled_of c.self.inside.rolled c.self.inside.service c.self.inside.start)) kept in
     subst (λ (h : History). IsRolled h c.args.last (Err refusal.ServiceOutOfMemory) after) c.self.view_is
     (no_room_there before after c.args.last c.min-count.result c.self.inside.entries.items fresh counted held c.in-Err.ensures.some same)
+
+pub returns-then-is_worn_out-clause-rolled : goal.returns-then-is_worn_out-clause-rolled
+returns-then-is_worn_out-clause-rolled c = search rules

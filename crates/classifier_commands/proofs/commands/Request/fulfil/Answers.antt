@@ -1,4 +1,4 @@
-use Rattle.std.proofs.Common.{refl}
+use Rattle.std.proofs.Common.{refl, rules}
 use Rattle.std.proofs.lemmas.Result.{IfOk-weaker}
 use Rattle.classifier_commands.specs.declared.commands.Request.TheVariants as request
 use Rattle.classifier_commands.proofs.Cuts.{cut_weaker, done_in_part}
@@ -29,3 +29,9 @@ returns-in-Disassemble-clause-part g c =
     cut_weaker c.disassemble_program.result _ _
     (λ part. done_in_part c.args.self.now (request.Disassemble c.in-Disassemble.program) _ _ _ c.in-Disassemble.is part)
     c.disassemble_program.ensures.part
+
+pub returns-in-Verify-clause-cause : goal.returns-in-Verify-clause-cause
+returns-in-Verify-clause-cause g c = search rules
+
+pub returns-in-Verify-clause-unread : goal.returns-in-Verify-clause-unread
+returns-in-Verify-clause-unread g c = search rules
