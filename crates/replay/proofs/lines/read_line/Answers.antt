@@ -44,3 +44,18 @@ bytes-preserved g c =
       ends = search rules;
       plain = ap has_feed pushed ∙ feed_of c.bytes.line.items c.in-Some.byte ∙ ne_eqb c.in-Some.byte 10 c.if-byte-eq10.false;
     }
+
+pub returns-in_default-clause-cause : goal.returns-in_default-clause-cause
+returns-in_default-clause-cause g c = search rules
+
+pub returns-in_default-clause-ends : goal.returns-in_default-clause-ends
+returns-in_default-clause-ends g c = search rules
+
+pub returns-in_default-clause-last : goal.returns-in_default-clause-last
+returns-in_default-clause-last g c = search rules
+
+pub returns-in_default-clause-none : goal.returns-in_default-clause-none
+returns-in_default-clause-none g c = search rules
+
+pub returns-in_default-clause-taken : goal.returns-in_default-clause-taken
+returns-in_default-clause-taken g c = search rules

@@ -1,4 +1,4 @@
-use Rattle.std.proofs.Common.{refl}
+use Rattle.std.proofs.Common.{refl, rules}
 use Rattle.std.proofs.lemmas.Result.{IfOk-weaker}
 use Rattle.replay.specs.declared.ReplayEnded.TheVariants as ended
 use Rattle.replay.specs.Replaying.{IsReplayed}
@@ -22,3 +22,9 @@ pub returns-clause-part : goal.returns-clause-part
 returns-clause-part g c =
     let replayed : IsReplayed (g.R.Read.remaining c.args.reader.now.inner) ended.BadConfig (g.O.Write.contents c.args.out.now.inner) (g.O.Write.contents c.replay_with.new.out.inner) = rw c.in-BadConfig.is at c.in_ok-replay_with.ensures.replayed in
     refused_is_cut c.refuse_line.result (λ w. g.O.Write.contents w.inner) _ _ c.replay_with.new.out _ replayed c.in_ok-replay_with.ensures.part c.refuse_line.ensures.part
+
+pub returns-in-Done-clause-explained : goal.returns-in-Done-clause-explained
+returns-in-Done-clause-explained g c = search rules
+
+pub returns-in-Done-clause-quiet : goal.returns-in-Done-clause-quiet
+returns-in-Done-clause-quiet g c = search rules
