@@ -24,9 +24,3 @@ returns-in-Err-clause-part g c =
 
 pub returns-then-not-is_replay-clause-unread : goal.returns-then-not-is_replay-clause-unread
 returns-then-not-is_replay-clause-unread g c = λ unasked. c.command.ensures.unread (λ asked. unasked (inl asked))
-
-pub returns-in-Err-clause-cause : goal.returns-in-Err-clause-cause
-returns-in-Err-clause-cause g c = search rules
-
-pub returns-in-Err-clause-unnamed : goal.returns-in-Err-clause-unnamed
-returns-in-Err-clause-unnamed g c = search rules
