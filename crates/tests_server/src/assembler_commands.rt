@@ -1,8 +1,8 @@
 //! Assembler text to hexadecimal, and back.
 use crate::commands::{are_wrong, ends};
+use crate::fixtures::joined;
 use std::alloc::Global;
 use std::process::Abort;
-use std::test::Fail;
 
 const CLASSIFIER: &str = "6112000000000000550204000000000061120400000000003502\
 0200f4010000b7000000000000009500000000000000b7000000010000009500000000000000";
@@ -40,9 +40,8 @@ fn are_refused(rt: &impl Abort, alloc: Global, rows: &[(&[u8], &str)]) {
 }
 
 #[test]
-fn text_is_assembled(rt: HostRuntime) -> Result<(), Fail> {
-    let mut line = String::from_str(rt.alloc(), CLASSIFIER)?;
-    line.push('\n')?;
+fn text_is_assembled(rt: HostRuntime) {
+    let line = joined(&rt, rt.alloc(), &[CLASSIFIER, "\n"]);
     ends(&rt, rt.alloc(), &["asm"], LINES.as_bytes(), 0, &line);
     are_refused(
         &rt,
@@ -52,7 +51,6 @@ fn text_is_assembled(rt: HostRuntime) -> Result<(), Fail> {
             (b"", "refused 44 BadLength line 0\n"),
         ],
     );
-    Ok(())
 }
 
 #[test]

@@ -3,11 +3,10 @@ use crate::checks::{is_printed, same_at};
 use classifier_commands::CommandError;
 use counted_io::Counted;
 use sidecar_commands::Status;
-use std::alloc::Global;
+use std::alloc::{AllocError, Global};
 use std::io;
 use std::io::{Read, Write};
 use std::process::Abort;
-use std::test::Fail;
 
 const FAILURE: &str = "b7000000010000009500000000000000";
 
@@ -169,16 +168,21 @@ fn events_are_replayed(rt: HostRuntime) {
 }
 
 #[test]
-fn long_input_is_refused(rt: HostRuntime) -> Result<(), Fail> {
+fn long_input_is_refused(rt: HostRuntime) {
     let alloc = rt.alloc();
-    let program: String<Global> = "95".chars().cycle().take(1 << 20).collect(alloc)?;
+    let program: Result<String<Global>, AllocError> = "95"
+        .chars()
+        .cycle()
+        .take(1 << 20)
+        .collect(alloc);
+    let program = program.expect(&rt, "ample memory");
     let refused = "refused 1 Length slot 0\n";
     let why = "the program has 524288 bytes\nrule: a program has 1 to 4096 slots of eight bytes\n";
     ends_telling(&rt, alloc, &["verify", &program], b"", (1, refused, why));
-    let blanks = vec![in alloc; b' '; 10_000_000]?;
+    let blanks = vec![in alloc; b' '; 10_000_000];
+    let blanks = blanks.expect(&rt, "ample memory");
     let refused = "refused 58 BadJson\n";
     ends(&rt, alloc, &["judge", FAILURE], &blanks, 1, refused);
-    Ok(())
 }
 
 /// A command with a program ends so, whose input can't be read.

@@ -7,11 +7,10 @@ use crate::fixtures::{
 use book::Reading;
 use counted_io::Counted;
 use http_front::{Books, Ended, serve};
-use std::alloc::{AllocError, Global};
+use std::alloc::Global;
 use std::io::Read;
 use std::process::Abort;
 use std::sync::Wait;
-use std::test::Fail;
 
 /// An input of one or two messages, with the answers.
 #[derive(Drop)]
@@ -26,38 +25,51 @@ struct Conversation {
 
 impl Conversation {
     fn new(
+        rt: &impl Abort,
         alloc: Global,
         messages: &[&[u8]],
         answers: &[&str],
         version: u64,
-    ) -> Result<Conversation, AllocError> {
+    ) -> Conversation {
         let mut input = Vec::new(alloc);
         for message in messages {
-            input.extend_from_slice(message)?;
+            let added = input.extend_from_slice(message);
+            added.expect(rt, "ample memory");
         }
         let mut text = Vec::new(alloc);
         for answer in answers {
-            text.extend_from_slice(answer.as_bytes())?;
+            let added = text.extend_from_slice(answer.as_bytes());
+            added.expect(rt, "ample memory");
         }
         let message = messages.first().map_or(0, |first| first.len());
         let answer = answers.first().map_or(0, |first| first.len());
-        Ok(Conversation {
+        Conversation {
             input,
             text,
             first: (message, answer),
             version,
-        })
+        }
     }
 }
 
 /// A ticket; a program; and a ticket with the journal behind it. Each makes one entry.
-fn conversations(alloc: Global) -> Result<Vec<Conversation>, AllocError> {
+fn conversations(rt: &impl Abort, alloc: Global) -> Vec<Conversation> {
+    let rows: &[(&[&[u8]], &[&str], u64)] = &[
+        (&[ACQUIRE.as_bytes()], &[ACQUIRED], 1),
+        (&[INSTALL], &[INSTALLED], 2),
+        (
+            &[ACQUIRE.as_bytes(), JOURNAL.as_bytes()],
+            &[ACQUIRED, ONE_ENTRY],
+            1,
+        ),
+    ];
     let mut all = Vec::new(alloc);
-    all.push(Conversation::new(alloc, &[ACQUIRE.as_bytes()], &[ACQUIRED], 1)?)?;
-    all.push(Conversation::new(alloc, &[INSTALL], &[INSTALLED], 2)?)?;
-    let messages = [ACQUIRE.as_bytes(), JOURNAL.as_bytes()];
-    all.push(Conversation::new(alloc, &messages, &[ACQUIRED, ONE_ENTRY], 1)?)?;
-    Ok(all)
+    for row in rows {
+        let (messages, answers, version) = *row;
+        let added = all.push(Conversation::new(rt, alloc, messages, answers, version));
+        added.expect(rt, "ample memory");
+    }
+    all
 }
 
 /// What an input leaves behind: what is written, how serving ends, how many reads and writes failed, and
@@ -116,11 +128,10 @@ fn are_cut(rt: &(impl Wait + Abort), alloc: Global, said: &Conversation) {
 }
 
 #[test]
-fn cuts_of_the_input_change_nothing(rt: HostRuntime) -> Result<(), Fail> {
-    for said in &conversations(rt.alloc())? {
+fn cuts_of_the_input_change_nothing(rt: HostRuntime) {
+    for said in &conversations(&rt, rt.alloc()) {
         are_cut(&rt, rt.alloc(), said);
     }
-    Ok(())
 }
 
 /// How the first service stands.
@@ -226,11 +237,10 @@ fn reads_fail(rt: &(impl Wait + Abort), alloc: Global, said: &Conversation) {
 }
 
 #[test]
-fn failed_reads_leave_the_whole_messages(rt: HostRuntime) -> Result<(), Fail> {
-    for said in &conversations(rt.alloc())? {
+fn failed_reads_leave_the_whole_messages(rt: HostRuntime) {
+    for said in &conversations(&rt, rt.alloc()) {
         reads_fail(&rt, rt.alloc(), said);
     }
-    Ok(())
 }
 
 /// A byte a write: what is asked is done, and the text is cut.
@@ -266,17 +276,15 @@ fn writes_fail(rt: &(impl Wait + Abort), alloc: Global, said: &Conversation) {
 }
 
 #[test]
-fn failed_writes_leave_a_beginning(rt: HostRuntime) -> Result<(), Fail> {
-    for said in &conversations(rt.alloc())? {
+fn failed_writes_leave_a_beginning(rt: HostRuntime) {
+    for said in &conversations(&rt, rt.alloc()) {
         writes_fail(&rt, rt.alloc(), said);
     }
-    Ok(())
 }
 
 #[test]
-fn writes_that_take_nothing_fail(rt: HostRuntime) -> Result<(), Fail> {
-    for said in &conversations(rt.alloc())? {
+fn writes_that_take_nothing_fail(rt: HostRuntime) {
+    for said in &conversations(&rt, rt.alloc()) {
         fails(&rt, rt.alloc(), said, 0, (u64::MAX, u64::MAX), UNWRITTEN);
     }
-    Ok(())
 }

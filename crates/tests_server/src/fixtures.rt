@@ -8,7 +8,7 @@ use book::{Book, Config, ConfigParts};
 use counted_io::Counted;
 use desk::{Desk, Offered};
 use http_front::{Books, Clock, Ended, NamedBook, serve};
-use std::alloc::{AllocError, Global};
+use std::alloc::Global;
 use std::io;
 use std::io::{Read, Write};
 use std::net::TcpStream;
@@ -65,10 +65,7 @@ pub(crate) fn pay_with(rt: &impl Abort, alloc: Global, parts: ConfigParts) -> Bo
 }
 
 /// A service of the defaults, as a desk opens it.
-pub(crate) fn pay_to_open(
-    rt: &impl Abort,
-    alloc: Global,
-) -> Result<Vec<(String, Config, Verified)>, AllocError> {
+pub(crate) fn pay_to_open(rt: &impl Abort, alloc: Global) -> Vec<(String, Config, Verified)> {
     pay_to_open_with(rt, alloc, ConfigParts::DEFAULT)
 }
 
@@ -77,12 +74,15 @@ pub(crate) fn pay_to_open_with(
     rt: &impl Abort,
     alloc: Global,
     parts: ConfigParts,
-) -> Result<Vec<(String, Config, Verified)>, AllocError> {
+) -> Vec<(String, Config, Verified)> {
     let config = Config::new(parts).expect(rt, "each part in its range");
     let classifier = default_classifier(alloc).expect(rt, "the default classifier");
+    let name = String::from_str(alloc, "pay").expect(rt, "ample memory");
     let mut services = Vec::new(alloc);
-    services.push((String::from_str(alloc, "pay")?, config, classifier))?;
-    Ok(services)
+    services
+        .push((name, config, classifier))
+        .expect(rt, "ample memory");
+    services
 }
 
 /// A new desk with these services.
@@ -92,7 +92,7 @@ pub(crate) fn open_desk<L: Ledger, M: Ledger + Offered, R: Abort>(
     entries: Blank,
     cuts: Blank,
     services: Vec<(String, Config, Verified)>,
-) -> Result<Desk<L, M>, AllocError>
+) -> Desk<L, M>
     requires entries_name { entries.name ≡ L.name }
     requires entries_parts { (entries.parts ≡ L.parts) × (L.parts ≡ 193) }
     requires cuts_name { cuts.name ≡ M.name }
@@ -100,7 +100,7 @@ pub(crate) fn open_desk<L: Ledger, M: Ledger + Offered, R: Abort>(
     requires offered { M.services ≡ map service_of services.items }
 {
     assert!(rt; services.len() <= 64);
-    Desk::<L, M>::open(alloc, entries, cuts, services)
+    Desk::<L, M>::open(alloc, entries, cuts, services).expect(rt, "ample memory")
 }
 
 /// How many entries the journal of the first service has.

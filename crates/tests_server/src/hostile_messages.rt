@@ -5,7 +5,7 @@ use crate::fixtures::{
     makes_entries, pay, version,
 };
 use http_front::Ended;
-use std::alloc::{AllocError, Global};
+use std::alloc::Global;
 use std::process::Abort;
 use std::sync::Wait;
 
@@ -26,18 +26,18 @@ const BODY_TOO_LARGE: &str =
     "HTTP/1.1 413 Payload Too Large\r\nContent-Type: application/json\r\nContent-Length: 34\r\nConnection: close\r\n\r\n{\"error\":53,\"name\":\"BodyTooLarge\"}";
 
 /// A call for a ticket whose head has this many bytes and this many fields.
-fn long_head(alloc: Global, size: usize, fields: usize) -> Result<String, AllocError> {
-    let mut text = String::new(alloc);
-    text.push_str("POST /v1/services/pay/acquire HTTP/1.1\r\n")?;
+fn long_head(rt: &impl Abort, alloc: Global, size: usize, fields: usize) -> String {
+    let begin = "POST /v1/services/pay/acquire HTTP/1.1\r\n";
+    let mut text = joined(rt, alloc, &[begin]);
     for _ in 1..fields {
-        text.push_str("a:b\r\n")?;
+        text.push_str("a:b\r\n").expect(rt, "ample memory");
     }
-    text.push_str("c:")?;
+    text.push_str("c:").expect(rt, "ample memory");
     for _ in 0..size.saturating_sub(text.len().saturating_add(4)) {
-        text.push('d')?;
+        text.push('d').expect(rt, "ample memory");
     }
-    text.push_str("\r\n\r\n")?;
-    Ok(text)
+    text.push_str("\r\n\r\n").expect(rt, "ample memory");
+    text
 }
 
 /// How many entries a call makes: one, where its connection stays open.
@@ -55,7 +55,7 @@ type Long<'a> = (usize, usize, &'a str, Ended);
 fn have_limits(rt: &(impl Wait + Abort), alloc: Global, rows: &[Long<'_>]) {
     for row in rows {
         let (size, fields, text, end) = *row;
-        let head = long_head(alloc, size, fields).expect(rt, "ample memory");
+        let head = long_head(rt, alloc, size, fields);
         makes_entries(rt, alloc, head.as_bytes(), text, end, entry_count(end));
     }
 }
@@ -111,17 +111,19 @@ fn lengths_at_the_limits(rt: HostRuntime) {
 }
 
 /// A program of this many slots: each but the last moves 2 to R0, and the last exits.
-fn put_program(alloc: Global, slots: usize) -> Result<Vec<u8>, AllocError> {
+fn put_program(rt: &impl Abort, alloc: Global, slots: usize) -> Vec<u8> {
     let size = slots.saturating_mul(8);
     let head = format!(in alloc;
         "PUT /v1/services/pay/program HTTP/1.1\r\nContent-Length: {size}\r\n\r\n"
-    )?;
-    let mut input = Vec::from_slice(alloc, head.as_bytes())?;
+    );
+    let mut input = head.expect(rt, "ample memory").into_bytes();
     for _ in 1..slots {
-        input.extend_from_slice(b"\xb7\x00\x00\x00\x02\x00\x00\x00")?;
+        let added = input.extend_from_slice(b"\xb7\x00\x00\x00\x02\x00\x00\x00");
+        added.expect(rt, "ample memory");
     }
-    input.extend_from_slice(b"\x95\x00\x00\x00\x00\x00\x00\x00")?;
-    Ok(input)
+    let added = input.extend_from_slice(b"\x95\x00\x00\x00\x00\x00\x00\x00");
+    added.expect(rt, "ample memory");
+    input
 }
 
 /// Programs of so many slots, with the answer, and the version of new tickets then.
@@ -129,7 +131,7 @@ fn are_installed(rt: &(impl Wait + Abort), alloc: Global, rows: &[(usize, &str, 
     for row in rows {
         let (slots, text, version_after) = *row;
         let mut books = pay(rt, alloc);
-        let input = put_program(alloc, slots).expect(rt, "ample memory");
+        let input = put_program(rt, alloc, slots);
         is_answered(rt, alloc, &mut books, &input, text, Ended::Closed);
         same_at(rt, version(&books), version_after, slots);
     }

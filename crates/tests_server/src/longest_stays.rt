@@ -18,7 +18,6 @@ use std::marker::Brand;
 use std::process::Abort;
 use std::sync::Wait;
 use std::sync::ledger::{Blank, Ledger};
-use std::test::Fail;
 use verifier::Verified;
 
 /// Two calls in HALF_OPEN, which lasts half a second at most, and a wait in OPEN of a second.
@@ -378,28 +377,27 @@ fn are_answered_at_a_desk<L: Ledger, M: Ledger + Offered, R: Wait + Abort>(
     entries: Blank,
     cuts: Blank,
     services: Vec<(String, Config, Verified)>,
-) -> Result<(), Fail>
+)
     requires entries_name { entries.name ≡ L.name }
     requires entries_parts { (entries.parts ≡ L.parts) × (L.parts ≡ 193) }
     requires cuts_name { cuts.name ≡ M.name }
     requires cuts_parts { (cuts.parts ≡ M.parts) × (M.parts ≡ 193) }
     requires offered { M.services ≡ map service_of services.items }
 {
-    let mut desk = open_desk::<L, M, R>(rt, alloc, entries, cuts, services)?;
+    let mut desk = open_desk::<L, M, R>(rt, alloc, entries, cuts, services);
     let seat = desk.sit().expect(rt, "a seat");
     let mut answerer = SeatedAnswerer::new(rt, alloc, &desk, seat, &OpenGate);
     are_answered_over_http(rt, alloc, &mut answerer);
-    Ok(())
 }
 
 #[test]
-fn each_event_finds_the_longest_stay_over_by_a_seat(rt: HostRuntime) -> Result<(), Fail> {
-    let services = pay_to_open_with(&rt, rt.alloc(), half_a_second())?;
+fn each_event_finds_the_longest_stay_over_by_a_seat(rt: HostRuntime) {
+    let services = pay_to_open_with(&rt, rt.alloc(), half_a_second());
     are_answered_at_a_desk::<Brand, Brand, HostRuntime>(
         &rt,
         rt.alloc(),
         Blank::new(193),
         Blank::new(193),
         services,
-    )
+    );
 }

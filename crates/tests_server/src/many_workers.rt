@@ -11,7 +11,6 @@ use std::net::{IpAddr, Ipv4Addr, Net, SocketAddr, TcpListener, TcpStream};
 use std::process::Abort;
 use std::sync::Wait;
 use std::sync::atomic::{AtomicU64, Ordering};
-use std::test::Fail;
 use std::thread::Threads;
 use std::time::Duration;
 use std::{io, thread, time};
@@ -102,88 +101,98 @@ struct Answers {
 }
 
 /// Asks for a ticket over a connection that stays open.
-fn acquire(alloc: Global, stream: &TcpStream) -> io::Result<Vec<u8>> {
-    (&mut &*stream).write_all(ACQUIRE.as_bytes())?;
-    let mut answer = vec![in alloc; 0; ACQUIRED_LENGTH]?;
-    (&mut &*stream).read_exact(&mut answer)?;
-    Ok(answer)
+fn acquire(rt: &impl Abort, alloc: Global, stream: &TcpStream) -> Vec<u8> {
+    let sent = (&mut &*stream).write_all(ACQUIRE.as_bytes());
+    sent.expect(rt, "a message is sent");
+    let room = vec![in alloc; 0; ACQUIRED_LENGTH];
+    let mut answer = room.expect(rt, "ample memory");
+    let read = (&mut &*stream).read_exact(&mut answer);
+    read.expect(rt, "an answer");
+    answer
 }
 
 /// Asks for the journal, and ends the connection.
-fn journal(alloc: Global, stream: &TcpStream) -> io::Result<Vec<u8>> {
-    (&mut &*stream).write_all(JOURNAL.as_bytes())?;
+fn journal(rt: &impl Abort, alloc: Global, stream: &TcpStream) -> Vec<u8> {
+    let sent = (&mut &*stream).write_all(JOURNAL.as_bytes());
+    sent.expect(rt, "a message is sent");
     let mut answer = Vec::new(alloc);
-    (&mut &*stream).read_to_end(&mut answer)?;
-    Ok(answer)
+    let read = (&mut &*stream).read_to_end(&mut answer);
+    read.expect(rt, "an answer, to its end");
+    answer
 }
 
 /// A connection to an address, whose client waits ten seconds at most for each piece of an answer.
-fn connect<R>(rt: &R, address: SocketAddr) -> io::Result<TcpStream>
+fn connect<R>(rt: &R, address: SocketAddr) -> TcpStream
 where
-    R: Net<Listener = TcpListener, Stream = TcpStream>,
+    R: Abort + Net<Listener = TcpListener, Stream = TcpStream>,
 {
-    let stream = TcpStream::connect(rt, address)?;
-    stream.set_read_timeout(Some(Duration::from_secs(10)))?;
-    Ok(stream)
+    let stream = TcpStream::connect(rt, address).expect(rt, "a connection");
+    let set = stream.set_read_timeout(Some(Duration::from_secs(10)));
+    set.expect(rt, "a limit");
+    stream
 }
 
 /// Four connections, in the order in which they were made.
-fn connections<R>(rt: &R, alloc: Global, address: SocketAddr) -> io::Result<Vec<TcpStream>>
+fn connections<R>(rt: &R, alloc: Global, address: SocketAddr) -> Vec<TcpStream>
 where
-    R: Net<Listener = TcpListener, Stream = TcpStream>,
+    R: Abort + Net<Listener = TcpListener, Stream = TcpStream>,
 {
     let mut streams = Vec::new(alloc);
     for _ in 0..4 {
-        streams.push(connect(rt, address)?)?;
+        let pushed = streams.push(connect(rt, address));
+        pushed.expect(rt, "ample memory");
     }
-    Ok(streams)
+    streams
 }
 
 /// One connection more, whose client asks at once.
-fn one_too_many<R>(rt: &R, address: SocketAddr) -> io::Result<TcpStream>
+fn one_too_many<R>(rt: &R, address: SocketAddr) -> TcpStream
 where
-    R: Net<Listener = TcpListener, Stream = TcpStream>,
+    R: Abort + Net<Listener = TcpListener, Stream = TcpStream>,
 {
-    let stream = connect(rt, address)?;
-    (&mut &stream).write_all(ACQUIRE.as_bytes())?;
-    Ok(stream)
+    let stream = connect(rt, address);
+    let sent = (&mut &stream).write_all(ACQUIRE.as_bytes());
+    sent.expect(rt, "a message is sent");
+    stream
 }
 
 /// Asks for a ticket over each connection, over the last one first.
-fn acquire_over_all(alloc: Global, streams: &[TcpStream]) -> io::Result<Vec<Vec<u8>>> {
+fn acquire_over_all(rt: &impl Abort, alloc: Global, streams: &[TcpStream]) -> Vec<Vec<u8>> {
     let mut acquired = Vec::new(alloc);
     for stream in streams.iter().rev() {
-        acquired.push(acquire(alloc, stream)?)?;
+        let pushed = acquired.push(acquire(rt, alloc, stream));
+        pushed.expect(rt, "ample memory");
     }
-    Ok(acquired)
+    acquired
 }
 
 /// Five clients. The one too many connects last and asks first; of the others the one that connected last asks first.
-fn call<R>(rt: &R, alloc: Global, port: &AtomicU64) -> io::Result<Answers>
+fn call<R>(rt: &R, alloc: Global, port: &AtomicU64) -> Answers
 where
-    R: time::Clock + Net<Listener = TcpListener, Stream = TcpStream>,
+    R: Abort + time::Clock + Net<Listener = TcpListener, Stream = TcpStream>,
 {
-    let Some(address) = told(rt, port) else {
-        return Err(io::Error::from(io::ErrorKind::TimedOut));
-    };
-    let streams = connections(rt, alloc, address)?;
-    let further = one_too_many(rt, address)?;
-    let acquired = acquire_over_all(alloc, &streams)?;
-    let journal = match streams.first() {
-        Some(stream) => journal(alloc, stream)?,
-        None => Vec::new(alloc),
-    };
-    Ok(Answers {
+    let address = told(rt, port).expect(rt, "the address of a server");
+    let streams = connections(rt, alloc, address);
+    let further = one_too_many(rt, address);
+    let acquired = acquire_over_all(rt, alloc, &streams);
+    let first = streams.first().expect(rt, "a first connection");
+    let journal = journal(rt, alloc, first);
+    Answers {
         acquired,
         journal,
         further,
-    })
+    }
 }
 
 /// A server in a thread of its own, by a file, and its clients.
-fn serve_and_call<R>(rt: &R, alloc: Global, file: &str) -> (Ended, io::Result<Answers>)
+fn serve_and_call<R>(rt: &R, alloc: Global, file: &str) -> (Ended, Answers)
 where
-    R: Threads + Wait + Sync + time::Clock + Net<Listener = TcpListener, Stream = TcpStream>,
+    R: Abort
+        + Threads
+        + Wait
+        + Sync
+        + time::Clock
+        + Net<Listener = TcpListener, Stream = TcpStream>,
 {
     let told = AtomicU64::new(0);
     let port = &told;
@@ -222,7 +231,7 @@ fn have_seats(rt: &impl Abort, journal: &[u8], seats: &[&str]) {
 }
 
 /// Four workers serve at once by a file, each by a seat of its own.
-fn four_workers_serve<R>(rt: &R, alloc: Global, file: &str) -> Result<(), Fail>
+fn four_workers_serve<R>(rt: &R, alloc: Global, file: &str)
 where
     R: Abort
         + Threads
@@ -240,7 +249,7 @@ where
         acquired,
         journal,
         further,
-    } = answers?;
+    } = answers;
     are_in_order(rt, alloc, &acquired);
     have_seats(
         rt,
@@ -248,15 +257,14 @@ where
         &["\"seat\":1", "\"seat\":2", "\"seat\":3", "\"seat\":4"],
     );
     same(rt, is_unanswered(alloc, &further), true);
-    Ok(())
 }
 
 #[test]
-fn four_workers_serve_at_once(rt: HostRuntime) -> Result<(), Fail> {
-    four_workers_serve(&rt, rt.alloc(), LOCKS)
+fn four_workers_serve_at_once(rt: HostRuntime) {
+    four_workers_serve(&rt, rt.alloc(), LOCKS);
 }
 
 #[test]
-fn four_workers_serve_at_once_from_slots(rt: HostRuntime) -> Result<(), Fail> {
-    four_workers_serve(&rt, rt.alloc(), SLOTS)
+fn four_workers_serve_at_once_from_slots(rt: HostRuntime) {
+    four_workers_serve(&rt, rt.alloc(), SLOTS);
 }

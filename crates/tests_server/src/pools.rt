@@ -8,15 +8,14 @@ use http_front::{Books, Clock};
 use http_pool::{
     DEFAULT_OPEN, Limits, ListenerFailed, Worker, pool, serve_connections, threads_at_once,
 };
-use std::alloc::{AllocError, Global};
+use std::alloc::Global;
 use std::io::{Read, Write};
 use std::net::{Net, Shutdown, SocketAddr, TcpListener, TcpStream};
 use std::os::fd::OwnedFd;
 use std::process::Abort;
 use std::sync::Wait;
-use std::test::Fail;
 use std::thread::Threads;
-use std::{io, time};
+use std::time;
 
 /// Tells how often it was read.
 #[derive(Drop)]
@@ -34,57 +33,50 @@ impl Clock for Readings {
 }
 
 /// Workers with a service each, whose clocks were read 0, 100, 200 times and so on.
-fn workers(
-    rt: &impl Abort,
-    alloc: Global,
-    count: u64,
-) -> Result<Vec<Worker<Books, Readings>>, AllocError> {
+fn workers(rt: &impl Abort, alloc: Global, count: u64) -> Vec<Worker<Books, Readings>> {
     let mut workers = Vec::new(alloc);
     for number in 0..count {
         let times = number.saturating_mul(100);
-        workers.push(Worker::new(pay(rt, alloc), Readings { times }))?;
+        let worker = Worker::new(pay(rt, alloc), Readings { times });
+        workers.push(worker).expect(rt, "ample memory");
     }
-    Ok(workers)
+    workers
 }
 
 /// Connects to an address, asks, and sends no more.
-fn ask<R>(rt: &R, address: SocketAddr, input: &str) -> io::Result<TcpStream>
+fn ask<R>(rt: &R, address: SocketAddr, input: &str) -> TcpStream
 where
-    R: Net<Listener = TcpListener, Stream = TcpStream>,
+    R: Abort + Net<Listener = TcpListener, Stream = TcpStream>,
 {
-    let stream = TcpStream::connect(rt, address)?;
-    (&stream).write_all(input.as_bytes())?;
-    stream.shutdown(Shutdown::Write)?;
-    Ok(stream)
+    let stream = TcpStream::connect(rt, address).expect(rt, "a connection");
+    let sent = (&stream).write_all(input.as_bytes());
+    sent.expect(rt, "a message is sent");
+    let ended = stream.shutdown(Shutdown::Write);
+    ended.expect(rt, "a client ends its side");
+    stream
 }
 
 /// What the other side sent, to its end.
-fn answer(alloc: Global, stream: &TcpStream) -> io::Result<Vec<u8>> {
+fn answer(rt: &impl Abort, alloc: Global, stream: &TcpStream) -> Vec<u8> {
     let mut text = Vec::new(alloc);
-    (&mut &*stream).read_to_end(&mut text)?;
-    Ok(text)
+    let read = (&mut &*stream).read_to_end(&mut text);
+    read.expect(rt, "an answer, to its end");
+    text
 }
 
 /// The other side's answer begins so, and has this ending.
-fn is_answered(rt: &impl Abort, alloc: Global, stream: &TcpStream, ending: &str) -> io::Result<()> {
-    let text = answer(alloc, stream)?;
+fn is_answered(rt: &impl Abort, alloc: Global, stream: &TcpStream, ending: &str) {
+    let text = answer(rt, alloc, stream);
     let text = text.as_slice();
     is_true_at(rt, text.starts_with(b"HTTP/1.1 200 OK\r\n"), text);
     is_true_at(rt, text.ends_with(ending.as_bytes()), text);
-    Ok(())
 }
 
 /// The other side of each connection sent an answer that begins so, and has this ending.
-fn are_answered(
-    rt: &impl Abort,
-    alloc: Global,
-    streams: &[TcpStream],
-    ending: &str,
-) -> io::Result<()> {
+fn are_answered(rt: &impl Abort, alloc: Global, streams: &[TcpStream], ending: &str) {
     for stream in streams {
-        is_answered(rt, alloc, stream, ending)?;
+        is_answered(rt, alloc, stream, ending);
     }
-    Ok(())
 }
 
 /// Each message was answered once, at the clock of the worker that has its entry: so many in all.
@@ -101,20 +93,26 @@ fn have_answered(rt: &impl Abort, workers: &[Worker<Books, Readings>], wanted: u
 }
 
 /// So many connections, each of which asks.
-fn connect<R>(
-    rt: &R,
-    alloc: Global,
-    address: SocketAddr,
-    count: u64,
-) -> Result<Vec<TcpStream>, Fail>
+fn connect<R>(rt: &R, alloc: Global, address: SocketAddr, count: u64) -> Vec<TcpStream>
 where
-    R: Net<Listener = TcpListener, Stream = TcpStream>,
+    R: Abort + Net<Listener = TcpListener, Stream = TcpStream>,
 {
     let mut streams = Vec::new(alloc);
     for _ in 0..count {
-        streams.push(ask(rt, address, ACQUIRE)?)?;
+        let pushed = streams.push(ask(rt, address, ACQUIRE));
+        pushed.expect(rt, "ample memory");
     }
-    Ok(streams)
+    streams
+}
+
+/// A listener on a free port of the loopback address, and its address.
+fn listening<R>(rt: &R) -> (TcpListener, SocketAddr)
+where
+    R: Abort + Net<Listener = TcpListener, Stream = TcpStream>,
+{
+    let listener = TcpListener::bind(rt, "127.0.0.1:0").expect(rt, "a free port");
+    let address = listener.local_addr().expect(rt, "its address");
+    (listener, address)
 }
 
 /// How many workers met the failure of a listener that doesn't listen (EINVAL).
@@ -127,50 +125,49 @@ fn failures(workers: &[Worker<Books, Readings>]) -> usize {
 }
 
 /// A socket that doesn't listen, since it is an end of a connection, and its other end.
-fn deaf_listener<R>(rt: &R) -> io::Result<(TcpListener, TcpStream)>
+fn deaf_listener<R>(rt: &R) -> (TcpListener, TcpStream)
 where
-    R: Net<Listener = TcpListener, Stream = TcpStream>,
+    R: Abort + Net<Listener = TcpListener, Stream = TcpStream>,
 {
-    let listener = TcpListener::bind(rt, "127.0.0.1:0")?;
-    let one = TcpStream::connect(rt, listener.local_addr()?)?;
-    let (other, _) = listener.accept()?;
-    Ok((TcpListener::from(OwnedFd::from(one)), other))
+    let (listener, address) = listening(rt);
+    let one = TcpStream::connect(rt, address).expect(rt, "a connection");
+    let (other, _) = listener.accept().expect(rt, "its other end");
+    (TcpListener::from(OwnedFd::from(one)), other)
 }
 
 /// One connection is left to the listener, with all that its client sent, and no other.
-fn one_is_left(rt: &impl Abort, alloc: Global, listener: &TcpListener) -> io::Result<()> {
-    listener.set_nonblocking(true)?;
-    let (left, _) = listener.accept()?;
-    left.set_nonblocking(false)?;
-    same(rt, answer(alloc, &left)?.as_slice(), ACQUIRE.as_bytes());
+fn one_is_left(rt: &impl Abort, alloc: Global, listener: &TcpListener) {
+    let set = listener.set_nonblocking(true);
+    set.expect(rt, "a listener that doesn't wait");
+    let (left, _) = listener.accept().expect(rt, "a connection that is left");
+    let set = left.set_nonblocking(false);
+    set.expect(rt, "a connection that waits");
+    same(rt, answer(rt, alloc, &left).as_slice(), ACQUIRE.as_bytes());
     same(rt, listener.accept().is_err(), true);
-    Ok(())
 }
 
 #[test]
-fn workers_share_the_connections(rt: HostRuntime) -> Result<(), Fail> {
+fn workers_share_the_connections(rt: HostRuntime) {
     let rt = &rt;
     let alloc = rt.alloc();
-    let listener = TcpListener::bind(rt, "127.0.0.1:0")?;
-    let address = listener.local_addr()?;
-    let streams = connect(rt, alloc, address, 8)?;
+    let (listener, address) = listening(rt);
+    let streams = connect(rt, alloc, address, 8);
     // The pool is to serve eight: it ends, and the ninth is not answered.
-    let further = ask(rt, address, ACQUIRE)?;
-    let workers = workers(rt, alloc, 3)?;
+    let further = ask(rt, address, ACQUIRE);
+    let workers = workers(rt, alloc, 3);
     assert_eq!(rt; workers.len(), 3);
-    let workers = pool(rt, alloc, &listener, 8, workers)?;
+    let workers = pool(rt, alloc, &listener, 8, workers).expect(rt, "a pool");
     same(rt, workers.len(), 3);
     same(rt, failures(&workers), 0);
     have_answered(rt, &workers, 8);
-    are_answered(rt, alloc, &streams, "\"version\":1}")?;
-    one_is_left(rt, alloc, &listener)?;
-    same(rt, answer(alloc, &further)?.len(), 0);
-    Ok(())
+    are_answered(rt, alloc, &streams, "\"version\":1}");
+    one_is_left(rt, alloc, &listener);
+    same(rt, answer(rt, alloc, &further).len(), 0);
 }
 
 /// A pool of two workers, which is to serve so many connections. Each worker brings back the failure of the listener,
 /// and nothing was answered.
-fn a_pool_fails<R>(rt: &R, alloc: Global, connections: u64) -> Result<(), Fail>
+fn a_pool_fails<R>(rt: &R, alloc: Global, connections: u64)
 where
     R: Threads
         + Wait
@@ -179,30 +176,28 @@ where
         + time::Clock
         + Net<Listener = TcpListener, Stream = TcpStream>,
 {
-    let (listener, _other) = deaf_listener(rt)?;
-    let workers = workers(rt, alloc, 2)?;
+    let (listener, _other) = deaf_listener(rt);
+    let workers = workers(rt, alloc, 2);
     assert_eq!(rt; workers.len(), 2);
-    let workers = pool(rt, alloc, &listener, connections, workers)?;
+    let workers = pool(rt, alloc, &listener, connections, workers).expect(rt, "a pool");
     same(rt, workers.len(), 2);
     same(rt, failures(&workers), 2);
     have_answered(rt, &workers, 0);
-    Ok(())
 }
 
 #[test]
-fn a_pool_ends_where_the_listener_fails(rt: HostRuntime) -> Result<(), Fail> {
-    a_pool_fails(&rt, rt.alloc(), 0)?;
+fn a_pool_ends_where_the_listener_fails(rt: HostRuntime) {
+    a_pool_fails(&rt, rt.alloc(), 0);
     // Fewer connections were served than it was to serve.
-    a_pool_fails(&rt, rt.alloc(), 5)?;
-    Ok(())
+    a_pool_fails(&rt, rt.alloc(), 5);
 }
 
 /// Serves so many connections. It ends with the failure of the listener.
-fn serving_fails<R>(rt: &R, alloc: Global, connections: u64) -> Result<(), Fail>
+fn serving_fails<R>(rt: &R, alloc: Global, connections: u64)
 where
     R: Wait + Abort + time::Clock + Net<Listener = TcpListener, Stream = TcpStream>,
 {
-    let (listener, _other) = deaf_listener(rt)?;
+    let (listener, _other) = deaf_listener(rt);
     let mut books = pay(rt, alloc);
     let mut clock = Readings { times: 0 };
     let limits = Limits {
@@ -212,26 +207,23 @@ where
     let ended = serve_connections(rt, alloc, &listener, limits, &mut books, &mut clock);
     same(rt, ended, Err(ListenerFailed { code: 22 }));
     same(rt, (entries(&books), clock.times), (0, 0));
-    Ok(())
 }
 
 #[test]
-fn serving_ends_where_the_listener_fails(rt: HostRuntime) -> Result<(), Fail> {
-    serving_fails(&rt, rt.alloc(), 0)?;
-    serving_fails(&rt, rt.alloc(), 5)?;
-    Ok(())
+fn serving_ends_where_the_listener_fails(rt: HostRuntime) {
+    serving_fails(&rt, rt.alloc(), 0);
+    serving_fails(&rt, rt.alloc(), 5);
 }
 
 #[test]
-fn connections_are_served_by_one_worker(rt: HostRuntime) -> Result<(), Fail> {
+fn connections_are_served_by_one_worker(rt: HostRuntime) {
     let rt = &rt;
     let alloc = rt.alloc();
-    let listener = TcpListener::bind(rt, "127.0.0.1:0")?;
-    let address = listener.local_addr()?;
-    let first = ask(rt, address, ACQUIRE)?;
+    let (listener, address) = listening(rt);
+    let first = ask(rt, address, ACQUIRE);
     // A message that is cut short ends its connection alone.
-    let cut = ask(rt, address, "POST")?;
-    let last = ask(rt, address, ACQUIRE)?;
+    let cut = ask(rt, address, "POST");
+    let last = ask(rt, address, ACQUIRE);
     let mut books = pay(rt, alloc);
     let mut clock = Readings { times: 0 };
     let limits = Limits {
@@ -241,17 +233,15 @@ fn connections_are_served_by_one_worker(rt: HostRuntime) -> Result<(), Fail> {
     let ended = serve_connections(rt, alloc, &listener, limits, &mut books, &mut clock);
     same(rt, ended, Ok(()));
     same(rt, (entries(&books), clock.times), (2, 2));
-    same(rt, answer(alloc, &cut)?.len(), 0);
+    same(rt, answer(rt, alloc, &cut).len(), 0);
     let ending = "{\"state\":\"CLOSED\",\"ticket\":1,\"version\":1}";
-    is_answered(rt, alloc, &first, ending)?;
+    is_answered(rt, alloc, &first, ending);
     let ending = "{\"state\":\"CLOSED\",\"ticket\":2,\"version\":1}";
-    is_answered(rt, alloc, &last, ending)?;
-    Ok(())
+    is_answered(rt, alloc, &last, ending);
 }
 
 #[test]
-fn threads_run_at_once(rt: HostRuntime) -> Result<(), Fail> {
-    let running = threads_at_once(&rt, rt.alloc(), 8)?;
-    same(&rt, running, 8);
-    Ok(())
+fn threads_run_at_once(rt: HostRuntime) {
+    let running = threads_at_once(&rt, rt.alloc(), 8);
+    same(&rt, running.expect(&rt, "ample memory"), 8);
 }

@@ -10,11 +10,10 @@ use book::Reply;
 use http_pool::{Worker, pool};
 use http_slots::SlotAnswerer;
 use slot_desk::{Desk, Seat};
-use std::alloc::{AllocError, Global};
+use std::alloc::Global;
 use std::net::{Net, TcpListener, TcpStream};
 use std::process::Abort;
 use std::sync::Wait;
-use std::test::Fail;
 use std::thread::Threads;
 use std::time;
 
@@ -41,27 +40,25 @@ fn get_ticket<R: Wait + Abort>(rt: &R, desk: &Desk, seat: &mut Seat, number: u64
 }
 
 /// A worker for each of two seats, in their order.
-fn workers<'a, R: Wait>(
+fn workers<'a, R: Wait + Abort>(
     rt: &'a R,
     alloc: Global,
     desk: &'a Desk,
     first: Seat,
     second: Seat,
     gate: &'a OvertakingGate,
-) -> Result<Vec<Worker<SlotAnswerer<'a, OvertakingGate, R>, Readings<'a>>>, AllocError>
+) -> Vec<Worker<SlotAnswerer<'a, OvertakingGate, R>, Readings<'a>>>
     requires first { IsSeatOf desk.now first }
     requires second { IsSeatOf desk.now second }
 {
     let mut workers = Vec::new(alloc);
-    workers.push(Worker::new(
-        SlotAnswerer::new(rt, alloc, desk, first, gate),
-        Readings::new(gate),
-    ))?;
-    workers.push(Worker::new(
-        SlotAnswerer::new(rt, alloc, desk, second, gate),
-        Readings::new(gate),
-    ))?;
-    Ok(workers)
+    let first = SlotAnswerer::new(rt, alloc, desk, first, gate);
+    let pushed = workers.push(Worker::new(first, Readings::new(gate)));
+    pushed.expect(rt, "ample memory");
+    let second = SlotAnswerer::new(rt, alloc, desk, second, gate);
+    let pushed = workers.push(Worker::new(second, Readings::new(gate)));
+    pushed.expect(rt, "ample memory");
+    workers
 }
 
 /// Both reports were entered, in the order of their finishes.
@@ -85,7 +82,7 @@ fn serve_both<R>(
     first: Seat,
     second: Seat,
     gate: &OvertakingGate,
-) -> Result<(), Fail>
+)
 where
     R: Threads
         + Wait
@@ -96,16 +93,15 @@ where
     requires first { IsSeatOf desk.now first }
     requires second { IsSeatOf desk.now second }
 {
-    let workers = workers(rt, alloc, desk, first, second, gate)?;
+    let workers = workers(rt, alloc, desk, first, second, gate);
     assert_eq!(rt; workers.len(), 2);
-    let workers = pool(rt, alloc, listener, 2, workers)?;
+    let workers = pool(rt, alloc, listener, 2, workers).expect(rt, "a pool");
     same(rt, workers.len(), 2);
-    Ok(())
 }
 
 /// Lets two connections report to one service, whose workers have these seats. The one overtakes the other, and both are
 /// recorded.
-fn report_both<R>(rt: &R, alloc: Global, desk: &Desk, first: Seat, second: Seat) -> Result<(), Fail>
+fn report_both<R>(rt: &R, alloc: Global, desk: &Desk, first: Seat, second: Seat)
 where
     R: Threads
         + Wait
@@ -117,14 +113,14 @@ where
     requires second { IsSeatOf desk.now second }
 {
     let gate = OvertakingGate::new();
-    let (listener, held, overtaking) = connections(rt)?;
-    serve_both(rt, alloc, &listener, desk, first, second, &gate)?;
+    let (listener, held, overtaking) = connections(rt);
+    serve_both(rt, alloc, &listener, desk, first, second, &gate);
     is_true(rt, gate.overtaken.is_raised());
-    are_recorded(rt, alloc, &held, &overtaking)
+    are_recorded(rt, alloc, &held, &overtaking);
 }
 
 /// Two reports to one service are entered in the order of their finishes.
-fn two_workers_report<R>(rt: &R, alloc: Global, mut desk: Desk) -> Result<(), Fail>
+fn two_workers_report<R>(rt: &R, alloc: Global, mut desk: Desk)
 where
     R: Threads
         + Wait
@@ -138,15 +134,14 @@ where
     let second = seat_of(rt, alloc, &mut desk);
     get_ticket(rt, &desk, &mut caller, 1);
     get_ticket(rt, &desk, &mut caller, 2);
-    report_both(rt, alloc, &desk, first, second)?;
+    report_both(rt, alloc, &desk, first, second);
     are_in_order(rt, &desk, &mut caller);
-    Ok(())
 }
 
 #[test]
-fn a_held_report_is_overtaken_at_a_slot(rt: HostRuntime) -> Result<(), Fail> {
-    let services = pay_to_open(&rt, rt.alloc())?;
+fn a_held_report_is_overtaken_at_a_slot(rt: HostRuntime) {
+    let services = pay_to_open(&rt, rt.alloc());
     assert!(rt; services.len() <= 64);
-    let desk = Desk::open(rt.alloc(), services)?;
-    two_workers_report(&rt, rt.alloc(), desk)
+    let desk = Desk::open(rt.alloc(), services).expect(&rt, "ample memory");
+    two_workers_report(&rt, rt.alloc(), desk);
 }

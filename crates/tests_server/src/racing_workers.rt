@@ -10,7 +10,7 @@ use desk::{Desk, Gate, Offered, Seat};
 use http_desk::SeatedAnswerer;
 use http_front::Clock;
 use http_pool::{Worker, pool};
-use std::alloc::{AllocError, Global};
+use std::alloc::Global;
 use std::io::{Read, Write};
 use std::marker::Brand;
 use std::net::{Net, Shutdown, SocketAddr, TcpListener, TcpStream};
@@ -18,9 +18,8 @@ use std::process::Abort;
 use std::sync::Wait;
 use std::sync::atomic::{AtomicU64, Ordering};
 use std::sync::ledger::{Blank, Ledger};
-use std::test::Fail;
 use std::thread::Threads;
-use std::{io, thread, time};
+use std::{thread, time};
 use verifier::Verified;
 
 /// How often a thread looks whether another one is there yet.
@@ -119,37 +118,37 @@ impl<'a> Clock for Readings<'a> {
 }
 
 /// Connects to an address, asks, and sends no more.
-fn ask<R>(rt: &R, address: SocketAddr, input: &str) -> io::Result<TcpStream>
+fn ask<R>(rt: &R, address: SocketAddr, input: &str) -> TcpStream
 where
-    R: Net<Listener = TcpListener, Stream = TcpStream>,
+    R: Abort + Net<Listener = TcpListener, Stream = TcpStream>,
 {
-    let stream = TcpStream::connect(rt, address)?;
-    (&stream).write_all(input.as_bytes())?;
-    stream.shutdown(Shutdown::Write)?;
-    Ok(stream)
+    let stream = TcpStream::connect(rt, address).expect(rt, "a connection");
+    let sent = (&stream).write_all(input.as_bytes());
+    sent.expect(rt, "a message is sent");
+    let ended = stream.shutdown(Shutdown::Write);
+    ended.expect(rt, "a client ends its side");
+    stream
 }
 
 /// A listener, and the connections that report to it: that whose report is held, and that which overtakes it.
-pub(crate) fn connections<R>(rt: &R) -> io::Result<(TcpListener, TcpStream, TcpStream)>
+pub(crate) fn connections<R>(rt: &R) -> (TcpListener, TcpStream, TcpStream)
 where
-    R: Net<Listener = TcpListener, Stream = TcpStream>,
+    R: Abort + Net<Listener = TcpListener, Stream = TcpStream>,
 {
-    let listener = TcpListener::bind(rt, "127.0.0.1:0")?;
-    let address = listener.local_addr()?;
-    let held = ask(rt, address, FIRST_REPORT)?;
-    let overtaking = ask(rt, address, SECOND_REPORT)?;
-    Ok((listener, held, overtaking))
+    let listener = TcpListener::bind(rt, "127.0.0.1:0").expect(rt, "a free port");
+    let address = listener.local_addr().expect(rt, "its address");
+    let held = ask(rt, address, FIRST_REPORT);
+    let overtaking = ask(rt, address, SECOND_REPORT);
+    (listener, held, overtaking)
 }
 
 /// The other side sent, to its end, that a report was recorded.
-fn is_recorded(rt: &impl Abort, alloc: Global, stream: &TcpStream) -> Result<(), Fail> {
+fn is_recorded(rt: &impl Abort, alloc: Global, stream: &TcpStream) {
     let mut text = Vec::new(alloc);
-    (&mut &*stream).read_to_end(&mut text)?;
-    let Ok(text) = str::from_utf8(&text) else {
-        return Err(Fail::from("an answer is text"));
-    };
+    let read = (&mut &*stream).read_to_end(&mut text);
+    read.expect(rt, "an answer, to its end");
+    let text = str::from_utf8(&text).ok().expect(rt, "an answer is text");
     is_true_at(rt, text.contains("\"fate\":\"recorded\""), text);
-    Ok(())
 }
 
 /// Both reports were recorded.
@@ -158,9 +157,9 @@ pub(crate) fn are_recorded(
     alloc: Global,
     held: &TcpStream,
     overtaking: &TcpStream,
-) -> Result<(), Fail> {
-    is_recorded(rt, alloc, held)?;
-    is_recorded(rt, alloc, overtaking)
+) {
+    is_recorded(rt, alloc, held);
+    is_recorded(rt, alloc, overtaking);
 }
 
 /// A seat gets the ticket of this number.
@@ -180,23 +179,21 @@ fn get_ticket<L: Ledger, M: Ledger + Offered, R: Wait + Abort>(
 }
 
 /// A worker for each of two seats, in their order.
-fn workers<'a, L: Ledger, M: Ledger + Offered, R: Wait>(
+fn workers<'a, L: Ledger, M: Ledger + Offered, R: Wait + Abort>(
     rt: &'a R,
     alloc: Global,
     desk: &'a Desk<L, M>,
     seats: (Seat<L, M>, Seat<L, M>),
     gate: &'a OvertakingGate,
-) -> Result<Vec<Worker<SeatedAnswerer<'a, L, M, OvertakingGate, R>, Readings<'a>>>, AllocError> {
+) -> Vec<Worker<SeatedAnswerer<'a, L, M, OvertakingGate, R>, Readings<'a>>> {
     let mut workers = Vec::new(alloc);
-    workers.push(Worker::new(
-        SeatedAnswerer::new(rt, alloc, desk, seats.0, gate),
-        Readings::new(gate),
-    ))?;
-    workers.push(Worker::new(
-        SeatedAnswerer::new(rt, alloc, desk, seats.1, gate),
-        Readings::new(gate),
-    ))?;
-    Ok(workers)
+    let first = SeatedAnswerer::new(rt, alloc, desk, seats.0, gate);
+    let pushed = workers.push(Worker::new(first, Readings::new(gate)));
+    pushed.expect(rt, "ample memory");
+    let second = SeatedAnswerer::new(rt, alloc, desk, seats.1, gate);
+    let pushed = workers.push(Worker::new(second, Readings::new(gate)));
+    pushed.expect(rt, "ample memory");
+    workers
 }
 
 /// Whether an entry is the finish of a ticket.
@@ -238,12 +235,11 @@ fn serve_both<
     desk: &Desk<L, M>,
     seats: (Seat<L, M>, Seat<L, M>),
     gate: &OvertakingGate,
-) -> Result<(), Fail> {
-    let workers = workers(rt, alloc, desk, seats, gate)?;
+) {
+    let workers = workers(rt, alloc, desk, seats, gate);
     assert_eq!(rt; workers.len(), 2);
-    let workers = pool(rt, alloc, listener, 2, workers)?;
+    let workers = pool(rt, alloc, listener, 2, workers).expect(rt, "a pool");
     same(rt, workers.len(), 2);
-    Ok(())
 }
 
 /// Lets two connections report to one service, whose workers have these seats. The one overtakes the other, and both are
@@ -257,12 +253,12 @@ fn report_both<
         + Sync
         + Abort
         + Net<Listener = TcpListener, Stream = TcpStream>,
->(rt: &R, alloc: Global, desk: &Desk<L, M>, seats: (Seat<L, M>, Seat<L, M>)) -> Result<(), Fail> {
+>(rt: &R, alloc: Global, desk: &Desk<L, M>, seats: (Seat<L, M>, Seat<L, M>)) {
     let gate = OvertakingGate::new();
-    let (listener, held, overtaking) = connections(rt)?;
-    serve_both(rt, alloc, &listener, desk, seats, &gate)?;
+    let (listener, held, overtaking) = connections(rt);
+    serve_both(rt, alloc, &listener, desk, seats, &gate);
     is_true(rt, gate.overtaken.is_raised());
-    are_recorded(rt, alloc, &held, &overtaking)
+    are_recorded(rt, alloc, &held, &overtaking);
 }
 
 /// Two reports to one service are entered in the order of their finishes.
@@ -275,38 +271,31 @@ fn reports_of_two_workers<
         + Sync
         + Abort
         + Net<Listener = TcpListener, Stream = TcpStream>,
->(
-    rt: &R,
-    alloc: Global,
-    entries: Blank,
-    cuts: Blank,
-    services: Vec<(String, Config, Verified)>,
-) -> Result<(), Fail>
+>(rt: &R, alloc: Global, entries: Blank, cuts: Blank, services: Vec<(String, Config, Verified)>)
     requires entries_name { entries.name ≡ L.name }
     requires entries_parts { (entries.parts ≡ L.parts) × (L.parts ≡ 193) }
     requires cuts_name { cuts.name ≡ M.name }
     requires cuts_parts { (cuts.parts ≡ M.parts) × (M.parts ≡ 193) }
     requires offered { M.services ≡ map service_of services.items }
 {
-    let mut desk = open_desk::<L, M, R>(rt, alloc, entries, cuts, services)?;
+    let mut desk = open_desk::<L, M, R>(rt, alloc, entries, cuts, services);
     let mut caller = desk.sit().expect(rt, "a seat for the tickets");
     let first = desk.sit().expect(rt, "a first worker's seat");
     let second = desk.sit().expect(rt, "a second worker's seat");
     get_ticket(rt, &desk, &mut caller, 1);
     get_ticket(rt, &desk, &mut caller, 2);
-    report_both(rt, alloc, &desk, (first, second))?;
+    report_both(rt, alloc, &desk, (first, second));
     are_in_order(rt, &desk, &mut caller);
-    Ok(())
 }
 
 #[test]
-fn a_held_report_is_overtaken(rt: HostRuntime) -> Result<(), Fail> {
-    let services = pay_to_open(&rt, rt.alloc())?;
+fn a_held_report_is_overtaken(rt: HostRuntime) {
+    let services = pay_to_open(&rt, rt.alloc());
     reports_of_two_workers::<Brand, Brand, HostRuntime>(
         &rt,
         rt.alloc(),
         Blank::new(193),
         Blank::new(193),
         services,
-    )
+    );
 }

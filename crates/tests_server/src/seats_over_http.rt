@@ -15,7 +15,6 @@ use std::marker::Brand;
 use std::process::Abort;
 use std::sync::Wait;
 use std::sync::ledger::{Blank, Ledger};
-use std::test::Fail;
 use verifier::Verified;
 
 const ACQUIRE: &str = "POST /v1/services/pay/acquire HTTP/1.1\r\n\r\n";
@@ -82,14 +81,14 @@ fn asked_by_two<L: Ledger, M: Ledger + Offered, R: Wait + Abort>(
     entries: Blank,
     cuts: Blank,
     services: Vec<(String, Config, Verified)>,
-) -> Result<(), Fail>
+)
     requires entries_name { entries.name ≡ L.name }
     requires entries_parts { (entries.parts ≡ L.parts) × (L.parts ≡ 193) }
     requires cuts_name { cuts.name ≡ M.name }
     requires cuts_parts { (cuts.parts ≡ M.parts) × (M.parts ≡ 193) }
     requires offered { M.services ≡ map service_of services.items }
 {
-    let mut desk = open_desk::<L, M, R>(rt, alloc, entries, cuts, services)?;
+    let mut desk = open_desk::<L, M, R>(rt, alloc, entries, cuts, services);
     let first = desk.sit().expect(rt, "a first seat");
     let second = desk.sit().expect(rt, "a second seat");
     let gate = OpenGate;
@@ -98,17 +97,16 @@ fn asked_by_two<L: Ledger, M: Ledger + Offered, R: Wait + Abort>(
     ask_by_turns(rt, alloc, &mut first, &mut second);
     same(rt, first.into_seat().count(), 1);
     same(rt, second.into_seat().count(), 2);
-    Ok(())
 }
 
 #[test]
-fn seats_ask_over_http(rt: HostRuntime) -> Result<(), Fail> {
-    let services = pay_to_open(&rt, rt.alloc())?;
+fn seats_ask_over_http(rt: HostRuntime) {
+    let services = pay_to_open(&rt, rt.alloc());
     asked_by_two::<Brand, Brand, HostRuntime>(
         &rt,
         rt.alloc(),
         Blank::new(193),
         Blank::new(193),
         services,
-    )
+    );
 }

@@ -11,7 +11,6 @@ use std::io::{ErrorKind, Read, Write};
 use std::net::{Net, Shutdown, TcpListener, TcpStream};
 use std::process::Abort;
 use std::sync::Wait;
-use std::test::Fail;
 use std::thread::Threads;
 use std::{io, time};
 
@@ -89,23 +88,23 @@ impl<'a, R: Net<Listener = TcpListener, Stream = TcpStream>> Write for Caller<'a
 }
 
 /// What the other side sent, to its end.
-fn answer(alloc: Global, stream: &TcpStream) -> io::Result<Vec<u8>> {
+fn answer(rt: &impl Abort, alloc: Global, stream: &TcpStream) -> Vec<u8> {
     let mut text = Vec::new(alloc);
-    (&mut &*stream).read_to_end(&mut text)?;
-    Ok(text)
+    let read = (&mut &*stream).read_to_end(&mut text);
+    read.expect(rt, "an answer, to its end");
+    text
 }
 
 /// What four connections were answered: a ticket, nothing, and how the service stands. The fourth was one too many.
-fn are_answered(rt: &impl Abort, alloc: Global, streams: &[TcpStream]) -> io::Result<()> {
+fn are_answered(rt: &impl Abort, alloc: Global, streams: &[TcpStream]) {
     assert_eq!(rt; streams.len(), 4);
-    let acquired = answer(alloc, &streams[0])?;
+    let acquired = answer(rt, alloc, &streams[0]);
     same(rt, acquired.as_slice(), ACQUIRED.as_bytes());
     // A message that is cut short ends its connection alone.
-    same(rt, answer(alloc, &streams[1])?.len(), 0);
-    let state = answer(alloc, &streams[2])?;
+    same(rt, answer(rt, alloc, &streams[1]).len(), 0);
+    let state = answer(rt, alloc, &streams[2]);
     is_true_at(rt, state.ends_with(STANDING.as_bytes()), state.as_slice());
     same(rt, is_unanswered(alloc, &streams[3]), true);
-    Ok(())
 }
 
 /// The number of the last entry in a server's one journal.
@@ -117,7 +116,7 @@ fn last_number(end: &ServerEnd) -> u64 {
 }
 
 #[test]
-fn connections_are_served(rt: HostRuntime) -> Result<(), Fail> {
+fn connections_are_served(rt: HostRuntime) {
     let rt = &rt;
     let file =
         "{\"listen\":\"127.0.0.1:0\",\"workers\":1,\"connections\":3,\"services\":[{\"name\":\"pay\"}]}";
@@ -131,8 +130,7 @@ fn connections_are_served(rt: HostRuntime) -> Result<(), Fail> {
     // The book comes back as its three connections left it: without the ticket that the fourth asked for.
     same(rt, (last_number(&end), end.counts.len()), (1, 0));
     same(rt, (out.failures(), err.inner().len()), (0, 0));
-    are_answered(rt, alloc, &out.inner().streams)?;
-    Ok(())
+    are_answered(rt, alloc, &out.inner().streams);
 }
 
 /// A server whose line can't be flushed says so, and serves nobody: the client that has asked is not answered.
@@ -215,24 +213,25 @@ where
 }
 
 #[test]
-fn busy_addresses_are_refused(rt: HostRuntime) -> Result<(), Fail> {
+fn busy_addresses_are_refused(rt: HostRuntime) {
     let rt = &rt;
-    let listener = TcpListener::bind(rt, "127.0.0.1:0")?;
-    let port = listener.local_addr()?.port();
+    let listener = TcpListener::bind(rt, "127.0.0.1:0").expect(rt, "a free port");
+    let port = listener.local_addr().expect(rt, "its address").port();
     let file = format!(in rt.alloc();
         "{{\"listen\":\"127.0.0.1:{port}\",\"workers\":1,\"connections\":1,\"services\":[{{\"name\":\"pay\"}}]}}"
-    )?;
+    );
+    let file = file.expect(rt, "ample memory");
     let (status, text, why) = refused(rt, rt.alloc(), &file);
     let listen = ServerStatus::Refused(RefusalNumber::Listen);
     same(rt, (status, status.code()), (listen, 1));
     same(rt, text.as_slice(), b"refused 48 Listen\n".as_slice());
-    let told = format!(in rt.alloc(); "127.0.0.1:{port}: Address already in use (os error 98)\n")?;
+    let told = format!(in rt.alloc(); "127.0.0.1:{port}: Address already in use (os error 98)\n");
+    let told = told.expect(rt, "ample memory");
     same(rt, why.as_slice(), told.as_bytes());
-    Ok(())
 }
 
 #[test]
-fn files_that_cannot_be_used_are_refused(rt: HostRuntime) -> Result<(), Fail> {
+fn files_that_cannot_be_used_are_refused(rt: HostRuntime) {
     let rt = &rt;
     let (status, text, why) = refused(rt, rt.alloc(), "{}");
     let bad_config = ServerStatus::Refused(RefusalNumber::BadConfig);
@@ -265,7 +264,6 @@ fn files_that_cannot_be_used_are_refused(rt: HostRuntime) -> Result<(), Fail> {
         err.inner().as_slice(),
         b"no such file: No such file or directory (os error 2)\n".as_slice(),
     );
-    Ok(())
 }
 
 #[test]

@@ -1,9 +1,10 @@
 //! Files of `serve`: the settings that they give, and files that can't be used.
 use crate::checks::{is_true, is_true_at, same, same_at};
+use crate::fixtures::joined;
 use config_mistakes::{config_mistake, file_mistake};
 use requests::config;
 use service_file::{Keeper, Settings, read_settings};
-use std::alloc::{AllocError, Global};
+use std::alloc::Global;
 use std::process::Abort;
 use texts::json;
 
@@ -206,23 +207,22 @@ fn files_that_cannot_be_used_are_none(rt: HostRuntime) {
 }
 
 /// A file with so many services, whose names have so many bytes.
-fn many(alloc: Global, count: u32, size: usize) -> Result<String, AllocError> {
-    let mut text = String::from_str(
-        alloc,
-        "{\"listen\":\"127.0.0.1:1\",\"workers\":1,\"connections\":1,\"services\":[",
-    )?;
+fn many(rt: &impl Abort, alloc: Global, count: u32, size: usize) -> String {
+    let begin = "{\"listen\":\"127.0.0.1:1\",\"workers\":1,\"connections\":1,\"services\":[";
+    let mut text = joined(rt, alloc, &[begin]);
     for number in 0..count {
-        let name = format!(in alloc; "{number:0>size$}")?;
         let separator = if number == 0 { "" } else { "," };
-        text.push_str(&format!(in alloc; "{separator}{{\"name\":\"{name}\"}}")?)?;
+        let service = format!(in alloc; "{separator}{{\"name\":\"{number:0>size$}\"}}");
+        let service = service.expect(rt, "ample memory");
+        text.push_str(&service).expect(rt, "ample memory");
     }
-    text.push_str("]}")?;
-    Ok(text)
+    text.push_str("]}").expect(rt, "ample memory");
+    text
 }
 
 /// Whether a file with so many services, whose names have so many bytes, can be used.
 fn can_be_used(rt: &impl Abort, alloc: Global, count: u32, size: usize, is_used: bool) {
-    let text = many(alloc, count, size).expect(rt, "ample memory");
+    let text = many(rt, alloc, count, size);
     let found = read(rt, alloc, &text);
     same_at(rt, found.is_some(), is_used, (&count, &size));
 }
