@@ -8,7 +8,7 @@ use service::{Report, Request, Response};
 
 /// Answers what services are asked for. A service is found once by its name, and then asked at its place, at a moment
 /// in milliseconds. Want of memory is a refusal like others. Below the two functions that an answerer has to have stands one
-/// for each route; the front asks by `ask` alone.
+/// for each route, which asks by `ask` and is the same for every answerer; the front asks by `ask` alone.
 pub trait Answerer {
     // where the first service of a name stands, if there is one
     ghost place_of: { Self → List ℕ → Option ℕ };
@@ -30,7 +30,7 @@ pub trait Answerer {
         ensures { answers self.old place moment (request_data request) (response_data result) self.new };
 
     /// Asks for a ticket, before a call.
-    fn acquire(&mut self, place: usize, moment: u64) -> Response
+    final fn acquire(&mut self, place: usize, moment: u64) -> Response
         requires held { has self.old place }
         ensures { answers self.old place moment acquire (response_data result) self.new }
     {
@@ -38,7 +38,7 @@ pub trait Answerer {
     }
 
     /// Judges the outcome of a call, and ends its ticket.
-    fn report(&mut self, place: usize, moment: u64, reported: Report) -> Response
+    final fn report(&mut self, place: usize, moment: u64, reported: Report) -> Response
         requires held { has self.old place }
         ensures { answers self.old place moment (report reported) (response_data result) self.new }
     {
@@ -46,7 +46,7 @@ pub trait Answerer {
     }
 
     /// Ends a ticket without an outcome.
-    fn release(&mut self, place: usize, moment: u64, ticket: u64) -> Response
+    final fn release(&mut self, place: usize, moment: u64, ticket: u64) -> Response
         requires held { has self.old place }
         ensures { answers self.old place moment (release ticket) (response_data result) self.new }
     {
@@ -54,7 +54,13 @@ pub trait Answerer {
     }
 
     /// Verifies the program of this bytecode on records of a layout, and makes it the current version.
-    fn install(&mut self, place: usize, moment: u64, program: Vec<u8>, layout: Layout) -> Response
+    final fn install(
+        &mut self,
+        place: usize,
+        moment: u64,
+        program: Vec<u8>,
+        layout: Layout,
+    ) -> Response
         requires held { has self.old place }
         ensures { answers self.old place moment (install program.items layout) (response_data result) self.new }
     {
@@ -62,7 +68,7 @@ pub trait Answerer {
     }
 
     /// Moves the breaker to a state.
-    fn transition(&mut self, place: usize, moment: u64, state: State) -> Response
+    final fn transition(&mut self, place: usize, moment: u64, state: State) -> Response
         requires held { has self.old place }
         ensures { answers self.old place moment (move state) (response_data result) self.new }
     {
@@ -70,7 +76,7 @@ pub trait Answerer {
     }
 
     /// Moves the breaker to CLOSED.
-    fn reset(&mut self, place: usize, moment: u64) -> Response
+    final fn reset(&mut self, place: usize, moment: u64) -> Response
         requires held { has self.old place }
         ensures { answers self.old place moment reset (response_data result) self.new }
     {
@@ -78,7 +84,7 @@ pub trait Answerer {
     }
 
     /// Tells how the service stands.
-    fn read(&mut self, place: usize, moment: u64) -> Response
+    final fn read(&mut self, place: usize, moment: u64) -> Response
         requires held { has self.old place }
         ensures { answers self.old place moment read (response_data result) self.new }
     {
@@ -86,7 +92,7 @@ pub trait Answerer {
     }
 
     /// Gives at most 100 entries of the journal, from this number on.
-    fn page(&mut self, place: usize, moment: u64, from: u64) -> Response
+    final fn page(&mut self, place: usize, moment: u64, from: u64) -> Response
         requires held { has self.old place }
         ensures { answers self.old place moment (page from) (response_data result) self.new }
     {
@@ -94,7 +100,7 @@ pub trait Answerer {
     }
 
     /// Hands out all entries of the journal, which begins anew.
-    fn cut(&mut self, place: usize, moment: u64) -> Response
+    final fn cut(&mut self, place: usize, moment: u64) -> Response
         requires held { has self.old place }
         ensures { answers self.old place moment cut (response_data result) self.new }
     {
@@ -102,7 +108,7 @@ pub trait Answerer {
     }
 
     /// Hands out the entries of the journal up to this number. The journal goes on behind them.
-    fn roll(&mut self, place: usize, moment: u64, last: u64) -> Response
+    final fn roll(&mut self, place: usize, moment: u64, last: u64) -> Response
         requires held { has self.old place }
         ensures { answers self.old place moment (roll last) (response_data result) self.new }
     {
