@@ -566,6 +566,9 @@ class WhereConnectionsBreak(Case):
         self.assertEqual(self.breaker.sidecar.report(new, {"status": 200}).verdict, "success")
 
     def test_an_interrupt_that_comes_while_an_acquire_waits_leaves_no_ticket(self) -> None:
+        # A shell lets what it runs in the background ignore interrupts.
+        before = signal.signal(signal.SIGINT, signal.default_int_handler)
+        self.addCleanup(signal.signal, signal.SIGINT, before)
         self.relay.delay_answer_to = b"/acquire"
         breaker = self.breaker_at(self.relay.address, seconds=5)
         main = threading.get_ident()
