@@ -118,7 +118,6 @@ begun opening = record { history = history_of opening []; hands = λ actor. reco
 -- moments are words, actors are seats of 32 bits, outcomes are records, and what is installed was verified
 abbrev pub IsStep : Step → Type 0
 IsStep (acquire moment) = moment < 2 ^ 64
-IsStep (look ticket) = Unit {0}
 IsStep (judge place outcome) = IsOutcome record_size outcome
 IsStep (finish moment place ticket) = moment < 2 ^ 64
 IsStep (release moment ticket) = moment < 2 ^ 64
@@ -126,24 +125,18 @@ IsStep (install moment program) = (moment < 2 ^ 64) × IsVerifiedProgram program
 IsStep (move moment state) = moment < 2 ^ 64
 IsStep (reset moment) = moment < 2 ^ 64
 IsStep (read moment) = moment < 2 ^ 64
-IsStep (page from) = Unit {0}
-IsStep cut_off = Unit {0}
-IsStep (roll_up_to last) = Unit {0}
+IsStep other = Unit {0}
 
 abbrev pub AreSteps : List Act → Type 0
 AreSteps acts = AllByRecursion (λ act. (act.actor < 2 ^ 32) × IsStep act.step) acts
 
 -- ---- want of memory
 
-abbrev pub is_out_of_memory : RefusalNumber → Bool
-is_out_of_memory refusal.ServiceOutOfMemory = true
-is_out_of_memory other = false
-
 -- whether a step was refused for want of memory
 abbrev pub lacks_memory : Given → Bool
-lacks_memory (replied (reply.Refused number)) = is_out_of_memory number
-lacks_memory (found (Err number)) = is_out_of_memory number
-lacks_memory (handed (Err number)) = is_out_of_memory number
+lacks_memory (replied (reply.Refused refusal.ServiceOutOfMemory)) = true
+lacks_memory (found (Err refusal.ServiceOutOfMemory)) = true
+lacks_memory (handed (Err refusal.ServiceOutOfMemory)) = true
 lacks_memory other = false
 
 -- no step was refused for want of memory, so that each gave what the machine answers
