@@ -143,9 +143,6 @@ moved_gives domain laws width.Bits32 b r y k e =
 
 -- ---- instructions
 
-arithmetic_at : (s : State) (o : Operation) (w : Width) (dst : ℕ) (b : Operand) → (set_value (register_of s dst) >>= (λ (x : Value). set_value (value_of_operand s b) >>= (λ (y : Value). computed o w x y))) ≡ computed_of o w (register_of s dst) (value_of_operand s b)
-arithmetic_at s o w dst b = refl
-
 pub arithmetic_gives : {X : Type 0} (domain : Ghosts X) → Lawful domain → (s : State) (registers : List (AbsVal X)) (o : Operation) (w : Width) (dst : ℕ) (b : Operand) (r : AbsVal X)
     → AreAs domain registers s.registers → HasWord b → result_in domain o w (value_in registers dst) (operand_in domain registers b) ≡ Ok r → Gives domain r (arithmetic_value s o w dst b)
 arithmetic_gives domain laws s registers operation.Move w dst b r p word e =

@@ -54,9 +54,6 @@ judgement_is program outcome v steps safe fits judges =
 
 -- ---- what two programs share
 
-pub left_of_both : (a b : Bool) → (a && b) ≡ true → a ≡ true
-left_of_both a b e = search rules
-
 pub right_of_both : (a b : Bool) → (a && b) ≡ true → b ≡ true
 right_of_both a b e = search rules
 

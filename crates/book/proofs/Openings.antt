@@ -1,12 +1,13 @@
 -- A book that has just been opened, and what any book shows.
 use Rattle.std.proofs.Common.{◌≡◌, ℕ, suc, ◌+◌, ◌-◌, ◌≤◌, ◌⊎◌, inl, inr, List, [], length, None, Result, Ok, Err, arith, ap, sym, ◌∙◌, rules}
+use Rattle.std.specs.Option.{option_map_or}
 use Rattle.book.specs.Safe.{IsSafeProgram}
 use Rattle.refusals.specs.declared.RefusalNumber.{RefusalNumber}
 use Rattle.refusals.specs.declared.RefusalNumber.TheVariants as refusal
 use Rattle.bpf_profile.specs.Programs.{VerifiedProgram}
 use Rattle.service_profile.specs.declared.configuration.ConfigParts.{ConfigParts}
 use Rattle.book.specs.declared.service.Service.{Service}
-use Rattle.service_profile.specs.Answers.{IsLooked, looks, no_owner, looked, budget_of, reading}
+use Rattle.service_profile.specs.Answers.{IsLooked, looks, no_owner, looked, reading}
 use Rattle.service_profile.specs.declared.readings.Reading.{Reading}
 use Rattle.service_profile.specs.Machine.{current_version, program_from}
 use Rattle.service_profile.specs.Openings.{first_opening, IsOpening}
@@ -42,7 +43,7 @@ pub next_line_is : (opening : Opening) (lines : List EntryData) (rolled : Rolled
 next_line_is opening lines rolled = omega (arith, stage_count opening lines rolled, ap (λ (o : Opening). o.line) (same_opening opening lines rolled))
 
 pub reads_so : (past : Past) (moment last : ℕ) (metrics : Metrics) (version budget count free not_permitted : ℕ)
-    → metrics ≡ metrics_of (raised past moment) (breaker_of (situation_of past)) → version ≡ current_version (situation_of past) → budget ≡ budget_of (program_from past.opening.version (situation_of past).programs (current_version (situation_of past)))
+    → metrics ≡ metrics_of (raised past moment) (breaker_of (situation_of past)) → version ≡ current_version (situation_of past) → budget ≡ option_map_or (λ program. program.budget) (program_from past.opening.version (situation_of past).programs (current_version (situation_of past))) 0
     → count ≡ length (situation_of past).open_tickets → free ≡ past.opening.config.max_concurrent_calls - length (situation_of past).open_tickets → not_permitted ≡ refused_of past → suc last ≡ next_line past
     → ◌≡◌ {A = Reading} (record { state = metrics.state; period = metrics.period; version = version; budget = budget; total = metrics.total; failed = metrics.failed; slow = metrics.slow; failure_rate = metrics.failure_rate; slow_rate = metrics.slow_rate; open_tickets = count; free = free; not_permitted = not_permitted; entries = last })
     (reading past moment)

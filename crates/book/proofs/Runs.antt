@@ -36,9 +36,6 @@ same_answer history rolled moment event legal le roomy versioned =
     ap (λ (p : Past). machine p (raised p moment) event) (past_rolled history rolled legal le)
     ∙ full_or_same (answer history moment event) (machine (with_rolled rolled past) (raised past moment) event) (machine_further past rolled (raised past moment) event further) roomy versioned
 
-chosen_rolled : (test : Bool) (rolled : Rolled) (a b : History) → (if test then rolled_to rolled a else rolled_to rolled b) ≡ rolled_to rolled (if test then a else b)
-chosen_rolled test rolled a b = search rules
-
 same_applied : (history : History) (rolled : Rolled) (seat moment : ℕ) (event : EventData) → IsLegal history → IsFurther history.rolled rolled → answer (rolled_to rolled history) moment event ≡ answer history moment event
     → applied (rolled_to rolled history) seat moment event ≡ rolled_to rolled (applied history seat moment event)
 same_applied history rolled seat moment event legal le same = search (rules, past_rolled)

@@ -1,7 +1,7 @@
 -- Where a service's parts stand after each change.
 use Rattle.std.proofs.Common.{◌≡◌, ℕ, ◌+◌, ◌-◌, ◌≤◌, ◌<◌, ◌==◌, nat_le, nat_lt, ◌&&◌, Bool, true, false, if◌then◌else◌, List, [], ◌∷◌, ◌++◌, Option, Some, None, option_to_list, Result, Ok, Err, arith, refl, ap, sym, ◌∙◌, append-nil, rules}
 use Rattle.std.specs.List.{AllByRecursion}
-use Rattle.std.specs.Option.{option_map, IfSome, OnSome}
+use Rattle.std.specs.Option.{option_map, ok_or, IfSome, OnSome}
 use Rattle.std.specs.Result.{OnErr}
 use Rattle.service_profile.specs.Windows.{one_where}
 use Rattle.std.proofs.lemmas.Bool.Decides.{Decides-eqb}
@@ -17,7 +17,7 @@ use Rattle.registry.specs.Registries.{RegistryData, Ascend, is_issued, spent_or_
 use Rattle.service_profile.specs.declared.notes.Note.{Note}
 use Rattle.service_profile.specs.declared.standings.Standing.{Standing}
 use Rattle.service_profile.specs.declared.tickets.OpenTicket.{OpenTicket}
-use Rattle.service_profile.specs.Answers.{looked, looked_under, looked_up}
+use Rattle.service_profile.specs.Answers.{looked, looked_under}
 use Rattle.service_profile.specs.Machine.{Situation, open_ticket, permissions_held}
 use Rattle.book.specs.declared.plans.Effects.{Effects}
 use Rattle.book.specs.Following.{admitted, changed_by, followed, installed_in, one_where_some, standing_so, tickets_after, with_ticket, without}
@@ -138,7 +138,7 @@ installs_some f installed installs e g = search rules
 same_look : (r : RegistryData) (s : Situation) (number : ℕ) (found : Option OpenTicket) → open_ticket s.open_tickets number ≡ found → IsRegistered r s → registries.looked_with r found ≡ looked_under s found
 same_look r s number None e is = refl
 same_look r s number (Some t) e is =
-    ap looked_up (program_same r s t.version is (found_keeps (λ (ticket : OpenTicket). s.first_version + s.dropped ≤ ticket.version) s.open_tickets number t is.needed e))
+    ap (λ (o : Option VerifiedProgram). ok_or o refusal.TicketSpent) (program_same r s t.version is (found_keeps (λ (ticket : OpenTicket). s.first_version + s.dropped ≤ ticket.version) s.open_tickets number t is.needed e))
 
 pub looked_same : (r : RegistryData) (s : Situation) (number : ℕ) → IsRegistered r s → registries.looked_in r number ≡ looked s number
 looked_same r s number is =

@@ -1,6 +1,7 @@
 -- Whatever steps are taken, in any order, each answer is the documented machine's on the meaning's verdicts, and the history stays legal.
 use Rattle.std.proofs.Common.{◌≡◌, bytes_eq, ℕ, ◌^◌, ◌≤◌, ◌<◌, ◌==◌, Bool, true, false, if◌then◌else◌, List, [], ◌∷◌, slice_get, Option, Some, None, Result, Ok, Err, arith, refl, ap, sym, ◌∙◌, subst, rules}
 use Rattle.std.specs.List.{filter_map}
+use Rattle.std.specs.Option.{ok_or}
 use Rattle.std.proofs.Math.Nat.{le-max_right, max-le}
 use Rattle.std.proofs.lemmas.Slice.Eq.{bytes_eq-Decides}
 use Rattle.bpf_profile.specs.Limits.{record_size}
@@ -13,7 +14,7 @@ use Rattle.service_profile.specs.declared.decisions.Decision.{Decision}
 use Rattle.service_profile.specs.declared.replies.Reply.{Reply}
 use Rattle.service_profile.specs.declared.tickets.OpenTicket.{OpenTicket}
 use Rattle.service_profile.specs.declared.states.State.TheVariants as state
-use Rattle.service_profile.specs.Answers.{answer_by, with_line, line_of, IsAppliedBy, as_documented, out_of_memory, IsApplied, looked_up, looked_under, IsLooked, looks, no_owner, last_of, current_program, is_worn_out, is_some_open, reopened, cut, after_cut, IsCut, cuts, no_room, roll, after_roll, taken_up_to, IsRolled, rolls}
+use Rattle.service_profile.specs.Answers.{answer_by, with_line, line_of, IsAppliedBy, as_documented, out_of_memory, IsApplied, looked_under, IsLooked, looks, no_owner, last_of, current_program, is_worn_out, is_some_open, reopened, cut, after_cut, IsCut, cuts, no_room, roll, after_roll, taken_up_to, IsRolled, rolls}
 use Rattle.service_profile.specs.Events.{EventData, acquires, finishes, releases, installs, moves, resets, EntryData, Opening, Rolled, nothing_rolled, History}
 use Rattle.service_profile.specs.Histories.{Past, past_of, situation_of, programs_of, machine, raised, greatest, install_at, Follows, IsLegal}
 use Rattle.book.specs.Interleavings.{Hands, World, Step, acquire, look, judge, finish, release, install, move, reset, read, page, cut_off, roll_up_to, Given, replied, found, shown, handed, nothing, IsEventTaken, holding, with_found, work_of, with_judged, IsFinish, IsTaken, Act, IsCourse, begun, IsStep, AreSteps, AreHands, IsWorld}
@@ -139,13 +140,13 @@ chosen_hands test a b p q = search rules
 held_world : (w : World) (actor : ℕ) (hands : Hands) → IsWorld w → AreHands hands → IsWorld (holding w actor hands)
 held_world w actor hands whole good = record { legal = whole.legal; sound = whole.sound; hands = λ other. chosen_hands (other == actor) hands (w.hands other) good (whole.hands other) }
 
-looked_up_accepted : (o : Option VerifiedProgram) (program : VerifiedProgram) → ((p : VerifiedProgram) → o ≡ Some p → IsSafeProgram p) → looked_up o ≡ Ok program → IsSafeProgram program
-looked_up_accepted None program all e = let bad : ◌≡◌ {A = Result VerifiedProgram RefusalNumber} (Err refusal.TicketSpent) (Ok program) = e in cc
-looked_up_accepted (Some p) program all e = let same : ◌≡◌ {A = Result VerifiedProgram RefusalNumber} (Ok p) (Ok program) = e in let is : p ≡ program = cc in subst IsSafeProgram is (all p refl)
+found_accepted : (o : Option VerifiedProgram) (program : VerifiedProgram) → ((p : VerifiedProgram) → o ≡ Some p → IsSafeProgram p) → ok_or o refusal.TicketSpent ≡ Ok program → IsSafeProgram program
+found_accepted None program all e = let bad : ◌≡◌ {A = Result VerifiedProgram RefusalNumber} (Err refusal.TicketSpent) (Ok program) = e in cc
+found_accepted (Some p) program all e = let same : ◌≡◌ {A = Result VerifiedProgram RefusalNumber} (Ok p) (Ok program) = e in let is : p ≡ program = cc in subst IsSafeProgram is (all p refl)
 
 looked_under_accepted : (s : Situation) (ticket : Option OpenTicket) (program : VerifiedProgram) → AreSafePrograms s.programs → looked_under s ticket ≡ Ok program → IsSafeProgram program
 looked_under_accepted s None program all e = let bad : ◌≡◌ {A = Result VerifiedProgram RefusalNumber} (Err refusal.TicketSpent) (Ok program) = e in cc
-looked_under_accepted s (Some ticket) program all e = looked_up_accepted (program_from s.first_version s.programs ticket.version) program (λ p f. program_safe s.first_version s.programs ticket.version p all f) e
+looked_under_accepted s (Some ticket) program all e = found_accepted (program_from s.first_version s.programs ticket.version) program (λ p f. program_safe s.first_version s.programs ticket.version p all f) e
 
 looked_by : (test : Bool) (s : Situation) (ticket : Option OpenTicket) (program : VerifiedProgram) → AreSafePrograms s.programs → (if test then looked_under s ticket else Err refusal.NoTicket) ≡ Ok program → IsSafeProgram program
 looked_by true s ticket program all e = looked_under_accepted s ticket program all e

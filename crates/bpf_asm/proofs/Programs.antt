@@ -75,10 +75,6 @@ encoding_runs (instruction.LoadImmediate d value) (Some tail) rest e is run =
     (ok_is _ (instruction.LoadImmediate d value) (read_again (instruction.LoadImmediate d value) (second_slot (instruction.LoadImmediate d value)) is refl), run)
 encoding_runs i (Some tail) rest e is run = absurd cc
 
--- the statements of a text, each an instruction of the profile or none
-pub AreStatements : List (Option Instruction) → Type 0
-AreStatements statements = AllByRecursion (λ s. IfSome s IsInstruction) statements
-
 statements_run : (statements : List (Option Instruction)) → AllByRecursion (λ s. IfSome s IsInstruction) statements → IsRun false (flat_map slots_of statements)
 statements_run [] all = tt
 statements_run (None ∷ statements) all = statements_run statements all.1

@@ -111,6 +111,3 @@ faulty_unspelled bytes read slots f e some spells =
 
 pub same_slots : (bytes : List ℕ) (s t : List Slot) → Spells bytes s → Spells bytes t → s ≡ t
 same_slots bytes s t a b = sym (spelled_slots bytes s a) ∙ spelled_slots bytes t b
-
-pub same_bytes : (a b : List ℕ) (slots : List Slot) → Spells a slots → Spells b slots → a ≡ b
-same_bytes a b slots x y = x.text ∙ sym y.text

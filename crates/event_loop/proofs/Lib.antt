@@ -1,4 +1,3 @@
-mod Failing
 mod Logs
 mod Hubs
 mod Keeping

@@ -39,9 +39,6 @@ instruction_within slots place h =
 pub forward : (slots : List Slot) → IsAccepted slots → (from to : ℕ) → Edge slots from to → (from < to) × (to < length slots)
 forward slots a from to edge = let f = edges_forward slots a.program a.faultless from to edge in (f.0, instruction_within slots to f.1)
 
-pub leads : (slots : List Slot) → IsAccepted slots → (from to : ℕ) → Edge slots from to → IsSome (instruction_at slots to)
-leads slots a from to edge = (edges_forward slots a.program a.faultless from to edge).1
-
 -- an edge leads from an instruction
 pub comes : (slots : List Slot) (from to : ℕ) → Edge slots from to → IsSome (instruction_at slots from)
 unfolding successors

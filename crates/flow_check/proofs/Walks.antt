@@ -1,9 +1,8 @@
 -- Walks through an accepted program, and the longest of them.
-use Rattle.std.proofs.Common.{◌≡◌, ℕ, zero, suc, ◌+◌, ◌<◌, ◌≤◌, ◌⊎◌, inl, inr, max, List, [], ◌∷◌, ◌++◌, length, get_or, set, replicate, refl, sym, ap, ◌∙◌, subst, arith, add-one}
+use Rattle.std.proofs.Common.{◌≡◌, ℕ, zero, suc, ◌+◌, ◌<◌, ◌≤◌, ◌⊎◌, inl, inr, max, List, [], ◌∷◌, ◌++◌, length, get_or, refl, sym, ◌∙◌, subst, arith, add-one}
 use Rattle.std.specs.Prelude.{IsSome}
 use Rattle.std.proofs.Math.Nat.{le-max_left, le-max_right}
 use Rattle.std.proofs.lemmas.Bool.{cases_eq, cases_lt}
-use Rattle.std.proofs.lemmas.List.{length-set, get_or-set_same, get_or-set_other, length-replicate}
 use Rattle.std.proofs.lemmas.List.Elements.{Contains-append_left, Contains-append_right, Contains-append_cases}
 use Rattle.bpf_profile.specs.declared.slot.Slot.{Slot}
 use Rattle.bpf_profile.specs.Limits.{most_slots}
@@ -89,27 +88,6 @@ pub record IsTraced (slots : List Slot) (count : ℕ) (longest : List ℕ) (budg
   pub covered : (n i j : ℕ) → i < count → Arrives slots n i → Edge slots i j → suc (suc n) ≤ get_or longest j 0
   pub best : (n i : ℕ) → i < count → Arrives slots n i → suc n ≤ budget
   pub witness : (budget ≡ 0) ⊎ ((n : ℕ) × (i : ℕ) × (budget ≡ suc n) × Arrives slots n i)
-
-pub traced_start : (slots : List Slot) → IsAccepted slots → (longest : List ℕ) → longest ≡ set (replicate (length slots) 0) 0 1 → IsTraced slots 0 longest 0
-traced_start slots a longest e = record {
-  sized = ap length e ∙ (length-set (replicate (length slots) 0) 0 1 ∙ length-replicate {A = ℕ} (length slots) 0);
-  first = omega (arith, at_first);
-  shown = λ k. elim (cases_eq k 0) [
-    | inl z ↦ inr (zero, ap (λ (j : ℕ). get_or longest j 0) z ∙ at_first, z)
-    | inr n ↦ inl (ap (λ (l : List ℕ). get_or l k 0) e ∙ (get_or-set_other (replicate (length slots) 0) 0 k 1 0 n ∙ zeros (length slots) k))
-  ];
-  covered = λ n i j h w edge. absurd (omega (arith, h));
-  best = λ n i h w. absurd (omega (arith, h));
-  witness = inl refl;
-}
-  where
-    zeros : (n k : ℕ) → get_or (replicate n zero) k zero ≡ zero
-    zeros zero k = refl
-    zeros (suc n) zero = refl
-    zeros (suc n) (suc k) = zeros n k
-
-    at_first : get_or longest 0 0 ≡ 1
-    at_first = ap (λ (l : List ℕ). get_or l 0 0) e ∙ get_or-set_same (replicate (length slots) 0) 0 1 0 (omega (arith, length-replicate {A = ℕ} (length slots) 0, a.program.some))
 
 -- a slot's number is that of its longest walk, once the slots before it were followed
 known : (slots : List Slot) → IsAccepted slots → (place budget : ℕ) (longest : List ℕ) → IsTraced slots place longest budget → (n : ℕ) → Arrives slots n place → suc n ≤ get_or longest place 0

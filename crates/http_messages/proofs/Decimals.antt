@@ -12,11 +12,6 @@ use Rattle.http_messages.specs.Lengths.{decimal_of}
 own : IsNumeralModel (λ ds. all_ascii_digits ds ≡ true) (digits_value 10)
 own = numerals_by_value (λ ds. all_ascii_digits ds ≡ true) tells_all_ascii_digits
 
--- text that begins with a sign is no decimal number
-pub sign_is_refused : (text : List ℕ) → get_or text 0 0 ≡ 43 → None ≡ decimal_of text
-sign_is_refused [] e = refl
-sign_is_refused (c ∷ cs) e = rw e refl
-
 pub read : {E : Type 0} (text : List ℕ) (r : Result ℕ E) → ParsesUnsigned 64 10 text r → get_or text 0 0 ≢ 43 → OkIff r ((all_ascii_digits text ≡ true) × (0 < length text) × (digits_value 10 text < 2 ^ 64)) (digits_value 10 text)
 read text r parsed plain = parse_plain own 64 text r parsed plain
 

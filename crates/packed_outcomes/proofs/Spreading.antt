@@ -181,12 +181,6 @@ kept_of_front [] n = kept_of_zeros n
 kept_of_front (zero ∷ words) n = kept_of_front words n
 kept_of_front (suc w ∷ words) n = ap (λ (ws : List ℕ). suc w ∷ ws) (kept_of_front words n)
 
--- the front is used alone
-pub used_front : (words front rest : List ℕ) (n : ℕ) → front ≡ take n words → rest ≡ drop n words → rest ≡ replicate (length rest) 0 → (marks_of front ≡ marks_of words) × (kept_of front ≡ kept_of words)
-used_front words front rest n f r zeros =
-    let whole : words ≡ front ++ replicate (length rest) 0 = sym (take-append-drop n words) ∙ ap (λ (ws : List ℕ). ws ++ drop n words) (sym f) ∙ ap (λ (ws : List ℕ). front ++ ws) (sym r ∙ zeros) in
-    (sym (ap marks_of whole ∙ marks_of_front front (length rest)), sym (ap kept_of whole ∙ kept_of_front front (length rest)))
-
 -- bits of which none is set
 or_none : (a b : ℕ) → bit_or a b ≡ 0 → (a ≡ 0) × (b ≡ 0)
 or_none a b none =

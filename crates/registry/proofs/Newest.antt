@@ -1,19 +1,17 @@
 -- What is said of the tickets where the newest one lies beside the others.
-use Rattle.std.proofs.Common.{◌≡◌, ℕ, min, ◌<◌, ◌==◌, ◌||◌, not, Bool, true, false, cond, Option, Some, None, List, [], ◌∷◌, ◌++◌, arith, refl, sym, ap, subst, ◌∙◌, Less}
+use Rattle.std.proofs.Common.{◌≡◌, ℕ, ◌<◌, ◌==◌, not, Bool, true, false, cond, Option, Some, None, List, [], ◌∷◌, ◌++◌, arith, refl, sym, ap, subst, ◌∙◌, Less}
 use Rattle.std.proofs.lemmas.Bool.Decides.{nat_tests}
 use Rattle.std.proofs.lemmas.List.Elements.{filter-append}
-use Rattle.std.proofs.lemmas.List.Sums.{fold-append}
 use Rattle.std.proofs.lemmas.Map.Keys.{IsStrictlyIncreasing-from_sorted, sorted_from_strictly_increasing}
 use Rattle.std.specs.Cmp.{nat_cmp_is}
 use Rattle.std.specs.List.{AllByRecursion, filter}
 use Rattle.std.specs.List.Sorted.{IsStrictlySortedBy}
 use Rattle.std.specs.Ordering.{nat_cmp}
-use Rattle.service_profile.specs.Answers.{least_version}
-use Rattle.service_profile.specs.Machine.{open_ticket, is_open}
+use Rattle.service_profile.specs.Machine.{open_ticket}
 use Rattle.service_profile.specs.declared.tickets.OpenTicket.{OpenTicket}
 use Rattle.registry.specs.Newest.{with_newest, IsNewest, has_number}
 use Rattle.registry.specs.Registries.{Ascend}
-use Rattle.registry.proofs.Entries.{or_last, open_last, or_none, is_open_last, same_number, numbers_of, numbers_last, sorted_last}
+use Rattle.registry.proofs.Entries.{or_last, open_last, or_none, same_number, numbers_of, numbers_last, sorted_last}
 use Rattle.registry.proofs.Keeping.{fewer}
 
 abbrev pub AreBelow : ℕ → List OpenTicket → Type 0
@@ -38,19 +36,6 @@ newest_found n older (Some t) is has =
 pub older_found : (n : ℕ) (older : List OpenTicket) (newest : Option OpenTicket) → has_number newest n ≡ false → open_ticket older n ≡ open_ticket (with_newest older newest) n
 older_found n older None has = refl
 older_found n older (Some t) has = sym (open_last n older t ∙ ap (λ (b : Bool). or_last (open_ticket older n) b t) has ∙ or_none (open_ticket older n) t)
-
-either_way : (a b : Bool) → (a || (b || false)) ≡ (b || a)
-either_way true true = refl
-either_way true false = refl
-either_way false true = refl
-either_way false false = refl
-
-pub newest_or_older : (n : ℕ) (older : List OpenTicket) (newest : Option OpenTicket) → is_open (with_newest older newest) n ≡ (has_number newest n || is_open older n)
-newest_or_older n older None = refl
-newest_or_older n older (Some t) = is_open_last n older t ∙ either_way (is_open older n) (t.number == n)
-
-pub least_of_both : (current : ℕ) (older : List OpenTicket) (t : OpenTicket) → least_version current (older ++ t ∷ []) ≡ min (least_version current older) t.version
-least_of_both current older t = fold-append (λ (least : ℕ) (ticket : OpenTicket). min least ticket.version) current older (t ∷ [])
 
 less_all : (n : ℕ) (ts : List OpenTicket) → AreBelow n ts → AllByRecursion (λ m. nat_cmp m n ≡ Less) (numbers_of ts)
 less_all n [] below = tt
@@ -78,10 +63,6 @@ dropped_last [] t true is = refl
 dropped_last (u ∷ ts) t true is = ap (λ (us : List OpenTicket). u ∷ us) (dropped_last ts t true refl)
 dropped_last ts t false is = let bad : ◌≡◌ {A = Bool} false true = is in cc
 
-kept_last : (ts : List OpenTicket) (t : OpenTicket) (b : Bool) → b ≡ false → ts ++ cond (not b) (t ∷ []) [] ≡ ts ++ t ∷ []
-kept_last ts t true is = let bad : ◌≡◌ {A = Bool} true false = is in cc
-kept_last ts t false is = refl
-
 -- where the newest one ends, the older ones are left
 pub newest_ended : (n : ℕ) (older : List OpenTicket) (newest : Option OpenTicket) → IsNewest older newest → has_number newest n ≡ true → older ≡ others n (with_newest older newest)
 newest_ended n older None is has = let bad : ◌≡◌ {A = Bool} false true = has in cc
@@ -89,12 +70,6 @@ newest_ended n older (Some t) is has =
     sym (filter-append (λ (ticket : OpenTicket). not (ticket.number == n)) older (t ∷ [])
     ∙ ap (λ (ts : List OpenTicket). ts ++ cond (not (t.number == n)) (t ∷ []) []) (all_stay n older (at_number t n older has is))
     ∙ dropped_last older t (t.number == n) has)
-
--- and else it stays behind those of the older ones that are left
-pub older_ended : (n : ℕ) (older : List OpenTicket) (newest : Option OpenTicket) → has_number newest n ≡ false → with_newest (others n older) newest ≡ others n (with_newest older newest)
-older_ended n older None has = refl
-older_ended n older (Some t) has =
-    sym (filter-append (λ (ticket : OpenTicket). not (ticket.number == n)) older (t ∷ []) ∙ kept_last (others n older) t (t.number == n) has)
 
 pub still_newest : (n : ℕ) (older : List OpenTicket) (newest : Option OpenTicket) → IsNewest older newest → IsNewest (others n older) newest
 still_newest n older None is = tt

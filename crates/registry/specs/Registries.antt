@@ -2,11 +2,12 @@
 use Rattle.std.specs.Prelude.{◌≡◌, ℕ, ◌+◌, ◌-◌, ◌==◌, ◌<◌, ◌≤◌, ◌^◌, nat_le, nat_lt, ◌&&◌, not, Bool, if◌then◌else◌, List, [], ◌∷◌, ◌++◌, length, map, drop, Option, Some, None, Result, Ok, Err}
 use Rattle.std.specs.List.{AllByRecursion, filter}
 use Rattle.std.specs.List.Sorted.{IsStrictlyIncreasing}
+use Rattle.std.specs.Option.{ok_or}
 use Rattle.refusals.specs.declared.RefusalNumber.{RefusalNumber}
 use Rattle.refusals.specs.declared.RefusalNumber.TheVariants as refusal
 use Rattle.bpf_profile.specs.Programs.{VerifiedProgram}
 use Rattle.service_profile.specs.declared.tickets.OpenTicket.{OpenTicket}
-use Rattle.service_profile.specs.Answers.{least_version, looked_up}
+use Rattle.service_profile.specs.Answers.{least_version}
 use Rattle.service_profile.specs.Limits.{most_versions}
 use Rattle.service_profile.specs.Machine.{open_ticket, program_from}
 
@@ -97,7 +98,7 @@ ticket_in r number = if is_issued r number then spent_or_open (open_ticket r.ope
 
 abbrev pub looked_with : RegistryData → Option OpenTicket → Result VerifiedProgram RefusalNumber
 looked_with r None = Err refusal.TicketSpent
-looked_with r (Some ticket) = looked_up (program_from r.first_version r.programs ticket.version)
+looked_with r (Some ticket) = ok_or (program_from r.first_version r.programs ticket.version) refusal.TicketSpent
 
 -- the program that judges under a ticket, or why there is none
 abbrev pub looked_in : RegistryData → ℕ → Result VerifiedProgram RefusalNumber

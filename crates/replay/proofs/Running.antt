@@ -5,7 +5,7 @@ use Rattle.service_profile.specs.declared.configuration.ConfigParts.{ConfigParts
 use Rattle.service_profile.specs.Events.{History}
 use Rattle.requests.specs.Configurations.{config_in}
 use Rattle.replay.specs.declared.replaying.ReplayEnded.TheVariants as ended
-use Rattle.replay.specs.Answering.{AreAnswered, answer_line}
+use Rattle.replay.specs.Answering.{answer_line}
 use Rattle.replay.specs.Lines.{told, AreTold, TakesTold}
 use Rattle.replay.specs.Replaying.{IsOpened, IsReplay, IsReplayed, Begins, IsBegun, IsLineAnswered, AreEventsAnswered}
 
@@ -51,10 +51,6 @@ replayed_bad input left written begun =
     let rest = some_told left in
     let all = begun rest.0 rest.1 in
     (all.0, [], all.1, bad_config all.0 rest.0 all.2, appends_none written)
-
-good_config : (lines events : List (List ℕ)) (parts : ConfigParts) (opened after : History) (text : List ℕ)
-    → Begins lines (Some parts) events → IsOpened parts opened → AreAnswered opened events text after → IsReplay lines ended.Done text
-good_config lines events parts opened after text begins is run = search rules
 
 pub replayed_done : (input left before after : Option (List ℕ)) (parts : ConfigParts) (opened last : History)
     → IsBegun input left (Some parts) → IsOpened parts opened → AreEventsAnswered left opened last before after → IsReplayed input ended.Done before after

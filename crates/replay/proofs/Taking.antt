@@ -2,7 +2,7 @@
 use Rattle.std.proofs.Common.{◌≡◌, ℕ, ◌+◌, ◌==◌, nat_lt, true, false, List, [], ◌∷◌, ◌++◌, length, Option, Some, None, refl, ap, sym, subst, ◌∙◌, append_assoc, arith, rules}
 use Rattle.std.proofs.lemmas.Grind.{common_steps}
 use Rattle.counted_io.specs.Counting.{TakesByte}
-use Rattle.replay.specs.Lines.{in_first, lines, first_if, TakesLine, HasManyLines, LosesLines}
+use Rattle.replay.specs.Lines.{in_first, lines, first_if, TakesLine, LosesLines}
 
 -- ---- a line, byte by byte
 
@@ -88,14 +88,8 @@ text_ends (Some text) (Some []) after line count (rest, there, split, all) taken
 
 -- ---- lines of blanks are passed over
 
-same_some : {X : Type 0} (x y : X) → Some x ≡ Some y → x ≡ y
-same_some x y e = cc
-
 -- ---- how many lines are left
 
 -- lines were taken off what was left
 pub loses_more : (text left after : Option (List ℕ)) (count more : ℕ) → LosesLines count text left → LosesLines more left after → LosesLines (count + more) text after
 loses_more text left after count more lost then_lost = search rules
-
-pub many_left : (text left : Option (List ℕ)) (count : ℕ) → LosesLines count text left → HasManyLines left → HasManyLines text
-many_left text left count lost many = search rules

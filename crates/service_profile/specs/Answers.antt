@@ -1,6 +1,7 @@
 -- What a book answers to calls, by its history.
 use Rattle.std.specs.Prelude.{◌≡◌, ℕ, suc, max, min, ◌-◌, ◌<◌, nat_lt, ◌||◌, Bool, true, false, if◌then◌else◌, List, [], ◌∷◌, ◌++◌, length, take, drop, Option, Some, None, Result, Ok, Err}
 use Rattle.std.specs.List.{filter_map, fold}
+use Rattle.std.specs.Option.{ok_or, option_map_or}
 use Rattle.refusals.specs.declared.RefusalNumber.{RefusalNumber}
 use Rattle.refusals.specs.declared.RefusalNumber.TheVariants as refusal
 use Rattle.bpf_profile.specs.Programs.{VerifiedProgram}
@@ -56,13 +57,9 @@ IsApplied history seat moment event r after = IsAppliedBy meant history seat mom
 
 -- ---- a look: the program that judges under a ticket
 
-abbrev pub looked_up : Option VerifiedProgram → Result VerifiedProgram RefusalNumber
-looked_up None = Err refusal.TicketSpent
-looked_up (Some program) = Ok program
-
 abbrev pub looked_under : Situation → Option OpenTicket → Result VerifiedProgram RefusalNumber
 looked_under s None = Err refusal.TicketSpent
-looked_under s (Some ticket) = looked_up (program_from s.first_version s.programs ticket.version)
+looked_under s (Some ticket) = ok_or (program_from s.first_version s.programs ticket.version) refusal.TicketSpent
 
 abbrev pub looked : Situation → ℕ → Result VerifiedProgram RefusalNumber
 looked s ticket = if is_issued s ticket then looked_under s (open_ticket s.open_tickets ticket) else Err refusal.NoTicket
@@ -78,17 +75,12 @@ pub data IsLooked (history : History) (ticket : ℕ) (result : Result VerifiedPr
 
 -- ---- a reading
 
--- the budget of a version's program
-abbrev pub budget_of : Option VerifiedProgram → ℕ
-budget_of None = 0
-budget_of (Some program) = program.budget
-
 abbrev pub reading_by : Situation → Totals → ℕ → ℕ → Reading
 reading_by s totals refused last = record {
   state = s.standing.state;
   period = s.standing.period;
   version = current_version s;
-  budget = budget_of (program_from s.first_version s.programs (current_version s));
+  budget = option_map_or (λ program. program.budget) (program_from s.first_version s.programs (current_version s)) 0;
   total = totals.total;
   failed = totals.failed;
   slow = totals.slow;

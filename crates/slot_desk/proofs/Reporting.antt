@@ -8,7 +8,6 @@ use Rattle.service_profile.specs.Calls.{applies, looks, replies, finds}
 use Rattle.service_profile.specs.Events.{EventData, finishes}
 use Rattle.service.specs.Asking.{IsFinishServed, IsReportServed}
 use Rattle.service.specs.declared.request.Report.{Report}
-use Rattle.book.specs.Counts.{entries_made, IsCounted}
 use Rattle.slot_desk.specs.Calls.{IsCalledAt, ServiceSeatData, service_seat, IsAskedAt}
 use Rattle.slot_desk.specs.Seats.{SeatData}
 
@@ -37,25 +36,3 @@ reported service seat moment report r after room (found, between, call, ended) =
     let look = looked (service_seat service seat) report.ticket found between call in
     let same : between.seat.count ≡ seat.count = look_counts service seat report.ticket found between.seat look in
     (found, between.seat, look, ends service between moment report r after call.0 (omega (arith, same, room)) found ended)
-
--- what a reply counts
-counted_by : (count : ℕ) (r : Reply) (after : ℕ) → after ≡ count + entries_made r → IsCounted count r after
-counted_by count (reply.Refused number) after is = (omega (arith, is), omega (arith, is))
-counted_by count (reply.Permitted ticket version state) after is = omega (arith, is)
-counted_by count (reply.Finished fate verdict steps version state) after is = omega (arith, is)
-counted_by count (reply.Released state) after is = omega (arith, is)
-counted_by count (reply.Installed version budget layout) after is = omega (arith, is)
-counted_by count (reply.Moved state period) after is = omega (arith, is)
-
-refused_counts : (count : ℕ) (number : RefusalNumber) → IsCounted count (reply.Refused number) count
-refused_counts count number = (omega arith, omega arith)
-
-counts_by : (service : ℕ) (count : ℕ) (between : SeatData) (moment : ℕ) (report : Report) (r : Reply) (after : SeatData) (found : Result VerifiedProgram RefusalNumber) → between.count ≡ count → IsFinishServed (IsCalledAt service) between moment report found r after → IsCounted count r after.count
-counts_by service count between moment report r after (Err number) same ended = rw (ended.0, ended.1, same) (refused_counts count number)
-counts_by service count between moment report r after (Ok program) same ended =
-    let e : after.count ≡ between.count + entries_made r = ap (λ (s : SeatData). s.count) ended.4.4 in
-    counted_by count r after.count (rw same at e)
-
-pub counts : (service : ℕ) (seat : SeatData) (moment : ℕ) (report : Report) (r : Reply) (after : SeatData) → IsReportServed (IsCalledAt service) seat moment report r after → IsCounted seat.count r after.count
-counts service seat moment report r after (found, between, look, ended) =
-    counts_by service seat.count between moment report r after found (look_counts service seat report.ticket found between look) ended

@@ -1,6 +1,5 @@
 -- A desk may be shared by threads, and a seat may go to one of them.
 use denote.Param.Send.{IsSend, IsSync, sendable}
-use denote.Ref.{NamedLft}
 use Rattle.std.proofs.Crossing.{crosses, frees}
 use Rattle.slot_table.proofs.Showing.{slot_sync, slot_field_sync, place_send, place_field_send}
 use Rattle.slot_desk.specs.contracts.desks.Desk as desk
@@ -18,7 +17,3 @@ seat_send = search (sendable, crosses, frees, place_send, place_field_send) dept
 
 pub seat_field_send : IsSend (seat.the_field).row
 seat_field_send = search (sendable, crosses, frees, place_send, place_field_send) depth 40 fits 20000
-
--- with the desk that it asks
-pub asking_send : (α : NamedLft) → IsSend (asking.the_row α)
-asking_send α = search (sendable, crosses, frees, desk_sync, desk_field_sync, seat_send, seat_field_send) depth 40 fits 20000

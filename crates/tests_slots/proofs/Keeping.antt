@@ -3,15 +3,11 @@ use Rattle.std.proofs.Common.{◌∙◌, ap, ℕ, Result, Ok, Err}
 use Rattle.bpf_profile.specs.Programs.{VerifiedProgram}
 use Rattle.refusals.specs.declared.RefusalNumber.{RefusalNumber}
 use Rattle.service_profile.specs.declared.replies.Reply.{Reply}
-use Rattle.service_profile.specs.Calls.{CallData, CallAnswer}
 use Rattle.service.specs.Asking.{IsFinishServed, IsReportServed}
 use Rattle.service.specs.declared.request.Report.{Report}
 use Rattle.slot_desk.specs.Calls.{IsCalledAt}
 use Rattle.slot_desk.specs.Desks.{DeskData}
 use Rattle.slot_desk.specs.Seats.{SeatData, IsSeatOf}
-
-called_stays : (desk : DeskData) (service : ℕ) (seat : SeatData) (call : CallData) (answer : CallAnswer) (after : SeatData) → IsCalledAt service seat call answer after → IsSeatOf desk seat → IsSeatOf desk after
-called_stays desk service seat call answer after called held = ap (λ (s : SeatData). s.tables) called.4 ∙ held
 
 ended_stays : (desk : DeskData) (service : ℕ) (between : SeatData) (moment : ℕ) (report : Report) (r : Reply) (after : SeatData) (found : Result VerifiedProgram RefusalNumber)
     → IsFinishServed (IsCalledAt service) between moment report found r after → IsSeatOf desk between → IsSeatOf desk after

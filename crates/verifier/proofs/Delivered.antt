@@ -18,10 +18,6 @@ abbrev pub AreWithin : {X : Type 0} → ℕ → List (Message X) → Type 0
 AreWithin count [] = Unit {0}
 AreWithin count (m ∷ more) = (m.to < count) × AreWithin count more
 
-pub within_both : {X : Type 0} (count : ℕ) (a b : List (Message X)) → AreWithin count a → AreWithin count b → AreWithin count (a ++ b)
-within_both count [] b p q = q
-within_both count (m ∷ a) b p q = (p.0, within_both count a b p.1 q)
-
 pub length-delivered : {X : Type 0} (domain : Ghosts X) (states : List (Option (AbsState X))) (messages : List (Message X)) → length (delivered_all domain states messages) ≡ length states
 length-delivered domain states [] = refl
 length-delivered domain states (m ∷ more) = length-delivered domain (delivered domain states m) more ∙ length-set states m.to _

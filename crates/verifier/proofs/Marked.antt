@@ -1,8 +1,8 @@
 -- Marks that are counted from a place on.
-use Rattle.std.proofs.Common.{◌≡◌, ℕ, zero, suc, ◌+◌, ◌-◌, ◌<◌, ◌≤◌, ◌||◌, ◌⊎◌, inl, inr, Bool, true, false, cond, List, [], ◌∷◌, ◌++◌, length, drop, get_or, max, Option, Some, None, refl, sym, ap, ◌∙◌, subst, arith, length-set}
+use Rattle.std.proofs.Common.{◌≡◌, ℕ, zero, suc, ◌+◌, ◌-◌, ◌<◌, ◌≤◌, ◌||◌, ◌⊎◌, inl, inr, Bool, true, false, cond, List, [], ◌∷◌, ◌++◌, length, drop, get_or, max, Option, Some, None, refl, sym, ap, ◌∙◌, subst, arith}
 use Rattle.std.proofs.lemmas.Bool.{ne_eqb, cases_lt}
 use Rattle.std.proofs.lemmas.List.{length-drop}
-use Rattle.std.proofs.lemmas.List.Sums.{count_by-le-length, sum_by-set, sum_by-cons, sum_by-drop_more}
+use Rattle.std.proofs.lemmas.List.Sums.{sum_by-set, sum_by-cons, sum_by-drop_more}
 use Rattle.std.specs.List.{count_by, range_with_len}
 use Rattle.std.specs.Option.{option_map_or}
 use Rattle.std.specs.Prelude.{IsSome, IfSome, Contains, replicate, slice_set, option_to_list}
@@ -11,7 +11,7 @@ use Rattle.bpf_profile.specs.declared.slot.Slot.{Slot}
 use Rattle.bpf_profile.specs.Flow.{successors, is_entered_from, flow_fault}
 use Rattle.bpf_profile.specs.Meaning.{instruction_at}
 use Rattle.bpf_profile.specs.Spelling.{IsProgram}
-use Rattle.flow_check.specs.Passes.{AreEntered, marked_all}
+use Rattle.flow_check.specs.Passes.{AreEntered}
 use Rattle.verifier.proofs.Edges.{forward, to_instruction, within}
 use Rattle.verifier.proofs.Sound.{starts}
 use Rattle.bpf_profile.specs.declared.instruction.Instruction.{Instruction}
@@ -43,9 +43,6 @@ count_yes marks place h e = count_on marks place true h e
 pub count_no : (marks : List Bool) (place : ℕ) → place < length marks → get_or marks place false ≡ false → count_from place marks ≡ count_from (place + 1) marks
 count_no marks place h e = let c = count_on marks place false h e in omega (arith, c)
 
-pub count_few : (marks : List Bool) (place : ℕ) → count_from place marks ≤ length marks
-count_few marks place = (let c = count_by-le-length (λ (m : Bool). m) (drop place marks) in let l = length-drop place marks in omega (arith, c, l))
-
 pub count_none : (n : ℕ) (marks : List Bool) → marks ≡ replicate n false → count_from 0 marks ≡ 0
 count_none n marks e = ap (count_by (λ m. m)) e ∙ none n
   where
@@ -65,14 +62,6 @@ target_ahead : (slots : List Slot) (place : ℕ) (next target : Option ℕ) → 
 target_ahead slots place next None program accepted e = tt
 target_ahead slots place next (Some n) program accepted e =
     let f = (forward slots program accepted place n (subst (λ (to : List ℕ). Contains to n) e (Contains-append_right (option_to_list next) (n ∷ []) n (0, omega arith, refl)))).0 in omega (arith, f)
-
-pub marked_both : (marks : List Bool) (a b : List ℕ) → marked_all (marked_all marks a) b ≡ marked_all marks (a ++ b)
-marked_both marks [] b = refl
-marked_both marks (x ∷ a) b = marked_both (slice_set marks x true) a b
-
-pub length_marked : (marks : List Bool) (a : List ℕ) → length (marked_all marks a) ≡ length marks
-length_marked marks [] = refl
-length_marked marks (x ∷ a) = length_marked (slice_set marks x true) a ∙ length-set marks x true
 
 -- the count behind a slot once its edges are marked
 pub count_passed : (slots : List Slot) (place awaited others one two : ℕ) (next target : Option ℕ) (marks first second : List Bool) → IsProgram slots → flow_fault slots ≡ None → (option_to_list next ++ option_to_list target) ≡ successors slots place

@@ -13,9 +13,6 @@ same_totals a b p q r = λ i. record { total = p i; failed = q i; slow = r i }
 pub plus_nothing : (a : Totals) → plus a no_totals ≡ a
 plus_nothing a = same_totals (plus a no_totals) a (omega arith) (omega arith) (omega arith)
 
-pub nothing_plus : (a : Totals) → plus no_totals a ≡ a
-nothing_plus a = same_totals (plus no_totals a) a (omega arith) (omega arith) (omega arith)
-
 pub plus_assoc : (a b c : Totals) → plus (plus a b) c ≡ plus a (plus b c)
 plus_assoc a b c = same_totals (plus (plus a b) c) (plus a (plus b c)) (omega arith) (omega arith) (omega arith)
 
