@@ -6,27 +6,28 @@ ghost use Rattle.event_loop.specs.Numbers.{is_left};
 ghost use Rattle.event_loop.specs.Hubs.{HasNoOther, HasOneMore, IsFed};
 
 use crate::failure::ListenerFailed;
-use crate::hub::{Hub, close, longest_idle, make_room, take_in};
+use crate::hub::{Hub, close, longest_waiting, make_room, take_in};
 use crate::limits::{Limits, SharedCounts, is_left};
-use crate::patience::idle_deadline;
 use mio::unix::SourceFd;
 use mio::{Interest, Poll, Token};
 use std::alloc::Global;
-use std::io;
 use std::io::ErrorKind;
 use std::net::{TcpListener, TcpStream};
 use std::os::fd::AsRawFd;
+use std::{io, thread};
 
-/// For how many milliseconds a worker above its share lets others accept first.
-const TO_GIVE_WAY: u64 = 10;
+/// The listener among what is polled. Connections have their keys.
+pub(crate) const LISTENER: Token = Token(usize::MAX);
 
-/// How often in a row it does so at most: once more where a further connection comes meanwhile.
-const MOST_TIMES: u32 = 4;
+/// How often a worker above its share lets others accept first, while connections wait. Each time takes some microseconds,
+/// in which a worker that is free wakes up.
+const MOST_TIMES: u32 = 256;
 
-/// For how many milliseconds a worker waits where as many connections are open as may be, and none of its own is idle.
+/// For how many milliseconds a worker waits where as many connections are open as may be, and none of its own waits for its
+/// client.
 const TO_FIND_ROOM: u64 = 20;
 
-/// How many milliseconds lie between two looks at which worker has the connection that has been idle for longest, and how
+/// How many milliseconds lie between two looks at which worker has the connection that has waited for longest, and how
 /// often in a row a worker looks before it takes its own.
 const TO_LOOK_AGAIN: u64 = 1;
 
@@ -41,6 +42,28 @@ const LONGEST_WAIT: u64 = 1_000;
 /// Linux's error where a process has as many file descriptors as it may have (EMFILE).
 const EMFILE: i32 = 24;
 
+/// What a worker knows of the connections that wait at the listener.
+#[derive(Clone, Copy, Debug, PartialEq, Eq)]
+enum Queue {
+    /// None waits.
+    Empty,
+    /// It let others accept first, and the next poll says whether one still waits.
+    Asked,
+    /// One may wait.
+    Waiting,
+}
+
+/// What a worker does about a connection that may wait.
+#[derive(Clone, Copy)]
+enum Next {
+    /// Nothing for now.
+    Waits,
+    /// It lets others accept first.
+    GivesWay,
+    /// It accepts.
+    Accepts,
+}
+
 /// How a worker stands to its listener.
 #[derive(Drop)]
 pub(crate) struct Accepting {
@@ -50,14 +73,10 @@ pub(crate) struct Accepting {
     worker: usize,
     /// Why it accepts no more.
     pub(crate) failure: Option<ListenerFailed>,
-    /// Whether a connection may wait at the listener.
-    is_waiting: bool,
-    /// Whether it lets others accept the connection that waits, until which moment, and how often in a row it did. Where it
-    /// isn't above its share any more, it accepts at once.
-    has_given_way: bool,
-    gives_way_until: u64,
+    queue: Queue,
+    /// How often it let others accept first since it last found that no connection waits.
     gave_way: u32,
-    /// How often in a row it has looked in vain whether its own connection is the one that has been idle for longest.
+    /// How often in a row it has looked in vain whether its own connection is the one that has waited for longest.
     tries: u32,
     /// Before this moment it doesn't accept, in milliseconds of the system's clock.
     not_before: u64,
@@ -71,23 +90,17 @@ impl Accepting {
             number,
             worker,
             failure: None,
-            is_waiting: true,
-            has_given_way: false,
-            gives_way_until: 0,
+            queue: Queue::Waiting,
             gave_way: 0,
             tries: 0,
             not_before: 0,
         }
     }
 
-    /// Says that connections came to the listener. Others are to accept these first too, as far as the worker is above its
-    /// share: those who woke for a connection a moment ago may sleep again.
+    /// Says that a connection waits at the listener.
     pub(crate) fn wake(&mut self) {
-        self.is_waiting = true;
+        self.queue = Queue::Waiting;
         self.tries = 0;
-        if self.gave_way < MOST_TIMES {
-            self.has_given_way = false;
-        }
     }
 
     /// Whether it accepts further connections.
@@ -109,22 +122,16 @@ impl Accepting {
         Some(Ok(self.number))
     }
 
-    /// Whether it accepts a connection that waits.
-    fn goes_on(&self, limits: Limits) -> bool {
-        self.is_waiting && self.is_open(limits)
-    }
-
-    /// For how many milliseconds the worker may wait until it accepts.
+    /// For how many milliseconds the worker may wait until it accepts, or hears whether a connection waits.
     pub(crate) fn wait(&self, limits: Limits, now: u64) -> u64 {
-        if !self.goes_on(limits) {
+        if !self.is_open(limits) {
             return LONGEST_WAIT;
         }
-        let until = if self.has_given_way {
-            self.gives_way_until.max(self.not_before)
-        } else {
-            self.not_before
-        };
-        until.saturating_sub(now).min(LONGEST_WAIT)
+        match self.queue {
+            Queue::Empty => LONGEST_WAIT,
+            Queue::Asked => 0,
+            Queue::Waiting => self.not_before.saturating_sub(now).min(LONGEST_WAIT),
+        }
     }
 
     /// Waits for so many milliseconds before it accepts again.
@@ -132,31 +139,45 @@ impl Accepting {
         self.not_before = now.saturating_add(milliseconds);
     }
 
-    /// Whether it is to accept a connection now, where it has so many open. Above its share of all that are open, it lets
-    /// others accept first, and then takes a connection that still waits.
-    fn is_due(&mut self, limits: Limits, shared: &SharedCounts, own: u64, now: u64) -> bool {
-        if !self.goes_on(limits) || now < self.not_before {
-            return false;
-        }
-        if shared.is_above_share(own) {
-            if !self.has_given_way {
-                self.has_given_way = true;
-                self.gives_way_until = now.saturating_add(TO_GIVE_WAY);
-                self.gave_way = self.gave_way.saturating_add(1);
-            }
-            if now < self.gives_way_until {
-                return false;
-            }
-        }
-        self.has_given_way = false;
+    /// Says that no connection waits.
+    fn rest(&mut self) {
+        self.queue = Queue::Empty;
         self.gave_way = 0;
-        true
+    }
+
+    /// What it does now, where it has so many connections open. Above its share of all that are open it lets others accept
+    /// first, again and again while a connection waits, and then takes what still waits.
+    fn next(&mut self, shared: &SharedCounts, own: u64, now: u64) -> Next {
+        if self.queue == Queue::Asked {
+            // The poll behind the question has said nothing of the listener.
+            self.rest();
+        }
+        if self.queue == Queue::Empty || now < self.not_before {
+            return Next::Waits;
+        }
+        if self.gave_way < MOST_TIMES && shared.is_above_share(own) {
+            self.gave_way += 1;
+            return Next::GivesWay;
+        }
+        Next::Accepts
+    }
+
+    /// Lets others accept first, and has the next poll say whether a connection still waits. The worker doesn't sleep before.
+    fn give_way(&mut self, poll: &Poll, listener: &TcpListener) {
+        let fd = listener.as_raw_fd();
+        let asked = poll
+            .registry()
+            .reregister(&mut SourceFd(&fd), LISTENER, Interest::READABLE);
+        if asked.is_ok() {
+            self.queue = Queue::Asked;
+        }
+        thread::yield_now();
     }
 
     /// Takes an error of accepting. Answers whether the process has no file descriptor left.
     fn fail(&mut self, error: &io::Error, now: u64) -> bool {
         if error.kind() == ErrorKind::WouldBlock {
-            self.is_waiting = false;
+            self.rest();
             return false;
         }
         if error.kind() == ErrorKind::ConnectionAborted {
@@ -202,28 +223,28 @@ fn admit(
     take_in(hub, shared, alloc, stream, now);
 }
 
-/// Finds the connection that is to be closed for another one, if it is the worker's: the one that has been idle for
-/// longest among all. Where another worker may have that one, this worker looks again a moment later, and after some
+/// Finds the connection that is to be closed for another one, if it is the worker's: the one among all that has waited for
+/// its client for longest. Where another worker may have that one, this worker looks again a moment later, and after some
 /// milliseconds takes its own.
-fn find_idle(
+fn find_spare(
     hub: &Hub,
     shared: &SharedCounts,
     accepting: &mut Accepting,
     now: u64,
 ) -> Option<usize> {
-    let Some(idle) = longest_idle(hub) else {
-        shared.idle.tell(accepting.worker, idle_deadline(now));
+    let Some(waiting) = longest_waiting(hub) else {
+        shared.waits.tell(accepting.worker, now);
         accepting.pause(now, TO_FIND_ROOM);
         return None;
     };
-    shared.idle.tell(accepting.worker, idle.deadline);
-    if accepting.tries < MOST_TRIES && !shared.idle.is_earliest(idle.deadline) {
+    shared.waits.tell(accepting.worker, waiting.since);
+    if accepting.tries < MOST_TRIES && !shared.waits.is_earliest(waiting.since) {
         accepting.tries += 1;
         accepting.pause(now, TO_LOOK_AGAIN);
         return None;
     }
     accepting.tries = 0;
-    Some(idle.key)
+    Some(waiting.key)
 }
 
 /// The place of a connection among those that may be open.
@@ -231,7 +252,7 @@ fn find_idle(
 enum Room {
     /// One more may be open.
     Free,
-    /// It takes the place of the worker's connection under this key, which has been idle for longest.
+    /// It takes the place of the worker's connection under this key, which is closed for it.
     Of(usize),
     /// There is none.
     None,
@@ -248,7 +269,7 @@ fn find_room(
     if shared.enter(most) {
         return Room::Free;
     }
-    match find_idle(hub, shared, accepting, now) {
+    match find_spare(hub, shared, accepting, now) {
         Some(key) => Room::Of(key),
         None => Room::None,
     }
@@ -265,8 +286,8 @@ fn take_place(hub: &mut Hub, shared: &SharedCounts, room: Room)
     }
 }
 
-/// What follows where a connection can't be accepted: its place is free again. Without a file descriptor for it, the one
-/// that has been idle for longest is closed.
+/// What follows where a connection can't be accepted: its place is free again. Without a file descriptor for it, another one
+/// is closed, if one waits for its client.
 fn refuse(
     hub: &mut Hub,
     shared: &SharedCounts,
@@ -283,7 +304,7 @@ fn refuse(
     if !accepting.fail(error, now) {
         return;
     }
-    if let Some(key) = find_idle(hub, shared, accepting, now) {
+    if let Some(key) = find_spare(hub, shared, accepting, now) {
         close(hub, shared, key);
         accepting.pause(now, 0);
     }
@@ -303,11 +324,16 @@ pub(crate) fn accept_next(
     ensures { IsFed hub.old hub.new }
 {
     if !accepting.is_open(limits) {
-        shared.idle.leave(accepting.worker);
+        shared.waits.leave(accepting.worker);
         return;
     }
-    if !accepting.is_due(limits, shared, hub.count(), now) {
-        return;
+    match accepting.next(shared, hub.count(), now) {
+        Next::Waits => return,
+        Next::GivesWay => {
+            accepting.give_way(poll, listener);
+            return;
+        }
+        Next::Accepts => {}
     }
     let room = find_room(hub, shared, limits.most_open, accepting, now);
     if let Room::None = room {

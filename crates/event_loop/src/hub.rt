@@ -150,24 +150,24 @@ pub(crate) fn close(hub: &mut Hub, shared: &SharedCounts, key: usize)
     }
 }
 
-/// A connection that is idle.
+/// A connection that waits until its client sends, and since when.
 #[derive(Clone, Copy)]
-pub(crate) struct Idle {
+pub(crate) struct Waiting {
     pub(crate) key: usize,
-    pub(crate) deadline: u64,
+    pub(crate) since: u64,
 }
 
-/// The connection that has been idle for longest, if one is idle.
-pub(crate) fn longest_idle(hub: &Hub) -> Option<Idle> {
+/// The connection that has waited for its client for longest, if one waits: idle, or in the middle of a message, for which
+/// nothing was done.
+pub(crate) fn longest_waiting(hub: &Hub) -> Option<Waiting> {
     let mut found = None;
     let mut least = u64::MAX;
     for (key, one) in hub.connections.iter() {
-        if one.deadline < least && one.is_idle() {
-            least = one.deadline;
-            found = Some(Idle {
-                key,
-                deadline: least,
-            });
+        if let Some(since) = one.waits_since()
+            && since < least
+        {
+            least = since;
+            found = Some(Waiting { key, since });
         }
     }
     found

@@ -4,12 +4,12 @@
 mod accepting;
 mod failure;
 mod hub;
-mod idle;
 mod limits;
 mod linger;
 mod meeting;
 mod opened;
 mod patience;
+mod waits;
 mod working;
 
 pub use failure::ListenerFailed;

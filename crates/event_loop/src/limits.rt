@@ -2,8 +2,8 @@
 ghost use Rattle.std.specs.Prelude.{◌≡◌};
 ghost use Rattle.event_loop.specs.Numbers.{is_left};
 
-use crate::idle::IdleTable;
 use crate::meeting::Meeting;
+use crate::waits::Waits;
 use std::sync::atomic::{AtomicU64, Ordering};
 use std::time;
 
@@ -25,7 +25,7 @@ pub(crate) fn is_left(connections: u64, number: u64) -> bool
 
 /// What the workers of one listener share: how many numbers of connections were drawn, how many places are taken by
 /// connections that are open or about to be accepted, how many are open, how many workers began and how many are at work,
-/// and which of them has the connection that has been idle for longest.
+/// and which of them has the connection that has waited for its client for longest.
 #[derive(Drop)]
 pub struct SharedCounts {
     numbers: AtomicU64,
@@ -34,7 +34,7 @@ pub struct SharedCounts {
     begun: AtomicU64,
     workers: AtomicU64,
     meeting: Meeting,
-    pub(crate) idle: IdleTable,
+    pub(crate) waits: Waits,
 }
 
 impl SharedCounts {
@@ -47,7 +47,7 @@ impl SharedCounts {
             begun: AtomicU64::new(0),
             workers: AtomicU64::new(0),
             meeting: Meeting::new(workers),
-            idle: IdleTable::new(),
+            waits: Waits::new(),
         }
     }
 
@@ -61,7 +61,7 @@ impl SharedCounts {
     pub(crate) fn begin(&self, time: &impl time::Clock) -> usize {
         let worker = self.begun.fetch_add(1, Ordering::SeqCst);
         self.workers.fetch_add(1, Ordering::SeqCst);
-        self.idle.tell(worker as usize, 0);
+        self.waits.tell(worker as usize, 0);
         self.meeting.attend(time);
         worker as usize
     }

@@ -124,9 +124,28 @@ impl Opened {
         }
     }
 
-    /// Whether it is idle: it was given a turn, nothing of a message was there, and all is answered and sent.
+    /// Whether it waits until its client sends: it was given a turn, it has no more to do, and all that was whole is answered
+    /// and sent.
+    fn awaits_client(&self) -> bool {
+        !self.is_new
+            && !self.goes_on
+            && self.lingering.is_none()
+            && self.connection.phase() != Phase::Answer
+    }
+
+    /// Since when it waits until its client sends, if it does: since its last answer where it is idle, and since the first
+    /// byte of a message which isn't whole.
+    pub(crate) fn waits_since(&self) -> Option<u64> {
+        if self.awaits_client() {
+            Some(self.deadline.saturating_sub(patience(self.phase)))
+        } else {
+            None
+        }
+    }
+
+    /// Whether it is idle: it waits until its client sends, and nothing of a message is there.
     pub(crate) fn is_idle(&self) -> bool {
-        !self.is_new && self.lingering.is_none() && self.connection.phase() == Phase::Idle
+        self.awaits_client() && self.connection.phase() == Phase::Idle
     }
 
     /// Whether its deadline is over; where the worker is about to end, also whether it is idle.

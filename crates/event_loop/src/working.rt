@@ -4,7 +4,7 @@ ghost use Rattle.event_loop.specs.Failures.{IsOfListener};
 ghost use Rattle.event_loop.specs.Log.{HasServed};
 ghost use Rattle.event_loop.specs.Numbers.{is_left};
 
-use crate::accepting::{Accepting, accept_next};
+use crate::accepting::{Accepting, LISTENER, accept_next};
 use crate::failure::ListenerFailed;
 use crate::hub::{Hub, serve_key, sweep};
 use crate::limits::{Limits, SharedCounts};
@@ -18,9 +18,6 @@ use std::os::fd::AsRawFd;
 use std::sync::Wait;
 use std::time::Duration;
 use std::{io, mem, thread, time};
-
-/// The listener among what is polled. Connections have their keys.
-const LISTENER: Token = Token(usize::MAX);
 
 /// How many events one wait brings at most.
 const MOST_EVENTS: usize = 256;
@@ -92,8 +89,9 @@ fn moment_after(time: &impl time::Clock, before: u64) -> u64 {
 /// answers the number that was not left; the error says why the listener accepts no more. Where accepting fails for a
 /// reason that may pass, it accepts again a moment later. How a connection ends ends nothing else.
 ///
-/// No more than `limits.most_open` connections are open at once among all workers. Where they are, the one that has been
-/// idle for longest is closed for a new one, whichever worker serves it. One that is idle for 75 seconds is closed, and so is one whose
+/// No more than `limits.most_open` connections are open at once among all workers. Where they are, the one that has
+/// waited for its client for longest is closed for a new one, whichever worker serves it: it is idle since its last answer, or
+/// in the middle of a message, for which nothing was done. One that is idle for 75 seconds is closed, and so is one whose
 /// message isn't whole 20 seconds after its first byte, or whose answer isn't taken within 20 seconds.
 pub fn work<R: Wait + Net + time::Clock, S, P: Responder<S>, C: Clock>(
     rt: &R,

@@ -2,7 +2,7 @@
 #![tactic(auto)]
 
 use counted_io::Counted;
-use sidecar_server::{SystemClock, serve_path};
+use sidecar_server::{SystemClock, notify_lost_output, serve_path};
 use std::alloc::AllocError;
 use std::process::ExitCode;
 use std::{env, io};
@@ -38,6 +38,7 @@ fn main(rt: HostRuntime) -> ExitCode {
     if let ["serve", path] = *words.as_slice() {
         let mut clock = SystemClock::new(&rt);
         let end = serve_path(&rt, rt.alloc(), path, &mut out, &mut err, &mut clock);
+        notify_lost_output(end.status, &mut err);
         return ExitCode::from(end.status.code());
     }
     // Where this can't be written, the status says it all the same.

@@ -32,6 +32,16 @@ IsQuiet (status.Refused number) before after = ⊤
 IsQuiet status.ListenerFailed before after = ⊤
 IsQuiet other before after = IsNotice before after
 
+-- the line that says that standard output took no line, or not all of it
+abbrev pub lost_output_line : List ℕ
+lost_output_line = codes "standard output: a line couldn't be written" ++ 10 ∷ []
+
+-- what standard error has more behind a server that ended so: where a write or a flush failed, that line, or a beginning of it
+abbrev pub IsLossTold : ServerStatus → Option (List ℕ) → Option (List ℕ) → Type 0
+IsLossTold status.WriteFailed before after = AppendsPart before after lost_output_line
+IsLossTold status.FlushFailed before after = AppendsPart before after lost_output_line
+IsLossTold other before after = after ≡ before
+
 -- what a line left that couldn't be printed: a beginning of it, and not all of it, where a write failed, and the whole of it where it couldn't be flushed
 abbrev pub IsLineCut : ServerStatus → List ℕ → Option (List ℕ) → Option (List ℕ) → Type 0
 IsLineCut status.WriteFailed line before after = AppendsProperPart before after line

@@ -1,7 +1,7 @@
 //! Lines on standard output, each of which is printed at once, and the lines on standard error that say why.
 ghost use Rattle.std.specs.Prelude.{◌≡◌, IfErr, OnOk};
 ghost use Rattle.std.specs.Io.KnownBytes.{Appends};
-ghost use Rattle.server_lines.specs.Lines.{IsLineCut, IsRefused, IsQuiet, IsServerCause, status_of};
+ghost use Rattle.server_lines.specs.Lines.{IsLineCut, IsLossTold, IsRefused, IsQuiet, IsServerCause, status_of};
 
 use crate::status::ServerStatus;
 use counted_io::Counted;
@@ -9,6 +9,25 @@ use refusals::{RefusalNumber, RefusalText};
 use std::alloc::Global;
 use std::io;
 use std::io::Write;
+
+/// What is written on standard error where standard output takes no line.
+const LOST_OUTPUT: &str = "standard output: a line couldn't be written\n";
+
+/// Says on `err`, for people, that a line couldn't be written on standard output, where a server ended for that.
+pub fn notify_lost_output<E: Write>(status: ServerStatus, err: &mut Counted<E>)
+    // Where a write or a flush failed, `err` has as much of the line as could be written, and else nothing more.
+    ensures { IsLossTold status (E.contents err.old.inner) (E.contents err.new.inner) }
+{
+    match status {
+        ServerStatus::WriteFailed | ServerStatus::FlushFailed => {
+            let _sent = err.send(LOST_OUTPUT.as_bytes());
+        }
+        ServerStatus::Done
+        | ServerStatus::ListenerFailed
+        | ServerStatus::Refused(_)
+        | ServerStatus::OutOfMemory => {}
+    }
+}
 
 /// Prints a line at once.
 pub(crate) fn print<O: Write>(line: &str, out: &mut Counted<O>) -> Result<(), ServerStatus>

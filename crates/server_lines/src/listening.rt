@@ -6,18 +6,20 @@ ghost use Rattle.server_lines.specs.Lines.{IsListening, IsUnheard, IsRefused, Is
 use crate::lines::{print, refuse, refuse_for};
 use crate::status::ServerStatus;
 use counted_io::Counted;
+use mio::net;
 use refusals::RefusalNumber;
 use std::alloc::Global;
 use std::io;
 use std::io::Write;
 use std::net::{Net, SocketAddr, TcpListener, TcpStream};
 
-/// Listens on an address. Answers the address that is bound, with its port where the system chose it.
+/// Listens on an address, where as many connections may wait to be accepted as the system allows. Answers the address that
+/// is bound, with its port where the system chose it.
 fn bound<R>(rt: &R, address: SocketAddr) -> io::Result<(TcpListener, SocketAddr)>
 where
     R: Net<Listener = TcpListener, Stream = TcpStream>,
 {
-    let listener = TcpListener::bind(rt, address)?;
+    let listener = TcpListener::from(net::TcpListener::bind(rt, address)?);
     let address = listener.local_addr()?;
     Ok((listener, address))
 }

@@ -3,7 +3,7 @@
 
 use counted_io::Counted;
 use sidecar_commands::command;
-use sidecar_server::{SystemClock, serve_path};
+use sidecar_server::{SystemClock, notify_lost_output, serve_path};
 use std::alloc::AllocError;
 use std::io::BufReader;
 use std::process::ExitCode;
@@ -42,6 +42,7 @@ fn main(rt: HostRuntime) -> ExitCode {
         let mut err = Counted::new(rt.stderr());
         let mut clock = SystemClock::new(&rt);
         let end = serve_path(&rt, rt.alloc(), path, &mut out, &mut err, &mut clock);
+        notify_lost_output(end.status, &mut err);
         return ExitCode::from(end.status.code());
     }
     match run_command(&rt, &words) {

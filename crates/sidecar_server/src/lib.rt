@@ -11,5 +11,5 @@ mod pooling;
 mod serving;
 
 pub use clock::SystemClock;
-pub use server_lines::ServerStatus;
+pub use server_lines::{ServerStatus, notify_lost_output};
 pub use serving::{ServerEnd, serve_file, serve_path};

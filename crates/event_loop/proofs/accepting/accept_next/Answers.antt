@@ -2,8 +2,11 @@ use Rattle.std.proofs.Common.{inl}
 use Rattle.event_loop.proofs.Hubs.{no_other_same}
 use Rattle.event_loop.proofs.accepting.accept_next.Goals as goal
 
-pub returns-then-not-is_due : goal.returns-then-not-is_due
-returns-then-not-is_due c = (c.args.hub.now, no_other_same c.args.hub.now, inl (no_other_same c.args.hub.now))
+pub returns-in-Waits : goal.returns-in-Waits
+returns-in-Waits c = (c.args.hub.now, no_other_same c.args.hub.now, inl (no_other_same c.args.hub.now))
+
+pub returns-in-GivesWay : goal.returns-in-GivesWay
+returns-in-GivesWay c = (c.args.hub.now, no_other_same c.args.hub.now, inl (no_other_same c.args.hub.now))
 
 pub returns-in-None : goal.returns-in-None
 returns-in-None c = (c.args.hub.now, no_other_same c.args.hub.now, inl (no_other_same c.args.hub.now))
