@@ -10,6 +10,9 @@ CHOICE says what becomes of a call where the sidecar neither permits nor refuses
 answer in time, it has no such service, or its journal or its memory is full. With fail-open the call is made all the
 same, without a ticket; with fail-closed it isn't made.
 
+An acquire that isn't answered within a second is given up, and may be answered later: the client reads that answer when it
+comes, and releases its ticket, which would else keep its place for good.
+
 A call that the sidecar refuses isn't made, and the next one waits for a second: each acquire makes an entry of the
 journal, also where it is refused. It needs the package in contrib/client beside it, and Python's standard library.
 """

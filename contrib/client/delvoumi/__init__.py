@@ -22,7 +22,8 @@ from .errors import (
     TicketNotOpen,
     Trouble,
 )
-from .outcomes import Outcome, kind_of, outcome, outcome_of_response
+from .kinds import kind_of
+from .outcomes import Outcome, outcome, outcome_of_response
 from .sidecar import Report, Sidecar, Ticket
 
 __all__ = [

@@ -1,17 +1,20 @@
 """Guards calls: a ticket before the call, its end behind it, however the call ends."""
 
+import asyncio
 import enum
 import functools
 import inspect
 import logging
 import sys
+import threading
 import time
 from collections.abc import Callable, Mapping
 from types import TracebackType
 from typing import Any, ParamSpec, Self, TypeVar
 
 from .errors import BadOutcome, Refused, SidecarError, TicketLost, TicketNotOpen, Trouble
-from .outcomes import Outcome, kind_of, outcome, outcome_of_response
+from .kinds import kind_of
+from .outcomes import Outcome, outcome, outcome_of_response
 from .sidecar import SECONDS_OF_SIDECAR, Report, Sidecar, Ticket
 
 logger = logging.getLogger("delvoumi")
@@ -91,6 +94,8 @@ def breaker(address: str, service: str, choice: Choice | str, *, seconds: float 
 class Call:
     """One guarded call. As a context manager it acquires, and ends its ticket however the block ends.
 
+    By `async with` it does the same in `asyncio`, where threads ask the sidecar, so that the event loop goes on.
+
     | the block | the ticket is |
     |---|---|
     | told an outcome, by `outcome`, `raw_outcome` or `response`, whatever is raised behind it | reported with that |
@@ -110,15 +115,66 @@ class Call:
         self._took: int | None = None
         self._outcome: Mapping[str, Any] | None = None
         self._is_released = False
+        # In asyncio, of the thread that enters and the task that waits for it: who comes last ends a ticket in vain.
+        self._lock = threading.Lock()
+        self._is_entered = self._is_left = False
         self.ticket: Ticket | None = None
         self.trouble: SidecarError | None = None
         self.problem: SidecarError | None = None
         self.answer: Report | None = None
 
     def __enter__(self) -> Self:
+        return self._begin(sys.exc_info()[1])
+
+    def __exit__(
+        self, _kind: type[BaseException] | None, error: BaseException | None, _trace: TracebackType | None
+    ) -> None:
+        self._end(error)
+
+    async def __aenter__(self) -> Self:
+        try:
+            loop = asyncio.get_running_loop()
+        except RuntimeError:
+            raise RuntimeError("a call is guarded by `async with` in asyncio alone") from None
+        try:
+            await loop.run_in_executor(None, self._enter_in_thread, sys.exc_info()[1])
+        except (asyncio.CancelledError, GeneratorExit):
+            if self._leave():
+                threading.Thread(target=self._end, args=[None]).start()
+            raise
+        return self
+
+    async def __aexit__(
+        self, _kind: type[BaseException] | None, error: BaseException | None, _trace: TracebackType | None
+    ) -> None:
+        if self.ticket is None:
+            return
+        if self._took is None:
+            self._took = self._duration()
+        # The ticket is ended too where the task is cancelled meanwhile.
+        await asyncio.shield(asyncio.get_running_loop().run_in_executor(None, self._end, error))
+
+    def _enter_in_thread(self, before: BaseException | None) -> None:
+        """Enters the block, or leaves it at once where the task doesn't wait any more."""
+        self._begin(before)
+        with self._lock:
+            self._is_entered = True
+            is_left = self._is_left
+        if is_left:
+            self._end(None)
+
+    def _leave(self) -> bool:
+        """Gives up the block that is being entered. Returns whether the thread is through with that."""
+        self.release()
+        with self._lock:
+            self._is_left = True
+            return self._is_entered
+
+    def _begin(self, before: BaseException | None) -> Self:
+        """Asks for a ticket. An error that is handled already is none of this call."""
         if self._begun:
             raise RuntimeError("a Call guards one call: ask the breaker for another one")
-        self._before = sys.exc_info()[1]
+        self._before = before
         self._begun = time.monotonic()
         try:
             self.ticket = self._breaker.sidecar.acquire()
@@ -136,9 +192,8 @@ class Call:
                 self._release(self.ticket)
             raise
 
-    def __exit__(
-        self, _kind: type[BaseException] | None, error: BaseException | None, _trace: TracebackType | None
-    ) -> None:
+    def _end(self, error: BaseException | None) -> None:
+        """Ends the ticket by how the block ended."""
         if self.ticket is None:
             return
         if self._is_released or self._outcome is None and self._says_nothing(error):

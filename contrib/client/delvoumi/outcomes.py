@@ -1,6 +1,6 @@
 """The outcome of a call: what the classifier gets to judge."""
 
-from collections.abc import Iterable, Iterator
+from collections.abc import Iterable
 from typing import Any, Literal, TypedDict
 
 from .errors import BadOutcome
@@ -107,10 +107,12 @@ def _tag(tag: bytes) -> str:
 def outcome_of_response(response: Any, *, attempt: int | None = None) -> Outcome:
     """Returns the outcome of a response of `requests` or `httpx`: its status, its bytes, its method and its body.
 
-    The bytes of a body that is streamed and not read yet are what its field `Content-Length` says, if it has one."""
+    The bytes of a body that is streamed and not read yet are what its field `Content-Length` says, if it has one. A
+    body that ended before that many bytes is no whole answer: its connection was reset."""
     request = response.request
     body = _body_read(response)
     return outcome(
+        kind="reset" if body is not None and _is_cut_short(response) else "response",
         status=response.status_code,
         method=request.method,
         attempt=_attempt_of(response) if attempt is None else attempt,
@@ -132,6 +134,12 @@ def _body_read(response: Any) -> bytes | None:
     return body if isinstance(body, bytes) else None
 
 
+def _is_cut_short(response: Any) -> bool:
+    """Returns whether bytes of a body that was read are missing. With urllib3 before 2.0 `requests` raises nothing."""
+    left = getattr(getattr(response, "raw", None), "length_remaining", None)
+    return isinstance(left, int) and left > 0
+
+
 def _declared_length(headers: Any) -> int | None:
     """Returns what a message says of the length of its body."""
     told = headers.get("Content-Length")
@@ -144,42 +152,3 @@ def _bytes_of_request(request: Any) -> int | None:
     if declared is not None:
         return declared
     return 0 if getattr(request, "body", None) is None and not hasattr(request, "stream") else None
-
-
-def kind_of(error: BaseException, before: BaseException | None = None) -> Kind:
-    """Returns the kind of the outcome of a call that ended with an error.
-
-    Libraries wrap the error of the socket, so this looks at what the error was raised from too, as far as `before`:
-    the error that was handled already when the call began has nothing to do with it."""
-    errors = list(_chain(error, before))
-    for each in errors:
-        if isinstance(each, TimeoutError):
-            return "timeout"
-        if isinstance(each, ConnectionRefusedError):
-            return "refused"
-        if isinstance(each, (ConnectionResetError, ConnectionAbortedError, BrokenPipeError)):
-            return "reset"
-    return "timeout" if any(map(_is_timeout_of_library, errors)) else "error"
-
-
-def _is_timeout_of_library(error: BaseException) -> bool:
-    """Returns whether an error is a library's own for a time-out. One of urllib3 is by its class, but not in fact."""
-    libraries = ("requests.", "httpx", "httpcore", "urllib3.")
-    names = ("Timeout", "TimeoutException", "TimeoutError")
-    bases = [base for base in type(error).__mro__ if base.__module__.startswith(libraries)]
-    return any(base.__name__ in names for base in bases) and type(error).__name__ != "NewConnectionError"
-
-
-def _chain(error: BaseException, before: BaseException | None) -> Iterator[BaseException]:
-    """Yields an error and those that it was raised from or holds, each once."""
-    waiting: list[Any] = [error]
-    seen: set[int] = set() if before is None else {id(before)}
-    while waiting:
-        each = waiting.pop(0)
-        if not isinstance(each, BaseException) or id(each) in seen:
-            continue
-        seen.add(id(each))
-        yield each
-        waiting += [getattr(each, "reason", None), each.__cause__, *each.args]
-        if not each.__suppress_context__:
-            waiting.append(each.__context__)

@@ -413,12 +413,13 @@ class WhereConnectionsBreak(Case):
         self.breaker = self.breaker_at(self.relay.address, seconds=0.5)
 
     def test_a_silence_costs_nothing(self) -> None:
-        self.relay.silence = 0.1
+        # Far above the time that a busy machine takes for an answer.
+        self.relay.silence = 0.4
         for _ in range(2):
             with self.breaker.call() as call:
-                time.sleep(0.4)
+                time.sleep(0.7)
             self.assertEqual(call.result, "success")
-            time.sleep(0.4)
+            time.sleep(0.7)
         self.assertEqual(self.events(), ["acquire", "report"] * 2)
         self.assertGreater(self.relay.connections, 2)
 

@@ -14,11 +14,13 @@ from typing import Any
 from delvoumi.connection import Connection
 from delvoumi.errors import NoAnswer, NoService, TicketNotOpen, WithNumber, refusal
 
-from .files import Entry, Journal, time_of
+from .files import BadFile, Entry, Journal, time_of
 from .tickets import OpenTickets, open_tickets
 
 SECONDS_TO_ANSWER = 5.0
 ENTRIES_OF_A_PAGE = 100
+# As many entries as the sidecar holds of a service. An open ticket takes the room of the one that ends it.
+MOST_ENTRIES = 65_536
 # So many entries are written at a time: a disk may take longer to write durably than the sidecar to answer.
 ENTRIES_OF_A_BATCH = 10_000
 # Nor are entries read for longer before they are written.
@@ -62,12 +64,18 @@ class Service:
             number = page[-1]["number"] + 1
         return entries, True
 
-    def is_anew(self, last: Entry) -> bool:
-        """Returns whether the sidecar was started anew since an entry was kept."""
+    def is_anew(self, last: Entry, made: int) -> bool:
+        """Returns whether the sidecar, which has made so many entries, was started anew since an entry was kept."""
         entries = self.page(last["number"])
         if not entries:
-            return bool(self.ask("GET", "state")["entries"] < last["number"])
+            return made < int(last["number"])
         return bool(entries[0]["number"] == last["number"] and entries[0] != last)
+
+    def room(self) -> int:
+        """Returns for how many more entries the sidecar has room."""
+        state, entries = self.ask("GET", "state"), self.page(1)
+        held = int(state["entries"] - entries[0]["number"] + 1) if entries else 0
+        return max(0, MOST_ENTRIES - held - int(state["open"]))
 
 
 class ServiceKeeper:
@@ -83,21 +91,32 @@ class ServiceKeeper:
         self._next = 1
         # The batch that is being written.
         self._writing: tuple[Future[None], list[Entry]] | None = None
+        # How many entries had been made when the last turn began, and when that was; and how many come each second.
+        self._made = 0, 0.0
+        self.pace: float | None = None
+        # Whether the service is among those that are wanted, and whether the sidecar has none of its name.
+        self.is_wanted, self.is_missing = True, False
         self.kept = self.rolled = 0
         if self._journal.repaired:
             say(f"{service}: the last line was written in part: its {self._journal.repaired} bytes are taken off")
 
     def begin_turn(self, service: Service) -> None:
-        """Finds the entry with which a turn begins."""
-        if self._last is not None and service.is_anew(self._last):
+        """Finds the entry with which a turn begins, and how fast entries come. Raises NoService where there is none."""
+        self.kept = self.rolled = 0
+        made = int(service.ask("GET", "state")["entries"])
+        before, now = self._made, time.monotonic()
+        self.pace = (made - before[0]) / (now - before[1]) if before[1] and made >= before[0] else None
+        self._made = made, now
+        if self._last is not None and service.is_anew(self._last, made):
             self._say(f"{self.service}: the sidecar was started anew: its entries are numbered from 1 again")
             self._last = None
             self._tickets = OpenTickets()
         self._next = 1 if self._last is None else self._last["number"] + 1
 
     def keep_batch(self, service: Service, disk: Executor) -> bool:
-        """Reads a batch of entries, while the one before it is written, and has the disk write it. Returns whether there
-        may be more."""
+        """Reads a batch of entries, while the one before it is written, and has the disk write it.
+
+        Returns whether there may be more."""
         entries, has_more = service.batch(self._next)
         if self._writing is not None:
             self.roll(service)
@@ -159,23 +178,39 @@ class Keeper:
         except BlockingIOError:
             os.close(self._lock)
             raise FolderTaken(f"another keeper has {folder}") from None
-        self._address = address
-        self._keepers = [ServiceKeeper(folder, service, most_bytes, release_after, say) for service in services]
+        self._address, self._say = address, say
+        self._new: Callable[[str], ServiceKeeper] = lambda service: ServiceKeeper(
+            folder, service, most_bytes, release_after, say
+        )
+        self._keepers = {service: self._new(service) for service in services}
 
     def close(self) -> None:
         """Lets another keeper have the folder."""
         os.close(self._lock)
 
+    @property
+    def left_out(self) -> list[str]:
+        """The services of which the sidecar had none in the last turn."""
+        return [keeper.service for keeper in self._keepers.values() if keeper.is_missing]
+
+    def want(self, services: list[str]) -> None:
+        """Keeps these services from now on, and others that it kept as long as the sidecar has them."""
+        for service in services:
+            try:
+                self._keepers[service] = self._keepers.get(service) or self._new(service)
+            except (BadFile, OSError) as error:
+                self._say(f"{service}: it is left out: {error}")
+        for keeper in self._keepers.values():
+            keeper.is_wanted = keeper.service in services
+
     def turn(self) -> str:
         """Keeps all that is new, a batch of each service at a time, and returns how much that was."""
         connection = Connection(self._address, SECONDS_TO_ANSWER, reopened=False)
-        services = {keeper: Service(connection, keeper.service) for keeper in self._keepers}
+        services: dict[ServiceKeeper, Service] = {}
         with ThreadPoolExecutor(max_workers=1) as disk:
             try:
                 connection.open()
-                for keeper, service in services.items():
-                    keeper.kept = keeper.rolled = 0
-                    keeper.begin_turn(service)
+                services = self._begin_turn(connection)
                 left = list(services)
                 while left:
                     left = [keeper for keeper in left if keeper.keep_batch(services[keeper], disk)]
@@ -188,11 +223,62 @@ class Keeper:
                 for keeper in services:
                     with contextlib.suppress(OSError):
                         keeper.wait_for_disk()
-        told = (f"{keeper.service}: kept {keeper.kept} entries, rolled {keeper.rolled}" for keeper in self._keepers)
-        return "\n".join(told)
+        return "\n".join(f"{keeper.service}: kept {keeper.kept} entries, rolled {keeper.rolled}" for keeper in services)
+
+    def told_room(self) -> tuple[str, bool]:
+        """Returns how long the sidecar has room for entries, of the service where it is gone first.
+
+        Where no two turns were begun yet, that isn't known, and False is returned with it."""
+        connection = Connection(self._address, SECONDS_TO_ANSWER, reopened=False)
+        found = []
+        try:
+            connection.open()
+            for keeper in self._keepers.values():
+                if not keeper.is_missing:
+                    room = Service(connection, keeper.service).room()
+                    found.append((room / keeper.pace if keeper.pace else float("inf"), room, keeper))
+        except (NoAnswer, WithNumber) as error:
+            return f"how long the sidecar's room for entries lasts isn't known: {error}", False
+        finally:
+            connection.close()
+        if not found:
+            return "", False
+        seconds, room, keeper = min(found, key=lambda one: one[:2])
+        told = f"{keeper.service}: the sidecar has room for {room} more of {MOST_ENTRIES} entries"
+        if keeper.pace is None:
+            return f"{told}; how fast they come isn't known yet", False
+        return f"{told}, which lasts {span_of(seconds)} at {keeper.pace:.1f} entries a second", True
+
+    def _begin_turn(self, connection: Connection) -> dict[ServiceKeeper, Service]:
+        """Begins the turn of each service that the sidecar has, and says once which ones it hasn't."""
+        services = {}
+        for keeper in list(self._keepers.values()):
+            service = Service(connection, keeper.service)
+            try:
+                keeper.begin_turn(service)
+                services[keeper] = service
+                if keeper.is_missing:
+                    self._say(f"{keeper.service}: the sidecar has this service now: it is kept")
+                keeper.is_missing = False
+            except NoService:
+                if not keeper.is_wanted:
+                    self._say(f"{keeper.service}: neither the file nor the sidecar has this service any more")
+                    del self._keepers[keeper.service]
+                elif not keeper.is_missing:
+                    self._say(f"{keeper.service}: the sidecar has no service of this name: it is left out")
+                keeper.is_missing = True
+        return services
+
+
+def span_of(seconds: float) -> str:
+    """Returns a span of time for people."""
+    if seconds == float("inf"):
+        return "for ever"
+    for unit, name in ((86_400, "days"), (3_600, "hours"), (60, "minutes")):
+        if seconds >= 2 * unit:
+            return f"{seconds / unit:.0f} {name}"
+    return f"{seconds:.0f} seconds"
 
 
 # What ends a turn, and is made up for by the next one.
 TURN_FAILS = (NoAnswer, WithNumber, OSError)
-# What no later turn mends.
-NEVER_MENDED = (NoService,)

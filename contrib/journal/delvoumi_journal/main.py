@@ -1,15 +1,17 @@
 """The commands: keep, verify and show."""
 
 import argparse
-import json
 import signal
 import sys
 import threading
+import time
 from typing import Any
 
+from .deleting import Limits, delete_old
 from .files import BadFile
-from .keeper import NEVER_MENDED, TURN_FAILS, FolderTaken, Keeper
+from .keeper import TURN_FAILS, FolderTaken, Keeper
 from .reading import EVENTS, STATES, Filter, check, shown, time_told
+from .services import ServicesFile, checked
 
 MOST_MEGABYTES = 100
 
@@ -30,18 +32,19 @@ def above_zero(text: str) -> float:
     return number
 
 
-def services_of(words: argparse.Namespace) -> list[str]:
-    """Returns the names of the services, in their order: those of a file of `serve`, or those of the command line."""
-    if words.services_of is None:
-        return list(dict.fromkeys(words.service))
-    with open(words.services_of, encoding="utf-8") as file:
-        return [service["name"] for service in json.load(file)["services"]]
+def warn(text: str) -> None:
+    """Prints a line on standard error, or nothing where that can't be written."""
+    try:
+        print(f"journal: {text}", file=sys.stderr, flush=True)
+    except OSError:
+        pass
 
 
 def keep(words: argparse.Namespace) -> int:
     """Takes turns until a signal comes, or one turn."""
     is_over = threading.Event()
-    services = services_of(words)
+    file = ServicesFile(words.services_of) if words.services_of is not None else None
+    services = file.names if file else checked(words.service)
     if not services:
         print("journal: name a service, or --services-of FILE", file=sys.stderr)
         return 2
@@ -50,29 +53,75 @@ def keep(words: argparse.Namespace) -> int:
     for number in (signal.SIGTERM, signal.SIGINT):
         signal.signal(number, lambda *_: is_over.set())
     try:
-        return take_turns(keeper, words.every, is_over)
+        return take_turns(keeper, file, words, is_over)
     finally:
         keeper.close()
 
 
-def take_turns(keeper: Keeper, seconds: float | None, is_over: threading.Event) -> int:
+def take_turns(keeper: Keeper, file: ServicesFile | None, words: argparse.Namespace, is_over: threading.Event) -> int:
     """Takes one turn, or one after so many seconds each. A turn that was begun is ended."""
-    failure = ""
+    turns = Turns(keeper, file, words)
     while True:
+        turns.take()
+        if words.every is None or is_over.wait(words.every):
+            return int(words.every is None and bool(turns.failure or keeper.left_out))
+
+
+class Turns:
+    """Takes turns, and says what goes wrong, each thing once until it changes."""
+
+    def __init__(self, keeper: Keeper, file: ServicesFile | None, words: argparse.Namespace) -> None:
+        self._keeper, self._file, self._folder = keeper, file, words.folder
+        most_bytes = None if words.keep_megabytes is None else int(words.keep_megabytes * 1_000_000)
+        self._limits = Limits(words.keep_days, most_bytes)
+        self._is_only_one = words.every is None
+        self._is_pace_told = False
+        self._undeleted = ""
+        self.failure = ""
+
+    def take(self) -> None:
+        """Takes a turn."""
+        self._look_at_file()
+        self._delete()
         try:
-            told = keeper.turn()
-            if failure or seconds is None:
+            told = self._keeper.turn()
+            if told and (self.failure or self._is_only_one):
                 say(told)
-            failure = ""
-        except NEVER_MENDED as error:
-            print(f"journal: {error}", file=sys.stderr)
-            return 1
+            self.failure = ""
         except TURN_FAILS as error:
-            if str(error) != failure:
-                failure = str(error)
-                say(f"this turn failed: {failure}")
-        if seconds is None or is_over.wait(seconds):
-            return int(bool(failure) and seconds is None)
+            is_new = str(error) != self.failure
+            if isinstance(error, OSError) and (is_new or not self._is_pace_told):
+                self._tell_room(is_new)
+            self.failure = str(error)
+            if is_new:
+                say(f"this turn failed: {self.failure}")
+
+    def _look_at_file(self) -> None:
+        """Has other services kept where the file of the services changed."""
+        if self._file is None or not self._file.look():
+            return
+        if self._file.fault:
+            say(f"the services stay those from before: {self._file.fault}")
+        else:
+            say(f"the services of the file are {', '.join(self._file.names) or 'none'}")
+            self._keeper.want(self._file.names)
+
+    def _delete(self) -> None:
+        """Deletes what is too old or too much."""
+        try:
+            delete_old(self._folder, self._limits, int(time.time() * 1000), warn)
+            self._undeleted = ""
+        except OSError as error:
+            if str(error) != self._undeleted:
+                self._undeleted = str(error)
+                warn(f"an old file isn't deleted: {error}")
+
+    def _tell_room(self, is_new: bool) -> None:
+        """Tells how long the sidecar has room for what can't be written, and again once that is known."""
+        told, is_known = self._keeper.told_room()
+        if told and (is_new or is_known):
+            say(told)
+        self._is_pace_told = is_known
 
 
 def verify(words: argparse.Namespace) -> int:
@@ -121,6 +170,12 @@ def add_keep(commands: Any) -> None:
     )
     one.add_argument(
         "--megabytes", type=above_zero, default=MOST_MEGABYTES, help="a file of so many is rotated (%(default)s)"
+    )
+    one.add_argument(
+        "--keep-days", type=above_zero, metavar="N", help="deletes a rotated file whose last entry is older"
+    )
+    one.add_argument(
+        "--keep-megabytes", type=above_zero, metavar="N", help="deletes the oldest ones while all files have more"
     )
     one.add_argument(
         "--release-after", type=above_zero, metavar="SECONDS", help="releases tickets that are open for longer"

@@ -19,6 +19,7 @@ from collections.abc import Sequence
 from typing import Any
 
 import delvoumi
+from delvoumi_journal.deleting import Limits, delete_old
 from delvoumi_journal.files import BadFile, Journal, entries_in, files_of
 from delvoumi_journal.keeper import FolderTaken, Keeper
 from delvoumi_journal.main import main
@@ -99,7 +100,9 @@ class EntriesAreKept(WithServer):
         self.assertEqual((self.server.ask("GET", "state"), self.server.journal()), (before, []))
         self.assertEqual((self.numbers(), self.numbers("ship")), ([1, 2], [1]))
         self.assertEqual(self.keep("pay"), (0, ["pay: kept 0 entries, rolled 0"]))
-        self.assertEqual(self.keep("none"), (1, ["journal: 404 NoService"]))
+        missing = "none: the sidecar has no service of this name: it is left out"
+        self.assertEqual(self.keep("none", "pay"), (1, [missing, "pay: kept 0 entries, rolled 0"]))
+        self.assertEqual(self.keep("../none"), (1, ["journal: '../none' is no name of a service"]))
 
     def test_none_is_lost_or_twice_under_load_and_over_rotations(self) -> None:
         keeper = self.keeping(self.server.address, "--megabytes", "0.02")
@@ -155,8 +158,9 @@ class EntriesAreKept(WithServer):
             self.server.ask("POST", "reset")
         full = {"preexec_fn": lambda: resource.setrlimit(resource.RLIMIT_FSIZE, (250, 250))}
         status, lines = self.keep("pay", **full)
-        self.assertEqual((status, len(lines)), (1, 1))
-        self.assertRegex(lines[0], r"^this turn failed: \[Errno ")
+        room = "pay: the sidecar has room for 65531 more of 65536 entries; how fast they come isn't known yet"
+        self.assertEqual((status, len(lines), lines[0]), (1, 2, room))
+        self.assertRegex(lines[1], r"^this turn failed: \[Errno ")
         self.assertEqual((self.numbers(), len(self.server.journal())), ([], 5))
         self.assertEqual(self.keep("pay")[0], 0)
         self.assertEqual((self.numbers(), self.server.journal()), ([1, 2, 3, 4, 5], []))
@@ -257,9 +261,11 @@ class EntriesAreKept(WithServer):
         self.assertEqual(self.keep("pay", "--release-after", "0.01"), (0, ["pay: kept 2 entries, rolled 2"]))
 
     def test_an_interval_is_above_zero(self) -> None:
-        for word in ("--every", "--megabytes", "--release-after"):
+        for word in ("--every", "--megabytes", "--keep-days", "--keep-megabytes", "--release-after"):
             for number in ("0", "-1", "inf", "soon"):
-                self.assertEqual(self.keep("pay", word, number)[0], 2)
+                with self.assertRaises(SystemExit) as ended:
+                    run("keep", self.folder, self.server.address, "pay", word, number)
+                self.assertEqual(ended.exception.code, 2)
 
     def test_one_keeper_has_a_folder(self) -> None:
         keeper = Keeper(self.folder, self.server.address, ["pay"], 1, None, print)
@@ -267,6 +273,211 @@ class EntriesAreKept(WithServer):
         with self.assertRaises(FolderTaken):
             Keeper(self.folder, self.server.address, ["pay"], 1, None, print)
         self.assertEqual(self.keep("pay"), (1, [f"journal: another keeper has {self.folder}"]))
+
+
+class ItGoesOn(WithServer):
+    """A keeper of a file of services, whose sidecar is started anew with others."""
+
+    def setUp(self) -> None:
+        super().setUp()
+        self.file = f"{self.folder}/sidecar.json"
+        self.lines: list[str] = []
+
+    def settings(self, *services: str) -> None:
+        """Writes the file of the services."""
+        with open(f"{self.file}.new", "w", encoding="utf-8") as settings:
+            json.dump({"services": [{"name": name} for name in services]}, settings)
+        os.rename(f"{self.file}.new", self.file)
+
+    def begin(self, address: str, *words: str, **how: Any) -> subprocess.Popen[str]:
+        """Begins to keep, and to read what is said."""
+        command = [sys.executable, JOURNAL, "keep", self.folder, address, *words, "--every", "0.05"]
+        both = {"stdout": subprocess.PIPE, "stderr": subprocess.STDOUT, "text": True}
+        keeper = subprocess.Popen(["timeout", "60", *command], **both, **how)
+
+        def read() -> None:
+            assert keeper.stdout
+            for line in keeper.stdout:
+                self.lines.append(line.strip())
+
+        reader = threading.Thread(target=read)
+        reader.start()
+
+        def end() -> None:
+            keeper.terminate()
+            keeper.wait()
+            reader.join()
+            assert keeper.stdout
+            keeper.stdout.close()
+
+        self.addCleanup(end)
+        wait_for(lambda: os.path.exists(f"{self.folder}/.lock"), "the keeper has begun")
+        return keeper
+
+    def comes(self, line: str) -> None:
+        """Waits for a line."""
+        wait_for(lambda: line in self.lines, f"{line!r} is said, behind {self.lines}")
+
+    def test_where_a_service_is_gone_and_another_one_comes(self) -> None:
+        self.settings("pay", "ship")
+        relay = Relay(self.server)
+        self.addCleanup(relay.close)
+        keeper = self.begin(relay.address, "--services-of", self.file)
+        self.server.ask("POST", "reset", service="ship")
+        wait_for(lambda: self.numbers("ship") == [1], "an entry of ship is kept")
+        with Server([{"name": "pay"}, {"name": "fresh"}]) as other:
+            relay.target = other.address
+            self.comes("ship: the sidecar has no service of this name: it is left out")
+            other.ask("POST", "reset")
+            wait_for(lambda: self.numbers() == [1], "an entry of pay is kept")
+            self.settings("pay", "fresh", "later")
+            self.comes("the services of the file are pay, fresh, later")
+            self.comes("ship: neither the file nor the sidecar has this service any more")
+            self.comes("later: the sidecar has no service of this name: it is left out")
+            other.ask("POST", "reset", service="fresh")
+            wait_for(lambda: self.numbers("fresh") == [1], "an entry of fresh is kept")
+            self.assertIsNone(keeper.poll())
+        with Server([{"name": "pay"}, {"name": "fresh"}, {"name": "later"}]) as third:
+            relay.target = third.address
+            self.comes("later: the sidecar has this service now: it is kept")
+            third.ask("POST", "reset", service="later")
+            wait_for(lambda: self.numbers("later") == [1], "an entry of later is kept")
+        self.assertEqual([self.lines.count(line) for line in self.lines if "left out" in line], [1, 1])
+
+    def test_a_service_that_the_file_has_no_more_is_kept_while_the_sidecar_has_it(self) -> None:
+        self.settings("pay", "ship")
+        self.begin(self.server.address, "--services-of", self.file)
+        self.settings("pay")
+        self.comes("the services of the file are pay")
+        self.server.ask("POST", "reset", service="ship")
+        wait_for(lambda: self.numbers("ship") == [1], "an entry of ship is kept")
+
+    def test_a_mistake_in_the_file_keeps_the_services(self) -> None:
+        self.settings("pay")
+        keeper = self.begin(self.server.address, "--services-of", self.file)
+        for text, fault in (
+            ('{"services": [', "Expecting value: line 1 column 15 (char 14)"),
+            ('{"services": [{"nome": "pay"}]}', None),
+            ('{"services": [{"name": "../pay"}]}', "'../pay' is no name of a service"),
+        ):
+            with open(self.file, "w", encoding="utf-8") as settings:
+                settings.write(text)
+            told = f"{self.file} has no services with names" if fault is None else f"{self.file}: {fault}"
+            self.comes(f"the services stay those from before: {told}")
+        os.unlink(self.file)
+        self.comes(f"the services stay those from before: [Errno 2] No such file or directory: '{self.file}'")
+        self.server.ask("POST", "reset")
+        wait_for(lambda: self.numbers() == [1], "an entry of pay is kept")
+        self.settings("ship", "pay")
+        self.comes("the services of the file are ship, pay")
+        self.server.ask("POST", "reset", service="ship")
+        wait_for(lambda: self.numbers("ship") == [1], "an entry of ship is kept")
+        self.assertIsNone(keeper.poll())
+        self.assertEqual(len(self.lines), len(set(self.lines)))
+
+    def test_a_file_that_is_wrong_at_first_is_refused(self) -> None:
+        with open(self.file, "w", encoding="utf-8") as settings:
+            settings.write('{"services": 5}')
+        told = f"journal: {self.file} has no services with names"
+        self.assertEqual(self.keep("--services-of", self.file), (1, [told]))
+
+    def test_a_full_disk_is_told_with_how_long_the_room_lasts(self) -> None:
+        for _ in range(5):
+            self.server.ask("POST", "reset")
+        full = {"preexec_fn": lambda: resource.setrlimit(resource.RLIMIT_FSIZE, (250, 250))}
+        self.begin(self.server.address, "pay", **full)
+        unknown = "pay: the sidecar has room for 65531 more of 65536 entries; how fast they come isn't known yet"
+        self.comes(unknown)
+        wait_for(lambda: len(self.lines) > 1, "that the turn failed is said")
+        self.assertEqual(self.lines[0], unknown)
+        self.assertRegex(self.lines[1], r"^this turn failed: \[Errno ")
+        wait_for(lambda: len(self.lines) > 2, "how long the room lasts is said")
+        known = "pay: the sidecar has room for 65531 more of 65536 entries, which lasts for ever at 0.0 entries"
+        self.assertEqual(self.lines[2], f"{known} a second")
+        time.sleep(0.3)
+        self.assertEqual((len(self.lines), len(self.server.journal())), (3, 5))
+
+    def test_the_room_lasts_by_the_pace_between_turns(self) -> None:
+        keeper = Keeper(self.folder, self.server.address, ["pay", "ship"], 1_000_000, None, print)
+        self.addCleanup(keeper.close)
+        with unittest.mock.patch("delvoumi_journal.keeper.time.monotonic", lambda: clock[0]):
+            clock = [1_000.0]
+            keeper.turn()
+            clock[0] += 2.0
+            for _ in range(20):
+                self.server.ask("POST", "reset", service="ship")
+            self.server.ask("POST", "acquire", service="ship")
+            keeper.turn()
+        for _ in range(34):
+            self.server.ask("POST", "reset", service="ship")
+        # A tenth of a second for each entry: one ticket is open, and 34 entries are held.
+        told = "ship: the sidecar has room for 65501 more of 65536 entries, which lasts 104 minutes at 10.5 entries"
+        self.assertEqual(keeper.told_room(), (f"{told} a second", True))
+
+
+class OldFilesAreDeleted(Case):
+    """Three days of two services, of which each day's file is rotated with the next one."""
+
+    def setUp(self) -> None:
+        super().setUp()
+        for service in ("pay", "ship"):
+            journal = Journal(self.folder, service, 1_000_000)
+            for day in range(4):
+                journal.append([entry(day + 1, day * DAY + (5 if service == "ship" else 0))])
+        for name in ("pay.txt.gz", "pay.19700101.jsonl.gz", "pay.jsonl.bak", "other.jsonl.gz"):
+            with open(f"{self.folder}/{name}", "w", encoding="utf-8") as file:
+                file.write("no file of a keeper")
+        self.said: list[str] = []
+
+    def left(self, days: float | None, most_bytes: int | None, now: int) -> list[list[int]]:
+        """Deletes, and returns which entries of each service are left."""
+        delete_old(self.folder, Limits(days, most_bytes), now, self.said.append)
+        return [self.numbers_of(service) for service in ("pay", "ship")]
+
+    def numbers_of(self, service: str) -> list[int]:
+        names = [name for name in files_of(self.folder, service) if name != f"{self.folder}/pay.19700101.jsonl.gz"]
+        return [each["number"] for name in names if "txt" not in name for each in entries_in(name)]
+
+    def test_by_age(self) -> None:
+        self.assertEqual(self.left(None, None, 9 * DAY), [[1, 2, 3, 4], [1, 2, 3, 4]])
+        self.assertEqual(self.left(2, None, 3 * DAY + 2), [[3, 4], [2, 3, 4]])
+        first = "19700101T000000.000000Z.00000000000000000001.jsonl.gz: its last entry is older than 2 days"
+        self.assertEqual(self.said[0], f"deleted pay.{first}")
+        self.assertEqual([line.split(".")[0] for line in self.said], ["deleted pay", "deleted ship", "deleted pay"])
+        self.assertEqual(self.left(0.5, None, 3 * DAY + 2), [[4], [4]])
+        self.assertEqual(self.left(0.5, None, 9 * DAY), [[4], [4]])
+        others = {"pay.txt.gz", "pay.19700101.jsonl.gz", "pay.jsonl.bak", "other.jsonl.gz"}
+        self.assertEqual(set(os.listdir(self.folder)), {"pay.jsonl", "ship.jsonl", *others})
+
+    def test_by_size_the_oldest_first_of_all_services(self) -> None:
+        sizes = {name: os.path.getsize(name) for service in ("pay", "ship") for name in files_of(self.folder, service)}
+        for other in ("pay.19700101.jsonl.gz", "pay.txt.gz"):
+            sizes.pop(f"{self.folder}/{other}", None)
+        total = sum(sizes.values())
+        self.assertEqual(self.left(None, total, 9 * DAY), [[1, 2, 3, 4], [1, 2, 3, 4]])
+        self.assertEqual(self.left(None, total - 1, 9 * DAY), [[2, 3, 4], [1, 2, 3, 4]])
+        self.assertRegex(self.said[0], r"^deleted pay\.19700101T.*: all files have more than 0\.\d+ megabytes$")
+        self.assertEqual(self.left(None, 1, 9 * DAY), [[4], [4]])
+
+    def test_the_last_file_of_a_service_stays(self) -> None:
+        os.unlink(f"{self.folder}/pay.jsonl")
+        self.assertEqual(self.left(1, 1, 99 * DAY), [[3], [4]])
+        self.assertEqual(Journal(self.folder, "pay", 1).last, entry(3, 2 * DAY))
+
+
+class OldFilesAreDeletedByAKeeper(WithServer):
+    def test_while_it_keeps(self) -> None:
+        journal = Journal(self.folder, "pay", 1)
+        for number in range(1, 4):
+            journal.append([entry(number, number)])
+        self.server.ask("POST", "reset")
+        command = [sys.executable, JOURNAL, "keep", self.folder, self.server.address, "pay", "--keep-days", "1"]
+        ran = subprocess.run(command, timeout=60, capture_output=True, text=True, check=False)
+        self.assertEqual(ran.returncode, 0)
+        self.assertEqual(ran.stdout.splitlines()[-1], "pay: kept 1 entries, rolled 1")
+        deleted = [line.split(".")[0] for line in ran.stderr.splitlines()]
+        self.assertEqual(deleted, ["journal: deleted pay"] * 2)
+        self.assertEqual(self.numbers(), [3, 1])
 
 
 class FilesAreRotated(Case):

@@ -78,6 +78,12 @@ class Metrics(Collector):
         missed = CounterMetricFamily("delvoumi_missed_entries", "Entries that were not seen", labels=["name"])
         restarts = CounterMetricFamily("delvoumi_restarts", "Restarts of the sidecar", labels=["name"])
         is_up = GaugeMetricFamily("delvoumi_up", "Whether the service could be asked", labels=["name"])
+        missing = GaugeMetricFamily(
+            "delvoumi_service_missing", "Whether the sidecar answers that it has no such service", labels=["name"]
+        )
+        held = GaugeMetricFamily(
+            "delvoumi_journal_held_entries", "Entries that the sidecar holds, 65536 at most", labels=["name"]
+        )
         tickets = GaugeMetricFamily("delvoumi_open_tickets", "Open tickets", labels=["name"])
         version = GaugeMetricFamily("delvoumi_classifier_version", "The current version", labels=["name"])
         budget = GaugeMetricFamily("delvoumi_classifier_budget", "The most steps that it takes", labels=["name"])
@@ -93,7 +99,10 @@ class Metrics(Collector):
             missed.add_metric([service.name], service.missed)
             restarts.add_metric([service.name], service.restarts)
             is_up.add_metric([service.name], float(not service.trouble))
+            missing.add_metric([service.name], float(service.is_missing))
             if service.state is not None and not service.trouble:
+                held.add_metric([service.name], service.held)
                 for metric, key in ((tickets, "open"), (version, "version"), (budget, "budget"), (period, "period")):
                     metric.add_metric([service.name], service.state[key])
-        return [full, fates, entries, changes, missed, restarts, is_up, tickets, version, budget, period]
+        counts = [full, fates, entries, changes, missed, restarts]
+        return [*counts, is_up, missing, held, tickets, version, budget, period]

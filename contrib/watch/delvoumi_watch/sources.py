@@ -17,6 +17,8 @@ class Source(Protocol):
 
     missed: int
     runs: int
+    # Whether all entries were taken that were made before, and are not missed.
+    is_whole: bool
 
     def take(self) -> list[Entry]:
         """Returns the entries that are new."""
@@ -30,9 +32,11 @@ class Pages:
         self._last: Entry | None = None
         self.missed = 0
         self.runs = 1
+        self.is_whole = False
 
     def take(self) -> list[Entry]:
         self._notice_restart()
+        self.is_whole = False
         entries: list[Entry] = []
         while len(entries) < ENTRIES_OF_A_TURN:
             number = 1 if self._last is None else self._last["number"] + 1
@@ -43,6 +47,7 @@ class Pages:
                 self._last = page[-1]
                 entries += page
             if len(page) < ENTRIES_OF_A_PAGE:
+                self.is_whole = True
                 break
         if self._rolls and entries:
             self._sidecar.ask("POST", "roll", {"to": entries[-1]["number"]})
@@ -71,6 +76,8 @@ class Files:
         self._last: Entry | None = None
         self.missed = 0
         self.runs = 1
+        # The keeper may be behind the sidecar.
+        self.is_whole = False
 
     def take(self) -> list[Entry]:
         found: list[Entry] = []

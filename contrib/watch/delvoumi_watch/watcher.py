@@ -5,11 +5,11 @@ import threading
 from collections import deque
 from collections.abc import Iterator
 
-from delvoumi import Sidecar, SidecarError
+from delvoumi import NoService, Sidecar, SidecarError
 from delvoumi.connection import Connection
 from delvoumi_journal.files import BadFile, Entry
 
-from .service import Thresholds, Watched
+from .service import MISSING, Thresholds, Watched
 from .sources import Files, Pages, Source
 
 SECONDS_TO_ANSWER = 5.0
@@ -91,6 +91,9 @@ class Watcher:
         for service in self.services:
             try:
                 self._ask(service)
+            except NoService:
+                with self.lock:
+                    service.note_trouble("the sidecar has no service of this name", MISSING)
             except (SidecarError, BadFile, OSError) as trouble:
                 with self.lock:
                     service.note_trouble(str(trouble))
@@ -122,10 +125,14 @@ class Watcher:
             for entry in entries:
                 service.note_entry(entry)
             service.note_source(source.missed, source.runs)
+            if source.is_whole:
+                service.note_all_seen()
         self.events.add(service.name, entries)
-        state = self._sidecars[service.name].state()
+        sidecar = self._sidecars[service.name]
+        state, first = sidecar.state(), sidecar.page(1)[:1]
+        held = max(0, state["entries"] - first[0]["number"] + 1) if first else 0
         with self.lock:
-            service.note_reading(state)
+            service.note_reading(state, held)
 
 
 def source_of(sidecar: Sidecar, folder: str | None, rolls: bool) -> Source:

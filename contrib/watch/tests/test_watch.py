@@ -21,9 +21,11 @@ from delvoumi_watch.service import Thresholds
 from delvoumi_watch.sources import Files
 from delvoumi_watch.watcher import Watcher
 from prometheus_client.parser import text_string_to_metric_families
-from testbed import NOBODY, TOP, Server, wait_for
+from testbed import NOBODY, TOP, Relay, Server, wait_for
 
 WATCH = f"{TOP}/contrib/watch/watch"
+ALERTS = f"{TOP}/contrib/watch/alerts.yml"
+NO_PROMTOOL = "there is no promtool here: Debian has it in the package prometheus"
 INTERVAL = 0.5
 PICTURES = os.environ.get("WATCH_PICTURES")
 BREAKER = "resilience4j_circuitbreaker"
@@ -166,6 +168,84 @@ class MetricsCount(Case):
         self.assertEqual((up["delvoumi_up"], up["delvoumi_restarts_total"]), (1, 1))
         self.assertEqual(up[f"{BREAKER}_calls_total successful"], 2)
 
+    def test_changes_in_the_order_of_the_entries_where_a_keeper_is_behind(self) -> None:
+        keeper = Keeper(self.folder, self.server.address, ["pay"], 1_000_000, None, print)
+        self.addCleanup(keeper.close)
+        watcher = self.watcher(folder=self.folder)
+        self.call(200)
+        keeper.turn()
+        self.counted(watcher)
+        for number in range(1, 4):
+            self.call(200)
+            self.server.move("FORCED_OPEN")
+            # The reading is newer than the entries that come with the next look.
+            self.assertEqual(self.counted(watcher)[f"{BREAKER}_state forced_open"], 1)
+            self.assertEqual(self.shown_states(watcher)[-1], "FORCED_OPEN")
+            keeper.turn()
+            found = self.counted(watcher)
+            self.assertEqual(found["delvoumi_state_changes_total forced_open"], number)
+            self.assertEqual(found["delvoumi_state_changes_total closed"], number)
+            self.server.ask("POST", "reset")
+            self.counted(watcher)
+            keeper.turn()
+        found = self.counted(watcher)
+        changes = found["delvoumi_state_changes_total forced_open"], found["delvoumi_state_changes_total closed"]
+        self.assertEqual((changes, self.shown_states(watcher)), ((3, 4), ["CLOSED", "FORCED_OPEN"] * 3 + ["CLOSED"]))
+
+    def test_an_answer_that_is_missing_is_no_change_of_state(self) -> None:
+        relay = Relay(self.server)
+        self.addCleanup(relay.close)
+        watcher = Watcher(relay.address, {"pay": None})
+        self.addCleanup(watcher.close)
+        self.counted(watcher)
+        for _ in range(3):
+            relay.lose_answer_to = b"/state"
+            self.counted(watcher)
+            self.assertEqual(self.shown_states(watcher)[-1], "")
+            found = self.counted(watcher)
+        self.assertEqual(found["delvoumi_state_changes_total closed"], 1)
+        self.assertEqual(self.shown_states(watcher), ["CLOSED", ""] * 3 + ["CLOSED"])
+
+    def test_a_change_that_no_entry_tells_is_counted_behind_the_entries_before_it(self) -> None:
+        keeper = Keeper(self.folder, self.server.address, ["pay"], 1_000_000, None, print)
+        self.addCleanup(keeper.close)
+        watcher = self.watcher(folder=self.folder)
+        self.server.move("FORCED_OPEN")
+        self.server.ask("POST", "acquire")
+        # A cut makes no entry, and closes the breaker.
+        keeper.turn()
+        self.server.ask("POST", "cut")
+        self.counted(watcher)
+        found = self.counted(watcher)
+        changes = found["delvoumi_state_changes_total forced_open"], found["delvoumi_state_changes_total closed"]
+        self.assertEqual((changes, self.shown_states(watcher)), ((1, 1), ["FORCED_OPEN", "CLOSED"]))
+
+    def shown_states(self, watcher: Watcher) -> list[str]:
+        return [change["state"] for change in watcher.services[0].shown()["changes"]]
+
+    def test_entries_that_are_held(self) -> None:
+        watcher = self.watcher()
+        for _ in range(130):
+            self.server.ask("POST", "reset")
+        self.assertEqual(self.counted(watcher)["delvoumi_journal_held_entries"], 130)
+        self.server.ask("POST", "roll", {"to": 25})
+        self.assertEqual(self.counted(watcher)["delvoumi_journal_held_entries"], 105)
+        self.server.ask("POST", "roll", {"to": 130})
+        self.assertEqual(self.counted(watcher)["delvoumi_journal_held_entries"], 0)
+
+    def test_a_service_that_is_missing_is_none_that_is_away(self) -> None:
+        with Server([{"name": "ship"}]) as other:
+            watcher = Watcher(other.address, {"pay": None, "ship": None})
+            self.addCleanup(watcher.close)
+            found = self.counted(watcher)
+            self.assertEqual((found["delvoumi_up"], found["delvoumi_service_missing"]), (0, 1))
+            shown = watcher.services[0].shown()
+            self.assertEqual((shown["trouble"], shown["missing"]), ("the sidecar has no service of this name", True))
+            self.assertEqual(watcher.services[1].trouble, "")
+        found = self.counted(watcher)
+        self.assertEqual((found["delvoumi_up"], found["delvoumi_service_missing"]), (0, 0))
+        self.assertEqual(self.shown_states(watcher), ["MISSING", ""])
+
     def test_it_takes_one_connection(self) -> None:
         with Server(SERVICES, workers=1) as narrow:
             watcher = Watcher(narrow.address, {"pay": None, "ship": None})
@@ -174,7 +254,7 @@ class MetricsCount(Case):
             self.assertEqual([service.trouble for service in watcher.services], ["", ""])
             watcher.close()
 
-    @unittest.skipUnless(shutil.which("promtool"), "there is no promtool here: Debian has it in the package prometheus")
+    @unittest.skipUnless(shutil.which("promtool"), NO_PROMTOOL)
     def test_promtool_takes_them(self) -> None:
         self.some_calls()
         watcher = self.watcher()
@@ -182,6 +262,25 @@ class MetricsCount(Case):
         given = Metrics(watcher).text()
         ran = subprocess.run(["promtool", "check", "metrics"], input=given, capture_output=True, check=False)
         self.assertEqual((ran.returncode, ran.stderr, ran.stdout), (0, b"", b""))
+
+
+class AlertRules(Case):
+    def test_they_are_over_metrics_that_are_there(self) -> None:
+        watcher = self.watcher()
+        watcher.turn()
+        metrics = Metrics(watcher).text().decode()
+        exported = {sample.name for family in text_string_to_metric_families(metrics) for sample in family.samples}
+        with open(ALERTS, encoding="utf-8") as file:
+            cited = set(re.findall(r"(?:resilience4j|delvoumi)_\w+", file.read()))
+        self.assertGreater(len(cited), 9)
+        self.assertEqual(cited - exported, set())
+
+    @unittest.skipUnless(shutil.which("promtool"), NO_PROMTOOL)
+    def test_promtool_takes_them_and_they_fire_where_they_should(self) -> None:
+        tests = f"{TOP}/contrib/watch/tests/alerts_test.yml"
+        for words in (["check", "rules", ALERTS], ["test", "rules", tests]):
+            ran = subprocess.run(["promtool", *words], capture_output=True, text=True, timeout=60, check=False)
+            self.assertEqual((ran.returncode, ran.stderr), (0, ""), ran.stdout)
 
 
 class FilesAreFollowed(unittest.TestCase):
@@ -211,18 +310,23 @@ class WithWeb(Case):
         file = f"{self.folder}/sidecar.json"
         with open(file, "w", encoding="utf-8") as settings:
             json.dump({"services": SERVICES}, settings)
-        words = [self.server.address, "--services-of", file, "--listen", "127.0.0.1:0", "--every", str(INTERVAL)]
-        command = ["timeout", "120", sys.executable, WATCH, *words]
-        self.process = subprocess.Popen(command, stdout=subprocess.PIPE, text=True)
-        self.addCleanup(self.end)
-        assert self.process.stdout
-        self.url = self.process.stdout.readline().split()[-1]
+        self.url = self.watching("--services-of", file)
 
-    def end(self) -> None:
-        self.process.terminate()
-        self.assertEqual(self.process.wait(20), 0)
-        assert self.process.stdout
-        self.process.stdout.close()
+    def watching(self, *words: str) -> str:
+        """Starts a watcher, which ends with the test, and returns where it is asked."""
+        words = (self.server.address, *words, "--listen", "127.0.0.1:0", "--every", str(INTERVAL))
+        command = ["timeout", "120", sys.executable, WATCH, *words]
+        process = subprocess.Popen(command, stdout=subprocess.PIPE, text=True)
+
+        def end() -> None:
+            process.terminate()
+            self.assertEqual(process.wait(20), 0)
+            assert process.stdout
+            process.stdout.close()
+
+        self.addCleanup(end)
+        assert process.stdout
+        return process.stdout.readline().split()[-1]
 
     def get(self, path: str) -> str:
         with urllib.request.urlopen(self.url + path, timeout=10) as answer:
@@ -306,6 +410,14 @@ class ThePageShows(WithWeb):
             self.within_two_intervals(browser, "pay", "NO ANSWER")
         print(f"watch: the slowest change was shown after {self.slowest:.1f} s, at an interval of {INTERVAL} s")
 
+    def test_a_service_that_is_missing(self) -> None:
+        url = self.watching("pay", "none")
+        with chromium.Chromium(1280, 900, "light") as browser:
+            browser.open(url)
+            wait_for(lambda: self.shown(browser, "none") == "NO SUCH SERVICE", "the missing service is told")
+            self.assertEqual(self.shown(browser, "none", ".about"), "the sidecar has no service of this name")
+            self.assertEqual(self.shown(browser, "pay"), "CLOSED")
+
     def test_on_each_screen_in_dark_and_light(self) -> None:
         self.some_history()
         for name, width, height, scheme in [
@@ -350,6 +462,19 @@ class TheCommand(Case):
         self.assertEqual((ran.returncode, samples_of(ran.stdout.decode())[f"{BREAKER}_state closed"]), (0, 1))
         ran = subprocess.run([sys.executable, WATCH, NOBODY, "pay", "--once"], capture_output=True, timeout=30)
         self.assertEqual((ran.returncode, samples_of(ran.stdout.decode())["delvoumi_up"]), (1, 0))
+
+    def test_a_library_that_is_missing_is_named(self) -> None:
+        with open(f"{self.folder}/sitecustomize.py", "w", encoding="utf-8") as file:
+            file.write("import sys\nsys.modules['prometheus_client'] = None\n")
+        ran = subprocess.run(
+            [sys.executable, WATCH, self.server.address, "pay", "--once"],
+            env={**os.environ, "PYTHONPATH": self.folder},
+            capture_output=True,
+            text=True,
+            timeout=30,
+        )
+        told = "watch: prometheus_client is missing: apt-get install python3-prometheus-client, or pip install it\n"
+        self.assertEqual((ran.returncode, ran.stdout, ran.stderr), (1, "", told))
 
 
 if __name__ == "__main__":

@@ -21,12 +21,15 @@ function drawn(name, attributes) {
   return element;
 }
 
+/** What is no state: the sidecar doesn't answer, or it has no such service. */
+const NO_STATES = { "": "NO ANSWER", MISSING: "NO SUCH SERVICE" };
+
 function classOf(state) {
-  return state || "AWAY";
+  return state in NO_STATES ? "AWAY" : state;
 }
 
 function wordsOf(state) {
-  return state ? state.replace("_", " ") : "NO ANSWER";
+  return NO_STATES[state] || state.replace("_", " ");
 }
 
 /** Returns the moment at which the drawings begin: when the watcher did, within bounds. */
@@ -135,7 +138,7 @@ function drawChanges(list, changes) {
     item.append(at, `${wordsOf(change.state)}`);
     const why = document.createElement("span");
     why.textContent = change.why === "reading" ? "" : `by ${change.why}`;
-    if (change.state) item.append(why);
+    if (!(change.state in NO_STATES)) item.append(why);
     return item;
   }));
 }
@@ -154,7 +157,7 @@ function cardOf(name) {
 function drawService(service) {
   const card = cardOf(service.name);
   const find = (selector) => card.querySelector(selector);
-  const state = service.trouble ? "" : service.state.state;
+  const state = service.missing ? "MISSING" : service.trouble ? "" : service.state.state;
   const end = Date.now();
   const begin = beginOf(service, end);
   card.className = classOf(state);
