@@ -1,214 +1,363 @@
--- What a hub keeps over the turns of its connections.
-use Rattle.std.proofs.Common.{◌≡◌, ◌≢◌, ◌⊎◌, inl, inr, ◌<◌, ◌≤◌, ℕ, suc, List, [], ◌++◌, Option, Some, None, ap, sym, ◌∙◌, refl, subst, append_assoc, arith}
+-- What a hub keeps while its sessions are served, and as they come and leave.
+use Rattle.std.proofs.Common.{◌≡◌, ◌≢◌, ◌⊎◌, inl, inr, ◌<◌, ◌≤◌, ℕ, suc, List, [], ◌∷◌, ◌++◌, Option, Some, None, true, false, ap, sym, ◌∙◌, refl, subst, append_assoc, arith, is_some, slice_index_or}
 use Rattle.std.proofs.lemmas.List.{append-nil}
 use Rattle.slab.specs.Slab.{Slab, Updates, get}
-use Rattle.polled_io.specs.Counts.{PolledData}
 use Rattle.http_messages.specs.declared.front.Fault.{Fault}
-use Rattle.http_serving.specs.declared.ended.Ended.{Ended}
-use Rattle.http_serving.specs.declared.ended.Ended.TheVariants as end
 use Rattle.http_serving.specs.Requests.{HttpRequestData}
 use Rattle.http_turns.specs.declared.stage.Stage.TheVariants as stage
-use Rattle.http_turns.specs.declared.turned.Turned.{Turned}
-use Rattle.http_turns.specs.declared.turned.Turned.TheVariants as turned
-use Rattle.http_turns.specs.Connections.{ConnectionData, new_connection}
-use Rattle.http_turns.specs.Ends.{IsTurned}
-use Rattle.http_turns.specs.Exchanges.{HasGone}
-use Rattle.http_turns.specs.Steps.{Step}
-use Rattle.http_turns.specs.Turns.{Goes}
-use Rattle.http_turns.proofs.Chains.{goes_on, goes_still, steps_behind}
+use Rattle.http_turns.specs.Connections.{new_connection}
+use Rattle.http_turns.specs.Sessions.{SessionData}
+use Rattle.http_turns.specs.Steps.{Step, AreSteps}
+use Rattle.http_turns.proofs.Chains.{steps_behind}
+use Rattle.event_loop.specs.declared.departing.Cause.{Cause}
+use Rattle.event_loop.specs.declared.departing.Cause.TheVariants as cause
 use Rattle.event_loop.specs.declared.opened.Opened.{Opened}
 use Rattle.event_loop.specs.declared.hub.Hub.{Hub}
-use Rattle.event_loop.specs.Ends.{ended_of}
-use Rattle.event_loop.specs.Log.{LoggedStep, EndsSo, HasServed, IsConnection, all_steps, steps_of}
-use Rattle.event_loop.specs.Hubs.{AreOpen, HasMoved, HasNoOther, HasOneMore, IsFed, IsOpen, IsPutBack, Keeps, KeepsOn}
-use Rattle.event_loop.proofs.Hubs.{is_or_was, left_was, no_slot, or_else}
-use Rattle.event_loop.proofs.Logs.{all_both, either, steps_other, steps_own, tag}
+use Rattle.event_loop.specs.Departures.{Departed, LeavesSo, Records}
+use Rattle.event_loop.specs.Hubs.{IsAt, IsHub, IsPutBack, HaveLived, HasTended, HasTurned, Keeps}
+use Rattle.event_loop.specs.Lives.{IsLife, AreLives, Differs, AreDistinct, AreBelow, IsIn}
+use Rattle.event_loop.specs.Log.{LoggedStep, HasServed, IsConnection, all_steps, steps_of, tag}
+use Rattle.event_loop.proofs.Living.{life_new}
+use Rattle.event_loop.proofs.Logs.{all_both, either, steps_other, steps_own}
 
--- ---- connections of a log
+-- ---- lists that are known or not
 
-module _ (refusal : Fault → List ℕ) where
-  -- a connection with no steps, of which nothing was read
-  stands_new : (log : List LoggedStep) (number : ℕ) → steps_of number log ≡ [] → IsOpen refusal log number new_connection
-  stands_new log number none = ([], [], [], rw none (refl, tt, refl), refl)
+pub records_none : {A : Type 0} (v : Option (List A)) → Records v v []
+records_none None = tt
+records_none (Some xs) = refl
 
-  pub none_answered : (number : ℕ) → IsConnection refusal (steps_of number [])
-  none_answered number = ([], [], stage.Open, [], [], [], None, (refl, tt, refl), refl, tt)
+pub records_on : {A : Type 0} (a b c : Option (List A)) (one two : List A) → Records a b one → Records b c two → Records a c (two ++ one)
+records_on None b c one two h k = tt
+records_on (Some xs) None c one two h k = absurd h
+records_on (Some xs) (Some ys) None one two h k = absurd k
+records_on (Some xs) (Some ys) (Some zs) one two h k = k ∙ ap (λ z. two ++ z) h ∙ sym (append_assoc two one xs)
 
-  -- a turn takes a connection from where it stands to where it then stands
-  stands_on : (log : List LoggedStep) (number : ℕ) (a b : ConnectionData) (more : List ℕ) (own : List Step) (next sent : List ℕ)
-      → IsOpen refusal log number a → Goes refusal a.stage a.unread more own next b.stage b.unread → a.pending ++ next ≡ sent ++ b.pending → IsOpen refusal (log ++ tag number own) number b
-  stands_on log number a b more own next sent (bytes, text, earlier, reaches, is) goes split = (
-    bytes ++ more,
-    text ++ next,
-    earlier ++ sent,
-    rw (steps_own log number own) (goes_on refusal stage.Open a.stage b.stage [] a.unread b.unread bytes more (steps_of number log) own text next reaches goes),
-    ap (λ z. z ++ next) is ∙ append_assoc earlier a.pending next ∙ ap (λ z. earlier ++ z) split ∙ sym (append_assoc earlier sent b.pending),
+-- ---- slabs
+
+apart_bools : true ≡ false → ⊥
+apart_bools h = grind arith
+
+no_value : {A : Type 0} (x : A) → Some x ≡ None → ⊥
+no_value x h = apart_bools (ap is_some h)
+
+or_else : {A : Type 0} → A → Option A → A
+or_else d None = d
+or_else d (Some x) = x
+
+same_value : {A : Type 0} (x y : A) → Some x ≡ Some y → x ≡ y
+same_value x y h = ap (λ o. elim o [ None ↦ x | Some z ↦ z ]) h
+
+left_was : {A : Type 0} (old new : Slab A) (key other : ℕ) (x : A) → Updates old new key None → get new other ≡ Some x → (get old other ≡ Some x) × (other ≢ key)
+left_was old new key other x updates is = left_by (either other key) where
+  left_by : (other ≡ key) ⊎ (other ≢ key) → (get old other ≡ Some x) × (other ≢ key)
+  left_by (inl same) = absurd (no_value x (sym is ∙ ap (λ k. get new k) same ∙ updates.changed))
+  left_by (inr apart) = (sym (updates.others other apart) ∙ is, apart)
+
+is_or_was : {A : Type 0} (old new : Slab A) (key other : ℕ) (x y : A) → Updates old new key (Some y) → get new other ≡ Some x → ((other ≡ key) × (y ≡ x)) ⊎ ((other ≢ key) × (get old other ≡ Some x))
+is_or_was old new key other x y updates is = is_by (either other key) where
+  is_by : (other ≡ key) ⊎ (other ≢ key) → ((other ≡ key) × (y ≡ x)) ⊎ ((other ≢ key) × (get old other ≡ Some x))
+  is_by (inl same) = inl (same, same_value y x (sym updates.changed ∙ ap (λ k. get new k) (sym same) ∙ is))
+  is_by (inr apart) = inr (apart, sym (updates.others other apart) ∙ is)
+
+no_slot_in : {A : Type 0} (slots : List (Option A)) (key : ℕ) (x : A) → slots ≡ [] → slice_index_or slots key None ≡ Some x → ⊥
+no_slot_in slots key x none is = no_value x (sym is ∙ ap (λ z. slice_index_or z key None) none)
+
+-- ---- numbers
+
+differs_above : {T : Type 0} (next : ℕ) (left : List (Departed T)) → AreBelow next left → Differs next left
+differs_above next [] below = tt
+differs_above next (one ∷ left) below = ((λ same. (let low = below.0 in omega (arith, same, low))), differs_above next left below.1)
+
+below_more : {T : Type 0} (next : ℕ) (left : List (Departed T)) → AreBelow next left → AreBelow (suc next) left
+below_more next [] below = tt
+below_more next (one ∷ left) below = ((let low = below.0 in omega (arith, low)), below_more next left below.1)
+
+module _ {T : Type 0} (remaining contents : T → Option (List ℕ)) (is_new : T → Type 0) where
+  module _ (refusal : Fault → List ℕ) where
+    lives_on : (log : List LoggedStep) (left : List (Departed T)) (number : ℕ) (own : List Step) → Differs number left → AreLives remaining contents is_new refusal log left → AreLives remaining contents is_new refusal (log ++ tag number own) left
+    lives_on log [] number own differs lives = tt
+    lives_on log (one ∷ left) number own differs (life, leaves, lives) = (rw (steps_other log one.number number own differs.0) life, leaves, lives_on log left number own differs.1 lives)
+
+    -- what is kept of a hub while the session of a number is out
+    record IsOut (log : List LoggedStep) (left : List (Departed T)) (slab : Slab (Opened T)) (next number : ℕ) : Type 0 where
+      stands : (key : ℕ) (one : Opened T) → get slab key ≡ Some one → IsLife remaining contents is_new refusal (steps_of one.number log) one.session
+      numbered : (key : ℕ) (one : Opened T) → get slab key ≡ Some one → one.number < next
+      apart : (key other : ℕ) (one two : Opened T) → get slab key ≡ Some one → get slab other ≡ Some two → one.number ≡ two.number → key ≡ other
+      absent : (key : ℕ) (one : Opened T) → get slab key ≡ Some one → Differs one.number left
+      alone : (key : ℕ) (one : Opened T) → get slab key ≡ Some one → one.number ≢ number
+      low : number < next
+      gone : Differs number left
+      fresh : (n : ℕ) → next ≤ n → steps_of n log ≡ []
+      lives : AreLives remaining contents is_new refusal log left
+      distinct : AreDistinct left
+      below : AreBelow next left
+      owned : (n : ℕ) → (n ≡ number) ⊎ ((steps_of n log ≡ []) ⊎ (IsAt slab n ⊎ IsIn n left))
+
+    out : (log : List LoggedStep) (left : List (Departed T)) (old slab : Slab (Opened T)) (next key : ℕ) (one : Opened T) → Updates old slab key None → get old key ≡ Some one → IsHub remaining contents is_new refusal log left old next → IsOut log left slab next one.number
+    out log left old slab next key one updates here hub = record {
+      stands = λ k other is. hub.stands k other (left_was old slab key k other updates is).0;
+      numbered = λ k other is. hub.numbered k other (left_was old slab key k other updates is).0;
+      apart = λ k j other two is too same. hub.apart k j other two (left_was old slab key k other updates is).0 (left_was old slab key j two updates too).0 same;
+      absent = λ k other is. hub.absent k other (left_was old slab key k other updates is).0;
+      alone = λ k other is same. (let was = left_was old slab key k other updates is in was.1 (hub.apart k key other one was.0 here same));
+      low = hub.numbered key one here;
+      gone = hub.absent key one here;
+      fresh = hub.fresh;
+      lives = hub.lives;
+      distinct = hub.distinct;
+      below = hub.below;
+      owned = λ n. by_owned n (hub.owned n);
+    } where
+      by_key : (n k : ℕ) (other : Opened T) → get old k ≡ Some other → other.number ≡ n → (k ≡ key) ⊎ (k ≢ key) → (n ≡ one.number) ⊎ ((steps_of n log ≡ []) ⊎ (IsAt slab n ⊎ IsIn n left))
+      by_key n k other is number (inl same) = inl (sym number ∙ ap (λ o. o.number) (same_value other one (sym is ∙ ap (λ z. get old z) same ∙ here)))
+      by_key n k other is number (inr apart) = inr (inr (inl (k, other, updates.others k apart ∙ is, number)))
+
+      by_owned : (n : ℕ) → (steps_of n log ≡ []) ⊎ (IsAt old n ⊎ IsIn n left) → (n ≡ one.number) ⊎ ((steps_of n log ≡ []) ⊎ (IsAt slab n ⊎ IsIn n left))
+      by_owned n (inl none) = inr (inl none)
+      by_owned n (inr (inl (k, other, is, number))) = by_key n k other is number (either k key)
+      by_owned n (inr (inr is)) = inr (inr (inr is))
+
+    out_steps : (log : List LoggedStep) (left : List (Departed T)) (slab : Slab (Opened T)) (next number : ℕ) (own : List Step) → IsOut log left slab next number → IsOut (log ++ tag number own) left slab next number
+    out_steps log left slab next number own hub = record {
+      stands = λ k other is. rw (steps_other log other.number number own (hub.alone k other is)) (hub.stands k other is);
+      numbered = hub.numbered;
+      apart = hub.apart;
+      absent = hub.absent;
+      alone = hub.alone;
+      low = hub.low;
+      gone = hub.gone;
+      fresh = λ n high. (let low = hub.low in steps_other log n number own (λ same. omega (arith, same, low, high)) ∙ hub.fresh n high);
+      lives = lives_on log left number own hub.gone hub.lives;
+      distinct = hub.distinct;
+      below = hub.below;
+      owned = λ n. by_owned n (either n number) (hub.owned n);
+    } where
+      by_owned : (n : ℕ) → (n ≡ number) ⊎ (n ≢ number) → (n ≡ number) ⊎ ((steps_of n log ≡ []) ⊎ (IsAt slab n ⊎ IsIn n left)) → (n ≡ number) ⊎ ((steps_of n (log ++ tag number own) ≡ []) ⊎ (IsAt slab n ⊎ IsIn n left))
+      by_owned n (inl same) owned = inl same
+      by_owned n (inr apart) (inl same) = inl same
+      by_owned n (inr apart) (inr (inl none)) = inr (inl (steps_other log n number own apart ∙ none))
+      by_owned n (inr apart) (inr (inr is)) = inr (inr is)
+
+    -- it leaves
+    closed : (log : List LoggedStep) (left : List (Departed T)) (slab : Slab (Opened T)) (next number : ℕ) (session : SessionData T) (cause : Cause) → IsOut log left slab next number
+        → IsLife remaining contents is_new refusal (steps_of number log) session → LeavesSo cause session.connection
+        → IsHub remaining contents is_new refusal log (record { number = number; session = session; cause = cause } ∷ left) slab next
+    closed log left slab next number session cause hub life leaves = record {
+      stands = hub.stands;
+      numbered = hub.numbered;
+      apart = hub.apart;
+      absent = λ k other is. ((λ same. hub.alone k other is (sym same)), hub.absent k other is);
+      fresh = hub.fresh;
+      lives = (life, leaves, hub.lives);
+      distinct = (hub.gone, hub.distinct);
+      below = (hub.low, hub.below);
+      owned = λ n. by_owned n (hub.owned n);
+    } where
+      by_owned : (n : ℕ) → (n ≡ number) ⊎ ((steps_of n log ≡ []) ⊎ (IsAt slab n ⊎ IsIn n left)) → (steps_of n log ≡ []) ⊎ (IsAt slab n ⊎ ((number ≡ n) ⊎ IsIn n left))
+      by_owned n (inl same) = inr (inr (inl (sym same)))
+      by_owned n (inr (inl none)) = inl none
+      by_owned n (inr (inr (inl at))) = inr (inl at)
+      by_owned n (inr (inr (inr is))) = inr (inr (inr is))
+
+    -- or comes in, again or for the first time, below a next number
+    back_at : (log : List LoggedStep) (left : List (Departed T)) (slab after : Slab (Opened T)) (next number at : ℕ) (one : Opened T) → Updates slab after at (Some one) → get slab at ≡ None → one.number ≡ number
+        → IsLife remaining contents is_new refusal (steps_of number log) one.session → IsOut log left slab next number → IsHub remaining contents is_new refusal log left after next
+    back_at log left slab after next number at one updates free is_number life hub = record {
+      stands = λ k other is. by_stands k other (is_or_was slab after at k other one updates is);
+      numbered = λ k other is. by_numbered k other (is_or_was slab after at k other one updates is);
+      apart = λ k j other two is too same. by_apart k j other two same (is_or_was slab after at k other one updates is) (is_or_was slab after at j two one updates too);
+      absent = λ k other is. by_absent k other (is_or_was slab after at k other one updates is);
+      fresh = hub.fresh;
+      lives = hub.lives;
+      distinct = hub.distinct;
+      below = hub.below;
+      owned = λ n. by_owned n (hub.owned n);
+    } where
+      by_stands : (k : ℕ) (other : Opened T) → ((k ≡ at) × (one ≡ other)) ⊎ ((k ≢ at) × (get slab k ≡ Some other)) → IsLife remaining contents is_new refusal (steps_of other.number log) other.session
+      by_stands k other (inl here) = subst (λ o. IsLife remaining contents is_new refusal (steps_of o.number log) o.session) here.1 (rw is_number life)
+      by_stands k other (inr was) = hub.stands k other was.1
+
+      by_numbered : (k : ℕ) (other : Opened T) → ((k ≡ at) × (one ≡ other)) ⊎ ((k ≢ at) × (get slab k ≡ Some other)) → other.number < next
+      by_numbered k other (inl here) = subst (λ o. o.number < next) here.1 (rw is_number hub.low)
+      by_numbered k other (inr was) = hub.numbered k other was.1
+
+      by_absent : (k : ℕ) (other : Opened T) → ((k ≡ at) × (one ≡ other)) ⊎ ((k ≢ at) × (get slab k ≡ Some other)) → Differs other.number left
+      by_absent k other (inl here) = subst (λ o. Differs o.number left) here.1 (rw is_number hub.gone)
+      by_absent k other (inr was) = hub.absent k other was.1
+
+      by_apart : (k j : ℕ) (other two : Opened T) → other.number ≡ two.number → ((k ≡ at) × (one ≡ other)) ⊎ ((k ≢ at) × (get slab k ≡ Some other)) → ((j ≡ at) × (one ≡ two)) ⊎ ((j ≢ at) × (get slab j ≡ Some two)) → k ≡ j
+      by_apart k j other two same (inl here) (inl there) = here.0 ∙ sym there.0
+      by_apart k j other two same (inl here) (inr was) = absurd (hub.alone j two was.1 (sym same ∙ sym (ap (λ o. o.number) here.1) ∙ is_number))
+      by_apart k j other two same (inr was) (inl there) = absurd (hub.alone k other was.1 (same ∙ sym (ap (λ o. o.number) there.1) ∙ is_number))
+      by_apart k j other two same (inr was) (inr too) = hub.apart k j other two was.1 too.1 same
+
+      by_owned : (n : ℕ) → (n ≡ number) ⊎ ((steps_of n log ≡ []) ⊎ (IsAt slab n ⊎ IsIn n left)) → (steps_of n log ≡ []) ⊎ (IsAt after n ⊎ IsIn n left)
+      by_owned n (inl same) = inr (inl (at, one, updates.changed, is_number ∙ sym same))
+      by_owned n (inr (inl none)) = inl none
+      by_owned n (inr (inr (inl (k, other, is, own)))) = inr (inl (k, other, updates.others k (λ same. no_value other (sym is ∙ ap (λ z. get slab z) same ∙ free)) ∙ is, own))
+      by_owned n (inr (inr (inr is))) = inr (inr is)
+
+    -- the next number is of nobody yet
+    out_next : (log : List LoggedStep) (left : List (Departed T)) (slab : Slab (Opened T)) (next : ℕ) → IsHub remaining contents is_new refusal log left slab next → IsOut log left slab (suc next) next
+    out_next log left slab next hub = record {
+      stands = hub.stands;
+      numbered = λ k other is. (let low = hub.numbered k other is in omega (arith, low));
+      apart = hub.apart;
+      absent = hub.absent;
+      alone = λ k other is same. (let low = hub.numbered k other is in omega (arith, low, same));
+      low = omega arith;
+      gone = differs_above next left hub.below;
+      fresh = λ n high. hub.fresh n (omega (arith, high));
+      lives = hub.lives;
+      distinct = hub.distinct;
+      below = below_more next left hub.below;
+      owned = λ n. inr (hub.owned n);
+    }
+
+  -- ---- nothing is answered
+
+  pub tended_same : (old : Hub T) (slab : Slab (Opened T)) (was is : Option (List (Departed T))) → ((key : ℕ) → get slab key ≡ get old.connections key) → is ≡ was → HasTended remaining contents is_new old was (record { connections = slab; next = old.next }) is
+  tended_same old slab was is same known = (
+    [],
+    rw known (records_none was),
+    λ refusal log left hub. (record {
+      stands = λ k one here. hub.stands k one (sym (same k) ∙ here);
+      numbered = λ k one here. hub.numbered k one (sym (same k) ∙ here);
+      apart = λ k j one two here there. hub.apart k j one two (sym (same k) ∙ here) (sym (same j) ∙ there);
+      absent = λ k one here. hub.absent k one (sym (same k) ∙ here);
+      fresh = hub.fresh;
+      lives = hub.lives;
+      distinct = hub.distinct;
+      below = hub.below;
+      owned = λ n. by_owned refusal log left hub n (hub.owned n);
+    }),
+  ) where
+    by_owned : (refusal : Fault → List ℕ) (log : List LoggedStep) (left : List (Departed T)) → IsHub remaining contents is_new refusal log left old.connections old.next → (n : ℕ) → (steps_of n log ≡ []) ⊎ (IsAt old.connections n ⊎ IsIn n left) → (steps_of n log ≡ []) ⊎ (IsAt slab n ⊎ IsIn n left)
+    by_owned refusal log left hub n (inl none) = inl none
+    by_owned refusal log left hub n (inr (inl (k, one, here, number))) = inr (inl (k, one, same k ∙ here, number))
+    by_owned refusal log left hub n (inr (inr is)) = inr (inr is)
+
+  pub tended_none : (old : Hub T) (was : Option (List (Departed T))) → HasTended remaining contents is_new old was old was
+  tended_none old was = ([], records_none was, λ refusal log left hub. hub)
+
+  pub tended_known : (old : Hub T) (was is : Option (List (Departed T))) → is ≡ was → HasTended remaining contents is_new old was old is
+  tended_known old was is known = ([], rw known (records_none was), λ refusal log left hub. hub)
+
+  pub tended_on : (a b c : Hub T) (was now is : Option (List (Departed T))) → HasTended remaining contents is_new a was b now → HasTended remaining contents is_new b now c is → HasTended remaining contents is_new a was c is
+  tended_on a b c was now is (one, recorded, keeps) (two, again, goes) = (
+    two ++ one,
+    records_on was now is one two recorded again,
+    λ refusal log left hub. subst (λ z. IsHub remaining contents is_new refusal log z c.connections c.next) (sym (append_assoc two one left)) (goes refusal log (one ++ left) (keeps refusal log left hub)),
   )
 
-  answered_on : (log : List LoggedStep) (number : ℕ) (b : ConnectionData) (own : List Step) (end : Option Ended) → ((n : ℕ) → IsConnection refusal (steps_of n log))
-      → IsOpen refusal (log ++ tag number own) number b → EndsSo end b.stage b.unread b.pending → (n : ℕ) → IsConnection refusal (steps_of n (log ++ tag number own))
-  answered_on log number b own end are (bytes, text, sent, reaches, is) ends n = by_number (either n number) where
-    by_number : (n ≡ number) ⊎ (n ≢ number) → IsConnection refusal (steps_of n (log ++ tag number own))
-    by_number (inl same) = rw same (bytes, text, b.stage, b.unread, sent, b.pending, end, reaches, is, ends)
-    by_number (inr apart) = rw (steps_other log n number own apart) (are n)
+  -- one was taken out, and left
+  pub tended_out : (old : Hub T) (slab : Slab (Opened T)) (key : ℕ) (one : Opened T) (cause : Cause) (was is : Option (List (Departed T))) → Updates old.connections slab key None → get old.connections key ≡ Some one → LeavesSo cause one.session.connection
+      → Records was is (record { number = one.number; session = one.session; cause = cause } ∷ []) → HasTended remaining contents is_new old was (record { connections = slab; next = old.next }) is
+  tended_out old slab key one cause was is updates here leaves records = (
+    record { number = one.number; session = one.session; cause = cause } ∷ [],
+    records,
+    λ refusal log left hub. closed refusal log left slab old.next one.number one.session cause (out refusal log left old.connections slab old.next key one updates here hub) (hub.stands key one here) leaves,
+  )
 
-  -- ---- open connections
+  -- or came back as it was
+  pub tended_back : (old : Hub T) (slab after : Slab (Opened T)) (key at : ℕ) (one back : Opened T) (was is : Option (List (Departed T))) → Updates old.connections slab key None → get old.connections key ≡ Some one
+      → Updates slab after at (Some back) → get slab at ≡ None → back.number ≡ one.number → back.session ≡ one.session → is ≡ was → HasTended remaining contents is_new old was (record { connections = after; next = old.next }) is
+  tended_back old slab after key at one back was is updates here returns free number session known = (
+    [],
+    rw known (records_none was),
+    λ refusal log left hub. back_at refusal log left slab after old.next one.number at back returns free number (rw session (hub.stands key one here)) (out refusal log left old.connections slab old.next key one updates here hub),
+  )
 
-  pub open_none : (slab : Slab Opened) (next : ℕ) → slab.slots ≡ [] → AreOpen refusal [] slab next
-  open_none slab next none = record {
-    stands = λ k one is. absurd (no_slot slab k one none is);
-    numbered = λ k one is. absurd (no_slot slab k one none is);
-    apart = λ k j one two is too same. absurd (no_slot slab k one none is);
-    fresh = λ n high. refl;
-  }
+  -- a new one came in
+  pub tended_new : (old : Hub T) (after : Slab (Opened T)) (at next : ℕ) (one : Opened T) (was is : Option (List (Departed T))) → Updates old.connections after at (Some one) → get old.connections at ≡ None → one.number ≡ old.next → next ≡ suc old.next
+      → is_new one.session.wire.inner → one.session.connection ≡ new_connection → is ≡ was → HasTended remaining contents is_new old was (record { connections = after; next = next }) is
+  tended_new old after at next one was is updates free number more new none known = (
+    [],
+    rw known (records_none was),
+    λ refusal log left hub. rw more (back_at refusal log left old.connections after (suc old.next) old.next at one updates free number
+        (rw (hub.fresh old.next (omega arith)) (life_new remaining contents is_new refusal one.session new none)) (out_next refusal log left old.connections old.next hub)),
+  )
 
-  -- where no other connection is there, those that are stand as they stood
-  open_less : (log : List LoggedStep) (old new : Hub) → HasNoOther old new → AreOpen refusal log old.connections old.next → AreOpen refusal log new.connections new.next
-  open_less log old new (same_next, was) are = record {
-    stands = λ k one is. (let here = was k one is in subst (λ n. IsOpen refusal log n one.connection) (sym here.2) (subst (λ z. IsOpen refusal log here.0.number z) (sym here.3) (are.stands k here.0 here.1)));
-    numbered = λ k one is. (let here = was k one is in let low = are.numbered k here.0 here.1 in omega (arith, low, here.2, same_next));
-    apart = λ k j one two is too same. (let here = was k one is in let there = was j two too in are.apart k j here.0 there.0 here.1 there.1 (sym here.2 ∙ same ∙ there.2));
-    fresh = λ n high. are.fresh n (rw same_next at high);
-  }
+  -- ---- sessions are served
 
-  open_more : (log : List LoggedStep) (old new : Hub) → HasOneMore old new → AreOpen refusal log old.connections old.next → AreOpen refusal log new.connections new.next
-  open_more log old new (more, (at, there)) are = record {
-    stands = λ k one is. by_stands k one (there k one is);
-    numbered = λ k one is. rw more (by_numbered k one (there k one is));
-    apart = λ k j one two is too same. by_apart k j one two same (there k one is) (there j two too);
-    fresh = λ n high. are.fresh n (let above : suc old.next ≤ n = rw more at high in omega (arith, above));
-  } where
-    by_stands : (k : ℕ) (one : Opened) → ((k ≡ at) × (one.number ≡ old.next) × (one.connection ≡ new_connection)) ⊎ ((k ≢ at) × (get old.connections k ≡ Some one)) → IsOpen refusal log one.number one.connection
-    by_stands k one (inl (here, number, new)) = rw (number, new) (stands_new log old.next (are.fresh old.next (omega arith)))
-    by_stands k one (inr (apart, was)) = are.stands k one was
+  module _ {S C : Type 0} (refusal : Fault → List ℕ) (responds : S → ℕ → HttpRequestData → List ℕ → S → Type 0) (ticks : C → ℕ → C → Type 0) where
+    pub turned_none : (old : Hub T) (slab : Slab (Opened T)) (s : S) (c : C) (was : Option (List (Departed T))) → slab ≡ old.connections → HasTurned remaining contents is_new refusal responds ticks old s c was (record { connections = slab; next = old.next }) s c was
+    turned_none old slab s c was same = (0, [], [], (refl, refl), records_none was, λ log left hub. rw (same, append-nil log) hub)
 
-    by_numbered : (k : ℕ) (one : Opened) → ((k ≡ at) × (one.number ≡ old.next) × (one.connection ≡ new_connection)) ⊎ ((k ≢ at) × (get old.connections k ≡ Some one)) → one.number < suc old.next
-    by_numbered k one (inl (here, number, new)) = omega (arith, number)
-    by_numbered k one (inr (apart, was)) = (let low = are.numbered k one was in omega (arith, low))
+    pub turned_put : (old new : Hub T) (slab : Slab (Opened T)) (key : ℕ) (one other : Opened T) (own : List Step) (s : S) (c : C) (t : S) (d : C) (was is : Option (List (Departed T)))
+        → Updates old.connections slab key None → get old.connections key ≡ Some one → other.number ≡ one.number
+        → ((steps : List Step) → IsLife remaining contents is_new refusal steps one.session → IsLife remaining contents is_new refusal (steps ++ own) other.session)
+        → AreSteps responds ticks s c own t d → IsPutBack other (record { connections = slab; next = old.next }) was new is
+        → HasTurned remaining contents is_new refusal responds ticks old s c was new t d is
+    turned_put old new slab key one other own s c t d was is updates here number lives steps (next, inl (cause, leaves, same, records)) = (
+      one.number,
+      own,
+      record { number = other.number; session = other.session; cause = cause } ∷ [],
+      steps,
+      records,
+      λ log left hub. rw (same, next, number) (closed refusal (log ++ tag one.number own) left slab old.next one.number other.session cause
+          (out_steps refusal log left slab old.next one.number own (out refusal log left old.connections slab old.next key one updates here hub))
+          (rw (steps_own log one.number own) (lives (steps_of one.number log) (hub.stands key one here))) leaves),
+    )
+    turned_put old new slab key one other own s c t d was is updates here number lives steps (next, inr (at, back, returns, free, back_number, back_session, known)) = (
+      one.number,
+      own,
+      [],
+      steps,
+      rw known (records_none was),
+      λ log left hub. rw next (back_at refusal (log ++ tag one.number own) left slab new.connections old.next one.number at back returns free (back_number ∙ number)
+          (rw (back_session, steps_own log one.number own) (lives (steps_of one.number log) (hub.stands key one here)))
+          (out_steps refusal log left slab old.next one.number own (out refusal log left old.connections slab old.next key one updates here hub))),
+    )
 
-    by_apart : (k j : ℕ) (one two : Opened) → one.number ≡ two.number → ((k ≡ at) × (one.number ≡ old.next) × (one.connection ≡ new_connection)) ⊎ ((k ≢ at) × (get old.connections k ≡ Some one))
-        → ((j ≡ at) × (two.number ≡ old.next) × (two.connection ≡ new_connection)) ⊎ ((j ≢ at) × (get old.connections j ≡ Some two)) → k ≡ j
-    by_apart k j one two same (inl (here, number, new)) (inl (there, other, too)) = here ∙ sym there
-    by_apart k j one two same (inl (here, number, new)) (inr (apart, was)) = (let low = are.numbered j two was in absurd (omega (arith, low, same, number)))
-    by_apart k j one two same (inr (apart, was)) (inl (there, other, too)) = (let low = are.numbered k one was in absurd (omega (arith, low, same, other)))
-    by_apart k j one two same (inr (apart, was)) (inr (differs, too)) = are.apart k j one two was too same
+    pub keeps_first : (hub : Hub T) (s : S) (c : C) (was : Option (List (Departed T))) → hub.connections.slots ≡ [] → Keeps remaining contents is_new refusal responds ticks s c was hub s c was
+    keeps_first hub s c was none = (
+      [],
+      [],
+      (refl, refl),
+      records_none was,
+      record {
+        stands = λ k one is. absurd (no_slot_in hub.connections.slots k one none is);
+        numbered = λ k one is. absurd (no_slot_in hub.connections.slots k one none is);
+        apart = λ k j one two is too same. absurd (no_slot_in hub.connections.slots k one none is);
+        absent = λ k one is. tt;
+        fresh = λ n high. refl;
+        lives = tt;
+        distinct = tt;
+        below = tt;
+        owned = λ n. inl refl;
+      },
+    )
 
-  -- the others stand as they did while one that is out has steps
-  open_beside : (log : List LoggedStep) (old new : Slab Opened) (next key : ℕ) (one : Opened) (own : List Step) → Updates old new key None → get old key ≡ Some one → AreOpen refusal log old next → AreOpen refusal (log ++ tag one.number own) new next
-  open_beside log old new next key one own updates here are = record {
-    stands = λ k other is. (let was = left_was old new key k other updates is in
-        let apart : other.number ≢ one.number = λ same. was.1 (are.apart k key other one was.0 here same) in
-        let stood = are.stands k other was.0 in
-        (stood.0, stood.1, stood.2, rw (steps_other log other.number one.number own apart) stood.3, stood.4));
-    numbered = λ k other is. are.numbered k other (left_was old new key k other updates is).0;
-    apart = λ k j other two is too same. are.apart k j other two (left_was old new key k other updates is).0 (left_was old new key j two updates too).0 same;
-    fresh = λ number high. (let low = are.numbered key one here in
-        steps_other log number one.number own (λ same. omega (arith, same, low, high)) ∙ are.fresh number high);
-  }
+    pub keeps_tended : (first : S) (begun : C) (from : Option (List (Departed T))) (old new : Hub T) (s : S) (c : C) (was is : Option (List (Departed T)))
+        → Keeps remaining contents is_new refusal responds ticks first begun from old s c was → HasTended remaining contents is_new old was new is → Keeps remaining contents is_new refusal responds ticks first begun from new s c is
+    keeps_tended first begun from old new s c was is (log, left, are, records, hub) (more, again, goes) = (log, more ++ left, are, records_on from was is left more records again, goes refusal log left hub)
 
-  -- and it comes back
-  open_back : (log : List LoggedStep) (old new : Slab Opened) (next key : ℕ) (one : Opened) → Updates old new key (Some one) → IsOpen refusal log one.number one.connection → one.number < next
-      → ((k : ℕ) (other : Opened) → get old k ≡ Some other → other.number ≢ one.number) → AreOpen refusal log old next → AreOpen refusal log new next
-  open_back log old new next key one updates stands low differ are = record {
-    stands = λ k other is. by_stands k other (is_or_was old new key k other one updates is);
-    numbered = λ k other is. by_numbered k other (is_or_was old new key k other one updates is);
-    apart = λ k j other two is too same. by_apart k j other two same (is_or_was old new key k other one updates is) (is_or_was old new key j two one updates too);
-    fresh = are.fresh;
-  } where
-    by_stands : (k : ℕ) (other : Opened) → ((k ≡ key) × (Some one ≡ Some other)) ⊎ ((k ≢ key) × (get old k ≡ Some other)) → IsOpen refusal log other.number other.connection
-    by_stands k other (inl here) = subst (λ o. IsOpen refusal log o.number o.connection) (ap (or_else one) here.1) stands
-    by_stands k other (inr was) = are.stands k other was.1
+    pub keeps_turned : (first : S) (begun : C) (from : Option (List (Departed T))) (old new : Hub T) (s : S) (c : C) (t : S) (d : C) (was is : Option (List (Departed T)))
+        → Keeps remaining contents is_new refusal responds ticks first begun from old s c was → HasTurned remaining contents is_new refusal responds ticks old s c was new t d is → Keeps remaining contents is_new refusal responds ticks first begun from new t d is
+    keeps_turned first begun from old new s c t d was is (log, left, are, records, hub) (number, own, more, steps, again, goes) = (
+      log ++ tag number own,
+      more ++ left,
+      rw (all_both log number own) (steps_behind responds ticks (all_steps log) own first begun s c t d are steps),
+      records_on from was is left more records again,
+      goes log left hub,
+    )
 
-    by_numbered : (k : ℕ) (other : Opened) → ((k ≡ key) × (Some one ≡ Some other)) ⊎ ((k ≢ key) × (get old k ≡ Some other)) → other.number < next
-    by_numbered k other (inl here) = subst (λ o. o.number < next) (ap (or_else one) here.1) low
-    by_numbered k other (inr was) = are.numbered k other was.1
+  -- ---- what is left of it where nothing is known of streams
 
-    by_apart : (k j : ℕ) (other two : Opened) → other.number ≡ two.number → ((k ≡ key) × (Some one ≡ Some other)) ⊎ ((k ≢ key) × (get old k ≡ Some other)) → ((j ≡ key) × (Some one ≡ Some two)) ⊎ ((j ≢ key) × (get old j ≡ Some two)) → k ≡ j
-    by_apart k j other two same (inl here) (inl there) = here.0 ∙ sym there.0
-    by_apart k j other two same (inl here) (inr was) = absurd (differ j two was.1 (sym same ∙ ap (λ o. o.number) (sym (ap (or_else one) here.1))))
-    by_apart k j other two same (inr was) (inl there) = absurd (differ k other was.1 (same ∙ ap (λ o. o.number) (sym (ap (or_else one) there.1))))
-    by_apart k j other two same (inr was) (inr too) = are.apart k j other two was.1 too.1 same
+  connection_by : (refusal : Fault → List ℕ) (steps : List Step) (session : SessionData T) (cause : Cause) → IsLife remaining contents is_new refusal steps session → LeavesSo cause session.connection → IsConnection refusal steps
+  connection_by refusal steps session (cause.Ended end) life leaves = (life.bytes, life.text, session.connection.stage, session.connection.unread, life.sent, session.connection.pending, Some end, life.answered, life.split, leaves)
+  connection_by refusal steps session (cause.Closed phase) life leaves = (life.bytes, life.text, session.connection.stage, session.connection.unread, life.sent, session.connection.pending, None, life.answered, life.split, tt)
+  connection_by refusal steps session cause.NoMemory life leaves = (life.bytes, life.text, session.connection.stage, session.connection.unread, life.sent, session.connection.pending, None, life.answered, life.split, tt)
 
-  differ_old : (log : List LoggedStep) (old new : Slab Opened) (next key : ℕ) (one : Opened) → Updates old new key None → get old key ≡ Some one → AreOpen refusal log old next → (k : ℕ) (other : Opened) → get new k ≡ Some other → other.number ≢ one.number
-  differ_old log old new next key one updates here are k other is same = (let was = left_was old new key k other updates is in was.1 (are.apart k key other one was.0 here same))
+  connection_of : (refusal : Fault → List ℕ) (log : List LoggedStep) (left : List (Departed T)) (number : ℕ) → AreLives remaining contents is_new refusal log left → IsIn number left → IsConnection refusal (steps_of number log)
+  connection_of refusal log [] number lives is = absurd is
+  connection_of refusal log (one ∷ left) number lives (inl same) = subst (λ n. IsConnection refusal (steps_of n log)) same (connection_by refusal (steps_of one.number log) one.session one.cause lives.0 lives.1)
+  connection_of refusal log (one ∷ left) number lives (inr is) = connection_of refusal log left number lives.2 is
 
-  -- how a connection ended, by how its turn did
-  ends_by : {R W : Type 0} (result : Turned) (connection : ConnectionData) (has : Option (List ℕ)) (reader reader_after : PolledData R) (writer writer_after : PolledData W)
-      → IsTurned result connection has reader reader_after writer writer_after → EndsSo (ended_of result) connection.stage connection.unread connection.pending
-  ends_by turned.GoesOn connection has reader reader_after writer writer_after is = tt
-  ends_by (turned.Waits want) connection has reader reader_after writer writer_after is = tt
-  ends_by (turned.Ended end.Closed) connection has reader reader_after writer writer_after (((opened, none), empty, ended, counts), nothing) = (opened, empty, none)
-  ends_by (turned.Ended end.Truncated) connection has reader reader_after writer writer_after (((opened, none), part, ended, counts), nothing) = (opened, part, none)
-  ends_by (turned.Ended end.Finished) connection has reader reader_after writer writer_after (last, none, still, nothing) = (last, none)
-  ends_by (turned.Ended end.ReadFailed) connection has reader reader_after writer writer_after (((opened, none), part, counts), nothing) = (opened, part, none)
-  ends_by (turned.Ended end.WriteFailed) connection has reader reader_after writer writer_after (some, still, counts) = some
-  ends_by (turned.Ended end.OutOfMemory) connection has reader reader_after writer writer_after ((apart, none, still), nothing) = (apart, none)
-
-  module _ {S C : Type 0} (responds : S → ℕ → HttpRequestData → List ℕ → S → Type 0) (ticks : C → ℕ → C → Type 0) where
-    -- a connection that is left as it is
-    pub moved_none : (one other : Opened) (s : S) (c : C) → other.number ≡ one.number → other.connection ≡ one.connection → HasMoved refusal responds ticks one s c other s c None
-    moved_none one other s c number same = (number, ([], [], [], [], (refl, refl), rw same (goes_still refusal one.connection.stage one.connection.unread), rw same (append-nil one.connection.pending), tt))
-
-    pub keeps_first : (s : S) (c : C) (hub : Hub) → hub.connections.slots ≡ [] → Keeps refusal responds ticks s c hub s c
-    keeps_first s c hub none = ([], (refl, refl), none_answered, open_none hub.connections hub.next none)
-
-    pub has_served : (s : S) (c : C) (hub : Hub) (t : S) (d : C) → Keeps refusal responds ticks s c hub t d → HasServed refusal responds ticks s c t d
-    has_served s c hub t d keeps = (keeps.0, keeps.1, keeps.2)
-
-    pub keeps_less : (s : S) (c : C) (old new : Hub) (t : S) (d : C) → HasNoOther old new → Keeps refusal responds ticks s c old t d → Keeps refusal responds ticks s c new t d
-    keeps_less s c old new t d less (log, are, answered, opened) = (log, are, answered, open_less log old new less opened)
-
-    pub keeps_fed : (s : S) (c : C) (old new : Hub) (t : S) (d : C) → IsFed old new → Keeps refusal responds ticks s c old t d → Keeps refusal responds ticks s c new t d
-    keeps_fed s c old new t d (between, less, inl again) keeps = keeps_less s c between new t d again (keeps_less s c old between t d less keeps)
-    keeps_fed s c old new t d (between, less, inr more) keeps =
-        let (log, are, answered, opened) = keeps_less s c old between t d less keeps in
-        (log, are, answered, open_more log between new more opened)
-
-    -- a connection was taken out, was given a turn, and is closed
-    pub keeps_closed : (old : Hub) (slab : Slab Opened) (key : ℕ) (one other : Opened) (s : S) (c : C) (t : S) (d : C) (end : Option Ended)
-        → Updates old.connections slab key None → get old.connections key ≡ Some one → HasMoved refusal responds ticks one s c other t d end
-        → KeepsOn refusal responds ticks old s c (record { connections = slab; next = old.next }) t d
-    keeps_closed old slab key one other s c t d end updates here (number, (bytes, own, text, sent, steps, goes, split, ends)) first begun (log, are, answered, opened) =
-        let stands = stands_on log one.number one.connection other.connection bytes own text sent (opened.stands key one here) goes split in (
-          log ++ tag one.number own,
-          rw (all_both log one.number own) (steps_behind responds ticks (all_steps log) own first begun s c t d are steps),
-          answered_on log one.number other.connection own end answered stands ends,
-          open_beside log old.connections slab old.next key one own updates here opened,
-        )
-
-    -- or is put back
-    pub keeps_back : (old : Hub) (slab after : Slab Opened) (key at : ℕ) (one other back : Opened) (s : S) (c : C) (t : S) (d : C) (end : Option Ended)
-        → Updates old.connections slab key None → get old.connections key ≡ Some one → HasMoved refusal responds ticks one s c other t d end
-        → Updates slab after at (Some back) → back.number ≡ other.number → back.connection ≡ other.connection
-        → KeepsOn refusal responds ticks old s c (record { connections = after; next = old.next }) t d
-    keeps_back old slab after key at one other back s c t d end updates here (number, (bytes, own, text, sent, steps, goes, split, ends)) returns same_number same first begun (log, are, answered, opened) =
-        let stands = stands_on log one.number one.connection other.connection bytes own text sent (opened.stands key one here) goes split in
-        let is : back.number ≡ one.number = same_number ∙ number in
-        let beside = open_beside log old.connections slab old.next key one own updates here opened in (
-          log ++ tag one.number own,
-          rw (all_both log one.number own) (steps_behind responds ticks (all_steps log) own first begun s c t d are steps),
-          answered_on log one.number other.connection own end answered stands ends,
-          open_back (log ++ tag one.number own) slab after old.next at back returns
-              (rw (is, same) stands)
-              (rw is (opened.numbered key one here))
-              (λ k two there twin. differ_old log old.connections slab old.next key one updates here opened k two there (twin ∙ is))
-              beside,
-        )
-
-    -- what was put back is there, and what wasn't is closed
-    pub keeps_put : (old new : Hub) (slab : Slab Opened) (key : ℕ) (one other : Opened) (s : S) (c : C) (t : S) (d : C) (end : Option Ended)
-        → Updates old.connections slab key None → get old.connections key ≡ Some one → HasMoved refusal responds ticks one s c other t d end
-        → IsPutBack other (record { connections = slab; next = old.next }) new → KeepsOn refusal responds ticks old s c new t d
-    keeps_put old new slab key one other s c t d end updates here moved (next, inl closed) first begun keeps =
-        let (log, are, answered, opened) = keeps_closed old slab key one other s c t d end updates here moved first begun keeps in
-        (log, are, answered, rw (closed, next) opened)
-    keeps_put old new slab key one other s c t d end updates here moved (next, inr (at, back, returns, number, connection)) first begun keeps =
-        let (log, are, answered, opened) = keeps_back old slab new.connections key at one other back s c t d end updates here moved returns number connection first begun keeps in
-        (log, are, answered, rw next opened)
-
-    -- a turn over a stream moves a connection to where it then stands
-    pub moved_by_turn : {R W : Type 0} (one other : Opened) (to : ConnectionData) (result : Turned) (s : S) (c : C) (t : S) (d : C) (had has held holds : Option (List ℕ)) (reader reader_after : PolledData R) (writer writer_after : PolledData W)
-        → other.number ≡ one.number → other.connection ≡ to → HasGone refusal responds ticks one.connection had s c held to has t d holds → IsTurned result to has reader reader_after writer writer_after
-        → HasMoved refusal responds ticks one s c other t d (ended_of result)
-    moved_by_turn one other to result s c t d had has held holds reader reader_after writer writer_after number same (exchange, is) turned =
-        (number, (exchange.bytes, exchange.steps, exchange.text, exchange.sent, is.1, rw same is.3, rw same is.4, rw same (ends_by result to has reader reader_after writer writer_after turned)))
+  pub served_by_lives : {S C : Type 0} (refusal : Fault → List ℕ) (responds : S → ℕ → HttpRequestData → List ℕ → S → Type 0) (ticks : C → ℕ → C → Type 0) (s : S) (c : C) (was : Option (List (Departed T))) (t : S) (d : C) (is : Option (List (Departed T)))
+      → HaveLived remaining contents is_new refusal responds ticks s c was t d is → HasServed refusal responds ticks s c t d
+  served_by_lives refusal responds ticks s c was t d is (log, left, are, records, lives, distinct, owned) = (log, are, λ number. by_owned number (owned number)) where
+    by_owned : (number : ℕ) → (steps_of number log ≡ []) ⊎ IsIn number left → IsConnection refusal (steps_of number log)
+    by_owned number (inl none) = rw none ([], [], stage.Open, [], [], [], None, (refl, tt, refl), refl, tt)
+    by_owned number (inr there) = connection_of refusal log left number lives there

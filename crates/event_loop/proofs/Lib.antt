@@ -1,3 +1,3 @@
 mod Logs
-mod Hubs
+mod Living
 mod Keeping

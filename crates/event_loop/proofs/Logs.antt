@@ -2,7 +2,7 @@
 use Rattle.std.proofs.Common.{◌≡◌, ◌≢◌, ◌⊎◌, inl, inr, ℕ, List, [], ◌∷◌, ◌++◌, ◌==◌, Bool, true, false, if◌then◌else◌, ap, sym, ◌∙◌, refl, eqb-true, arith}
 use Rattle.std.proofs.lemmas.Bool.{eq-eqb}
 use Rattle.http_turns.specs.Steps.{Step}
-use Rattle.event_loop.specs.Log.{LoggedStep, all_steps, steps_of}
+use Rattle.event_loop.specs.Log.{LoggedStep, all_steps, steps_of, tag}
 
 -- ---- numbers
 
@@ -23,11 +23,6 @@ not_same a b apart = by_bool (a == b) refl where
   by_bool false h = h
 
 -- ---- logs
-
--- steps of one connection as a log
-abbrev pub tag : ℕ → List Step → List LoggedStep
-tag number [] = []
-tag number (step ∷ steps) = record { number = number; step = step } ∷ tag number steps
 
 all_tagged : (n : ℕ) (own : List Step) → all_steps (tag n own) ≡ own
 all_tagged n [] = refl

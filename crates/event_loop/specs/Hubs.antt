@@ -1,79 +1,63 @@
--- What a hub of connections keeps while they are served.
-use Rattle.std.specs.Prelude.{◌≡◌, ◌≢◌, ◌⊎◌, ◌<◌, ◌≤◌, ℕ, suc, List, [], ◌++◌, Option, Some}
+-- What a hub of sessions keeps while they are served.
+use Rattle.std.specs.Prelude.{◌≡◌, ◌⊎◌, ◌<◌, ◌≤◌, ℕ, List, [], ◌∷◌, ◌++◌, Option, Some, None}
 use Rattle.slab.specs.Slab.{Slab, Updates, get}
 use Rattle.http_messages.specs.declared.front.Fault.{Fault}
-use Rattle.http_serving.specs.declared.ended.Ended.{Ended}
 use Rattle.http_serving.specs.Requests.{HttpRequestData}
-use Rattle.http_turns.specs.Connections.{ConnectionData, new_connection}
 use Rattle.http_turns.specs.Steps.{Step, AreSteps}
-use Rattle.http_turns.specs.Turns.{Goes, Reaches}
+use Rattle.event_loop.specs.declared.departing.Cause.{Cause}
 use Rattle.event_loop.specs.declared.opened.Opened.{Opened}
 use Rattle.event_loop.specs.declared.hub.Hub.{Hub}
-use Rattle.event_loop.specs.Log.{LoggedStep, EndsSo, IsConnection, all_steps, steps_of}
+use Rattle.event_loop.specs.Departures.{Departed, LeavesSo, Records}
+use Rattle.event_loop.specs.Lives.{IsLife, AreLives, Differs, AreDistinct, AreBelow, IsIn}
+use Rattle.event_loop.specs.Log.{LoggedStep, all_steps, steps_of, tag}
 
--- ---- what happens to a hub while nothing is answered
+-- a session of this number is open
+abbrev pub IsAt : {T : Type 0} → Slab (Opened T) → ℕ → Type 0
+IsAt slab number = (key : ℕ) × (one : Opened _) × (get slab key ≡ Some one) × (one.number ≡ number)
 
--- each connection that is there was there under its key, and stands as it stood
-abbrev pub HasNoOther : Hub → Hub → Type 0
-HasNoOther old new =
+-- a session that was out is put back under a key that was free, or it left
+abbrev pub IsPutBack : {T : Type 0} → Opened T → Hub T → Option (List (Departed T)) → Hub T → Option (List (Departed T)) → Type 0
+IsPutBack one old was new is =
     (new.next ≡ old.next)
-    × ((key : ℕ) (one : Opened) → get new.connections key ≡ Some one → (was : Opened) × (get old.connections key ≡ Some was) × (one.number ≡ was.number) × (one.connection ≡ was.connection))
+    × (((cause : Cause) × LeavesSo cause one.session.connection × (new.connections ≡ old.connections) × Records was is (record { number = one.number; session = one.session; cause = cause } ∷ []))
+    ⊎ ((at : ℕ) × (back : Opened _) × Updates old.connections new.connections at (Some back) × (get old.connections at ≡ None) × (back.number ≡ one.number) × (back.session ≡ one.session) × (is ≡ was)))
 
--- a new connection came in, with the next number
-abbrev pub HasOneMore : Hub → Hub → Type 0
-HasOneMore old new =
-    (new.next ≡ suc old.next)
-    × ((at : ℕ) × ((key : ℕ) (one : Opened) → get new.connections key ≡ Some one
-    → ((key ≡ at) × (one.number ≡ old.next) × (one.connection ≡ new_connection)) ⊎ ((key ≢ at) × (get old.connections key ≡ Some one))))
-
--- some connections were closed, and then at most one came in
-abbrev pub IsFed : Hub → Hub → Type 0
-IsFed old new = (between : Hub) × HasNoOther old between × (HasNoOther between new ⊎ HasOneMore between new)
-
--- a connection was put back under some key, or was closed
-abbrev pub IsPutBack : Opened → Hub → Hub → Type 0
-IsPutBack one old new =
-    (new.next ≡ old.next)
-    × ((new.connections ≡ old.connections)
-    ⊎ ((at : ℕ) × (back : Opened) × Updates old.connections new.connections at (Some back) × (back.number ≡ one.number) × (back.connection ≡ one.connection)))
-
--- ---- what is kept while connections are answered
-
--- refusal is the text of the answer to a message that is refused
-module _ (refusal : Fault → List ℕ) where
-  -- a connection stands where its steps lead, and of their text all was sent but what is pending
-  abbrev pub IsOpen : List LoggedStep → ℕ → ConnectionData → Type 0
-  IsOpen log number connection =
-      (bytes : List ℕ) × (text : List ℕ) × (sent : List ℕ)
-      × Reaches refusal bytes (steps_of number log) text connection.stage connection.unread
-      × (text ≡ sent ++ connection.pending)
-
-  -- the open connections of a slab, whose numbers differ and are below the next one, from which on no number has steps
-  pub record AreOpen (log : List LoggedStep) (slab : Slab Opened) (next : ℕ) : Type 0 where
-    pub stands : (key : ℕ) (one : Opened) → get slab key ≡ Some one → IsOpen log one.number one.connection
-    pub numbered : (key : ℕ) (one : Opened) → get slab key ≡ Some one → one.number < next
-    pub apart : (key other : ℕ) (one two : Opened) → get slab key ≡ Some one → get slab other ≡ Some two → one.number ≡ two.number → key ≡ other
+module _ {T : Type 0} (remaining contents : T → Option (List ℕ)) (is_new : T → Type 0) where
+  -- the log has the steps of each session that is open or left, and of no other. Their numbers differ, and are below the next one
+  pub record IsHub (refusal : Fault → List ℕ) (log : List LoggedStep) (left : List (Departed T)) (slab : Slab (Opened T)) (next : ℕ) : Type 0 where
+    pub stands : (key : ℕ) (one : Opened T) → get slab key ≡ Some one → IsLife remaining contents is_new refusal (steps_of one.number log) one.session
+    pub numbered : (key : ℕ) (one : Opened T) → get slab key ≡ Some one → one.number < next
+    pub apart : (key other : ℕ) (one two : Opened T) → get slab key ≡ Some one → get slab other ≡ Some two → one.number ≡ two.number → key ≡ other
+    pub absent : (key : ℕ) (one : Opened T) → get slab key ≡ Some one → Differs one.number left
     pub fresh : (number : ℕ) → next ≤ number → steps_of number log ≡ []
+    pub lives : AreLives remaining contents is_new refusal log left
+    pub distinct : AreDistinct left
+    pub below : AreBelow next left
+    pub owned : (number : ℕ) → (steps_of number log ≡ []) ⊎ (IsAt slab number ⊎ IsIn number left)
 
-  -- responds relates a state, a moment and a request to the text of the answer and the state after it; ticks relates a clock's state to the moment that it reads and the state after it
-  module _ {S C : Type 0} (responds : S → ℕ → HttpRequestData → List ℕ → S → Type 0) (ticks : C → ℕ → C → Type 0) where
-    -- a connection was given a turn, or lingered: steps were made for its messages from a state and a clock to others, and of the text that was pending and that of its answers a first part was sent; it ended so
-    abbrev pub HasMoved : Opened → S → C → Opened → S → C → Option Ended → Type 0
-    HasMoved one state clock other after later end =
-        (other.number ≡ one.number)
-        × ((bytes : List ℕ) × (steps : List Step) × (text : List ℕ) × (sent : List ℕ)
-        × AreSteps responds ticks state clock steps after later
-        × Goes refusal one.connection.stage one.connection.unread bytes steps text other.connection.stage other.connection.unread
-        × (one.connection.pending ++ text ≡ sent ++ other.connection.pending)
-        × EndsSo end other.connection.stage other.connection.unread other.connection.pending)
+  -- some sessions came in or left, and nothing was answered
+  abbrev pub HasTended : Hub T → Option (List (Departed T)) → Hub T → Option (List (Departed T)) → Type 0
+  HasTended old was new is =
+      (more : List (Departed T)) × Records was is more
+      × ((refusal : Fault → List ℕ) (log : List LoggedStep) (left : List (Departed T)) → IsHub refusal log left old.connections old.next → IsHub refusal log (more ++ left) new.connections new.next)
 
-    -- from a state and a clock on, connections were served up to this state and clock, and those of the hub are open
-    abbrev pub Keeps : S → C → Hub → S → C → Type 0
-    Keeps state clock hub after later =
-        (log : List LoggedStep) × AreSteps responds ticks state clock (all_steps log) after later
-        × ((number : ℕ) → IsConnection refusal (steps_of number log))
-        × AreOpen log hub.connections hub.next
+  -- refusal is the text of the answer to a message that is refused; responds relates a state, a moment and a request to the text of the answer and the state after it; ticks relates a clock's state to the moment that it reads and the state after it
+  module _ {S C : Type 0} (refusal : Fault → List ℕ) (responds : S → ℕ → HttpRequestData → List ℕ → S → Type 0) (ticks : C → ℕ → C → Type 0) where
+    -- steps were made for the messages of one session, and it may have left
+    abbrev pub HasTurned : Hub T → S → C → Option (List (Departed T)) → Hub T → S → C → Option (List (Departed T)) → Type 0
+    HasTurned old state clock was new after later is =
+        (number : ℕ) × (own : List Step) × (more : List (Departed T)) × AreSteps responds ticks state clock own after later × Records was is more
+        × ((log : List LoggedStep) (left : List (Departed T)) → IsHub refusal log left old.connections old.next → IsHub refusal (log ++ tag number own) (more ++ left) new.connections new.next)
 
-    -- whatever was kept from the first state and clock on is kept
-    abbrev pub KeepsOn : Hub → S → C → Hub → S → C → Type 0
-    KeepsOn hub state clock other after later = (first : S) (begun : C) → Keeps first begun hub state clock → Keeps first begun other after later
+    -- from a state, a clock and those who had left on, sessions were served up to these
+    abbrev pub Keeps : S → C → Option (List (Departed T)) → Hub T → S → C → Option (List (Departed T)) → Type 0
+    Keeps state clock was hub after later is =
+        (log : List LoggedStep) × (left : List (Departed T)) × AreSteps responds ticks state clock (all_steps log) after later × Records was is left
+        × IsHub refusal log left hub.connections hub.next
+
+    -- some sessions were served side by side, and all have left. All their steps are one chain, from the first state and clock to the last, each at the moment of one reading of the clock. Each of them did with its own stream what its own steps say, and each step is of one of them
+    abbrev pub HaveLived : S → C → Option (List (Departed T)) → S → C → Option (List (Departed T)) → Type 0
+    HaveLived state clock was after later is =
+        (log : List LoggedStep) × (left : List (Departed T)) × AreSteps responds ticks state clock (all_steps log) after later × Records was is left
+        × AreLives remaining contents is_new refusal log left × AreDistinct left
+        × ((number : ℕ) → (steps_of number log ≡ []) ⊎ IsIn number left)

@@ -1,5 +1,6 @@
 pub mod Failures
 pub mod Numbers
 pub mod Log
-pub mod Ends
+pub mod Departures
+pub mod Lives
 pub mod Hubs

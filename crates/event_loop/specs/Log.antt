@@ -26,7 +26,12 @@ abbrev pub steps_of : ℕ → List LoggedStep → List Step
 steps_of number [] = []
 steps_of number (logged ∷ log) = if logged.number == number then logged.step ∷ steps_of number log else steps_of number log
 
--- how a connection ended, by how it stood then: its stage, the bytes behind its messages, and what of its answers wasn't sent. None: it is open, or the worker closed it
+-- the steps of one connection as a log
+abbrev pub tag : ℕ → List Step → List LoggedStep
+tag number [] = []
+tag number (step ∷ steps) = record { number = number; step = step } ∷ tag number steps
+
+-- how a connection ended, by how it stood then: its stage, the bytes behind its messages, and what of its answers wasn't sent. None: the worker closed it
 abbrev pub EndsSo : Option Ended → Stage → List ℕ → List ℕ → Type 0
 EndsSo None reached unread unsent = ⊤
 EndsSo (Some ended.Closed) reached unread unsent = (reached ≡ stage.Open) × (unread ≡ []) × (unsent ≡ [])

@@ -1,27 +1,30 @@
 //! Accepting connections.
-ghost use Rattle.std.specs.Prelude.{◌≡◌, ◌⊎◌, false, IfSome, IfOk, IfErr};
+ghost use Rattle.std.specs.Prelude.{◌≡◌, false, IfSome, IfOk, IfErr};
 ghost use Rattle.std.proofs.Props.{props};
 ghost use Rattle.event_loop.specs.Failures.{IsOfListener};
 ghost use Rattle.event_loop.specs.Numbers.{is_left};
-ghost use Rattle.event_loop.specs.Hubs.{HasNoOther, HasOneMore, IsFed};
+ghost use Rattle.http_turns.specs.Connections.{new_connection};
+ghost use Rattle.event_loop.specs.Hubs.{HasTended};
 
+use crate::departing::Departures;
 use crate::failure::ListenerFailed;
-use crate::hub::{Hub, close, longest_waiting, make_room, take_in};
+use crate::hub::{Hub, leave_waiting, longest_waiting, take_in};
 use crate::limits::{Limits, SharedCounts, is_left};
-use mio::unix::SourceFd;
-use mio::{Interest, Poll, Token};
+use crate::listening::{Accepted, Listener};
+use http_turns::Session;
+use mio::{Poll, Token};
 use std::alloc::Global;
 use std::io::ErrorKind;
-use std::net::{TcpListener, TcpStream};
-use std::os::fd::AsRawFd;
 use std::{io, thread};
 
 /// The listener among what is polled. Connections have their keys.
 pub(crate) const LISTENER: Token = Token(usize::MAX);
 
-/// How often a worker above its share lets others accept first, while connections wait. Each time takes some microseconds,
-/// in which a worker that is free wakes up.
+/// How often a worker above its share lets others accept first, while connections wait, and for how many milliseconds at
+/// most. Each time takes some microseconds where the worker has nothing else to do. One that is free wakes up meanwhile.
 const MOST_TIMES: u32 = 256;
+
+const TO_GIVE_WAY: u64 = 2;
 
 /// For how many milliseconds a worker waits where as many connections are open as may be, and none of its own waits for its
 /// client.
@@ -74,8 +77,9 @@ pub(crate) struct Accepting {
     /// Why it accepts no more.
     pub(crate) failure: Option<ListenerFailed>,
     queue: Queue,
-    /// How often it let others accept first since it last found that no connection waits.
+    /// How often it let others accept first since it last found that no connection waits, and until which moment it may.
     gave_way: u32,
+    gives_way_until: u64,
     /// How often in a row it has looked in vain whether its own connection is the one that has waited for longest.
     tries: u32,
     /// Before this moment it doesn't accept, in milliseconds of the system's clock.
@@ -92,6 +96,7 @@ impl Accepting {
             failure: None,
             queue: Queue::Waiting,
             gave_way: 0,
+            gives_way_until: 0,
             tries: 0,
             not_before: 0,
         }
@@ -100,7 +105,6 @@ impl Accepting {
     /// Says that a connection waits at the listener.
     pub(crate) fn wake(&mut self) {
         self.queue = Queue::Waiting;
-        self.tries = 0;
     }
 
     /// Whether it accepts further connections.
@@ -143,6 +147,22 @@ impl Accepting {
     fn rest(&mut self) {
         self.queue = Queue::Empty;
         self.gave_way = 0;
+        self.tries = 0;
+    }
+
+    /// Whether it lets others accept first: it is above its share, and those who are free may not have woken yet.
+    fn gives_way(&mut self, shared: &SharedCounts, own: u64, now: u64) -> bool {
+        if !shared.is_above_share(own) {
+            return false;
+        }
+        if self.gave_way == 0 {
+            self.gives_way_until = now.saturating_add(TO_GIVE_WAY);
+        }
+        if self.gave_way >= MOST_TIMES || now > self.gives_way_until {
+            return false;
+        }
+        self.gave_way += 1;
+        true
     }
 
     /// What it does now, where it has so many connections open. Above its share of all that are open it lets others accept
@@ -155,19 +175,15 @@ impl Accepting {
         if self.queue == Queue::Empty || now < self.not_before {
             return Next::Waits;
         }
-        if self.gave_way < MOST_TIMES && shared.is_above_share(own) {
-            self.gave_way += 1;
+        if self.gives_way(shared, own, now) {
             return Next::GivesWay;
         }
         Next::Accepts
     }
 
-    /// Lets others accept first, and has the next poll say whether a connection still waits. The worker doesn't sleep before.
-    fn give_way(&mut self, poll: &Poll, listener: &TcpListener) {
-        let fd = listener.as_raw_fd();
-        let asked = poll
-            .registry()
-            .reregister(&mut SourceFd(&fd), LISTENER, Interest::READABLE);
+    /// Lets others accept first. Where the next poll says whether a connection still waits, the worker asks that, and doesn't
+    /// sleep before.
+    fn give_way(&mut self, asked: io::Result<()>) {
         if asked.is_ok() {
             self.queue = Queue::Asked;
         }
@@ -192,42 +208,33 @@ impl Accepting {
     }
 }
 
-/// Makes a stream ready to be polled under a key, and has answers sent at once (TCP_NODELAY).
-fn prepare(poll: &Poll, stream: &TcpStream, key: usize) -> io::Result<()> {
-    stream.set_nonblocking(true)?;
-    stream.set_nodelay(true)?;
-    let fd = stream.as_raw_fd();
-    poll.registry().register(
-        &mut SourceFd(&fd),
-        Token(key),
-        Interest::READABLE | Interest::WRITABLE,
-    )
-}
-
-/// Takes in a connection that was accepted. One that can't be polled is closed.
-fn admit(
-    alloc: Global,
+/// Takes in a session that was accepted. One that can't be polled is turned away.
+fn admit<T: Accepted, D: Departures<T>>(
     poll: &Poll,
     shared: &SharedCounts,
-    hub: &mut Hub,
-    stream: TcpStream,
+    departures: &mut D,
+    hub: &mut Hub<T>,
+    session: Session<T>,
     now: u64,
 )
-    ensures { HasNoOther hub.old hub.new ⊎ HasOneMore hub.old hub.new }
+    requires connection { session.connection ≡ new_connection }
+    requires stream { T.is_new session.wire.inner }
+    ensures { HasTended T.remaining T.contents T.is_new hub.old (D.departed departures.old) hub.new (D.departed departures.new) }
 {
     let key = hub.connections.vacant_key();
-    if prepare(poll, &stream, key).is_err() {
+    if session.stream().prepare(poll, key).is_err() {
         shared.leave();
+        departures.turn_away(session);
         return;
     }
-    take_in(hub, shared, alloc, stream, now);
+    take_in(hub, shared, departures, session, now);
 }
 
 /// Finds the connection that is to be closed for another one, if it is the worker's: the one among all that has waited for
 /// its client for longest. Where another worker may have that one, this worker looks again a moment later, and after some
 /// milliseconds takes its own.
-fn find_spare(
-    hub: &Hub,
+fn find_spare<T>(
+    hub: &Hub<T>,
     shared: &SharedCounts,
     accepting: &mut Accepting,
     now: u64,
@@ -259,8 +266,8 @@ enum Room {
 }
 
 /// Looks for room for a connection, where so many may be open. A place that is free is taken.
-fn find_room(
-    hub: &Hub,
+fn find_room<T>(
+    hub: &Hub<T>,
     shared: &SharedCounts,
     most: u64,
     accepting: &mut Accepting,
@@ -275,28 +282,36 @@ fn find_room(
     }
 }
 
-/// Takes a place for a connection that was accepted: a free one, or that of a connection which is closed for it.
-fn take_place(hub: &mut Hub, shared: &SharedCounts, room: Room)
-    ensures { HasNoOther hub.old hub.new }
+/// Takes a place for a connection that was accepted: a free one, or that of a session which leaves for it.
+fn take_place<T: Accepted, D: Departures<T>>(
+    hub: &mut Hub<T>,
+    shared: &SharedCounts,
+    departures: &mut D,
+    room: Room,
+)
+    ensures { HasTended T.remaining T.contents T.is_new hub.old (D.departed departures.old) hub.new (D.departed departures.new) }
 {
     match room {
         Room::Free => shared.come(),
-        Room::Of(key) => make_room(hub, key),
+        Room::Of(key) => {
+            leave_waiting(hub, departures, key);
+        }
         Room::None => {}
     }
 }
 
 /// What follows where a connection can't be accepted: its place is free again. Without a file descriptor for it, another one
 /// is closed, if one waits for its client.
-fn refuse(
-    hub: &mut Hub,
+fn refuse<T: Accepted, D: Departures<T>>(
+    hub: &mut Hub<T>,
     shared: &SharedCounts,
+    departures: &mut D,
     accepting: &mut Accepting,
     room: Room,
     error: &io::Error,
     now: u64,
 )
-    ensures { HasNoOther hub.old hub.new }
+    ensures { HasTended T.remaining T.contents T.is_new hub.old (D.departed departures.old) hub.new (D.departed departures.new) }
 {
     if let Room::Free = room {
         shared.give_back();
@@ -305,23 +320,26 @@ fn refuse(
         return;
     }
     if let Some(key) = find_spare(hub, shared, accepting, now) {
-        close(hub, shared, key);
+        if leave_waiting(hub, departures, key) {
+            shared.leave();
+        }
         accepting.pause(now, 0);
     }
 }
 
 /// Accepts a connection, if one waits, and there is room for it or room is made.
-pub(crate) fn accept_next(
+pub(crate) fn accept_next<T: Accepted, L: Listener<T>, D: Departures<T>>(
     alloc: Global,
     poll: &Poll,
-    listener: &TcpListener,
+    listener: &L,
     limits: Limits,
     shared: &SharedCounts,
+    departures: &mut D,
     accepting: &mut Accepting,
-    hub: &mut Hub,
+    hub: &mut Hub<T>,
     now: u64,
 )
-    ensures { IsFed hub.old hub.new }
+    ensures { HasTended T.remaining T.contents T.is_new hub.old (D.departed departures.old) hub.new (D.departed departures.new) }
 {
     if !accepting.is_open(limits) {
         shared.waits.leave(accepting.worker);
@@ -330,7 +348,7 @@ pub(crate) fn accept_next(
     match accepting.next(shared, hub.count(), now) {
         Next::Waits => return,
         Next::GivesWay => {
-            accepting.give_way(poll, listener);
+            accepting.give_way(listener.ask(poll, LISTENER));
             return;
         }
         Next::Accepts => {}
@@ -340,11 +358,18 @@ pub(crate) fn accept_next(
         return;
     }
     match listener.accept() {
-        Ok((stream, _)) => {
+        Ok(stream) => {
             accepting.number = shared.draw();
-            take_place(hub, shared, room);
-            admit(alloc, poll, shared, hub, stream, now);
+            take_place(hub, shared, departures, room);
+            admit(
+                poll,
+                shared,
+                departures,
+                hub,
+                Session::new(alloc, stream),
+                now,
+            );
         }
-        Err(error) => refuse(hub, shared, accepting, room, &error, now),
+        Err(error) => refuse(hub, shared, departures, accepting, room, &error, now),
     }
 }

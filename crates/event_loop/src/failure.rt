@@ -6,11 +6,12 @@ ghost use Rattle.event_loop.specs.Failures.{failure_of, is_listener_error};
 use std::fmt::{Display, Formatter};
 use std::{fmt, io};
 
-/// A listener accepts no more connections. Its text says why, as the system does.
+/// A listener accepts no more connections. Its text says why, as the system does. It is made of an error of accepting alone
+/// (`from_error`).
 #[derive(Clone, Copy, Debug, PartialEq, Eq)]
 pub struct ListenerFailed {
     /// The number of the system's error (`errno`).
-    pub code: i32,
+    code: i32,
 }
 
 /// Errors of Linux's accept(2) that lie in the listener: it is closed (EBADF), its memory is none (EFAULT), it doesn't

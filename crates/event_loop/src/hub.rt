@@ -1,29 +1,31 @@
-//! The open connections of a worker.
-ghost use Rattle.std.specs.Prelude.{◌≡◌, ◌⊎◌};
+//! The open sessions of a worker.
+ghost use Rattle.std.specs.Prelude.{◌≡◌};
 ghost use Rattle.slab.specs.Slab.{HasRoomFor};
-ghost use Rattle.event_loop.specs.Hubs.{HasNoOther, HasOneMore, IsPutBack, KeepsOn};
+ghost use Rattle.http_turns.specs.Connections.{new_connection};
+ghost use Rattle.event_loop.specs.Departures.{LeavesSo};
+ghost use Rattle.event_loop.specs.Hubs.{HasTended, HasTurned, IsPutBack};
 
+use crate::departing::{Cause, Departures, cause_of};
 use crate::limits::SharedCounts;
+use crate::listening::Accepted;
 use crate::opened::{Opened, Served};
 use http_serving::{Clock, Responder};
-use http_turns::{Intake, turn};
-use polled_io::Polled;
+use http_turns::{Intake, Session};
 use slab::Slab;
 use std::alloc::Global;
-use std::net::TcpStream;
 
-/// The open connections of a worker, each under a key, and the number of the next one.
+/// The open sessions of a worker, each under a key, and the number of the next one.
 #[derive(Drop)]
-pub(crate) struct Hub {
-    pub(crate) connections: Slab<Opened>,
+pub(crate) struct Hub<T> {
+    pub(crate) connections: Slab<Opened<T>>,
     pub(crate) next: u64,
 }
 
-impl Hub {
+impl<T> Hub<T> {
     ghost use Rattle.std.specs.Prelude.{◌≡◌, []};
 
-    /// No connection.
-    pub(crate) fn new(alloc: Global) -> Hub
+    /// No session.
+    pub(crate) fn new(alloc: Global) -> Hub<T>
         ensures { result.connections.slots ≡ [] }
     {
         Hub {
@@ -37,7 +39,7 @@ impl Hub {
         self.connections.len() as u64
     }
 
-    /// Whether the connection under a key is to be given a further turn without an event.
+    /// Whether the session under a key is to be given a further turn without an event.
     pub(crate) fn goes_on(&self, key: usize) -> bool {
         match self.connections.get(key) {
             Some(one) => one.goes_on,
@@ -46,18 +48,21 @@ impl Hub {
     }
 }
 
-/// Puts a connection back behind its turn. One that has more to do at once comes into a list; without memory for that it
-/// is closed, and so is one that ended.
-fn put_back(
-    hub: &mut Hub,
+/// Puts a session back behind its turn. One that has more to do at once comes into a list; without memory for that it
+/// leaves, and so does one that ended.
+fn put_back<T: Accepted, D: Departures<T>>(
+    hub: &mut Hub<T>,
     shared: &SharedCounts,
+    departures: &mut D,
     again: &mut Vec<usize>,
     key: usize,
-    mut one: Opened,
+    mut one: Opened<T>,
     served: Served,
+    cause: Cause,
 )
     requires room { HasRoomFor hub.old.connections 1 }
-    ensures { IsPutBack one hub.old hub.new }
+    requires cause { LeavesSo cause one.session.connection }
+    ensures { IsPutBack one hub.old (D.departed departures.old) hub.new (D.departed departures.new) }
 {
     let stays = match served {
         Served::Closed => false,
@@ -66,18 +71,20 @@ fn put_back(
     };
     if !stays {
         shared.leave();
+        departures.take(one.number, one.session, cause);
         return;
     }
     one.goes_on = served == Served::GoesOn;
     hub.connections.insert_reserved(one);
 }
 
-/// Gives the connection under a key a turn, at a moment in milliseconds of the system's clock, or reads on behind its last
-/// answer. One that has more to do at once comes into a list; without memory for that it is closed, and so is one that
+/// Gives the session under a key a turn, at a moment in milliseconds of the system's clock, or reads on behind its last
+/// answer. One that has more to do at once comes into a list; without memory for that it leaves, and so does one that
 /// ended.
-pub(crate) fn serve_key<S, P: Responder<S>, C: Clock>(
-    hub: &mut Hub,
+pub(crate) fn serve_key<T: Accepted, D: Departures<T>, S, P: Responder<S>, C: Clock>(
+    hub: &mut Hub<T>,
     shared: &SharedCounts,
+    departures: &mut D,
     key: usize,
     again: &mut Vec<usize>,
     intake: &mut Intake,
@@ -86,80 +93,82 @@ pub(crate) fn serve_key<S, P: Responder<S>, C: Clock>(
     clock: &mut C,
     now: u64,
 )
-    ensures { KeepsOn P.refusal P.responds C.ticks hub.old state.old clock.old hub.new state.new clock.new }
+    ensures { HasTurned T.remaining T.contents T.is_new P.refusal P.responds C.ticks hub.old state.old clock.old (D.departed departures.old) hub.new state.new clock.new (D.departed departures.new) }
 {
     let Some(mut one) = hub.connections.try_remove(key) else {
         return;
     };
     if let Some(pieces) = one.lingering {
         let served = one.linger(pieces);
-        put_back(hub, shared, again, key, one, served);
+        let cause = one.cause();
+        put_back(hub, shared, departures, again, key, one, served, cause);
         return;
     }
-    let Opened {
-        stream,
-        connection,
-        ..
-    } = &mut one;
-    let mut reader = Polled::new(&*stream);
-    let mut writer = Polled::new(&*stream);
-    let turned = turn(
-        connection,
-        intake,
-        &mut reader,
-        &mut writer,
-        responder,
-        state,
-        clock,
-    );
+    let turned = one.session.turn(intake, responder, state, clock);
     let served = one.settle(turned, now);
-    put_back(hub, shared, again, key, one, served);
+    let cause = cause_of(turned);
+    put_back(hub, shared, departures, again, key, one, served, cause);
 }
 
-/// Takes a connection in, under the key that is free next. The place that it took among those of all workers is given
-/// back where there is no memory for it.
-pub(crate) fn take_in(
-    hub: &mut Hub,
+/// Takes a session in, under the key that is free next. The place that it took among those of all workers is given back
+/// where there is no memory for it.
+pub(crate) fn take_in<T: Accepted, D: Departures<T>>(
+    hub: &mut Hub<T>,
     shared: &SharedCounts,
-    alloc: Global,
-    stream: TcpStream,
+    departures: &mut D,
+    session: Session<T>,
     now: u64,
 )
-    ensures { HasNoOther hub.old hub.new ⊎ HasOneMore hub.old hub.new }
+    requires connection { session.connection ≡ new_connection }
+    requires stream { T.is_new session.wire.inner }
+    ensures { HasTended T.remaining T.contents T.is_new hub.old (D.departed departures.old) hub.new (D.departed departures.new) }
 {
     let number = hub.next;
     if number == u64::MAX {
         shared.leave();
+        departures.turn_away(session);
         return;
     }
-    match hub
-        .connections
-        .insert(Opened::new(alloc, stream, number, now))
-    {
+    let opened = Opened::new(session, number, now);
+    match hub.connections.insert(opened) {
         Ok(_) => hub.next = number + 1,
-        Err(_) => shared.leave(),
+        Err(failed) => {
+            shared.leave();
+            departures.turn_away(failed.value.session);
+        }
     }
 }
 
-/// Closes the connection under a key, and gives back its place among those of all workers.
-pub(crate) fn close(hub: &mut Hub, shared: &SharedCounts, key: usize)
-    ensures { HasNoOther hub.old hub.new }
+/// Lets the session under a key leave, if it waits for its client. Answers whether it did.
+pub(crate) fn leave_waiting<T: Accepted, D: Departures<T>>(
+    hub: &mut Hub<T>,
+    departures: &mut D,
+    key: usize,
+) -> bool
+    ensures { HasTended T.remaining T.contents T.is_new hub.old (D.departed departures.old) hub.new (D.departed departures.new) }
 {
-    if hub.connections.try_remove(key).is_some() {
-        shared.leave();
+    let Some(one) = hub.connections.try_remove(key) else {
+        return false;
+    };
+    if !one.awaits_client() {
+        hub.connections.insert_reserved(one);
+        return false;
     }
+    let cause = one.cause();
+    departures.take(one.number, one.session, cause);
+    true
 }
 
-/// A connection that waits until its client sends, and since when.
+/// A session that waits until its client sends, and since when.
 #[derive(Clone, Copy)]
 pub(crate) struct Waiting {
     pub(crate) key: usize,
     pub(crate) since: u64,
 }
 
-/// The connection that has waited for its client for longest, if one waits: idle, or in the middle of a message, for which
+/// The session that has waited for its client for longest, if one waits: idle, or in the middle of a message, for which
 /// nothing was done.
-pub(crate) fn longest_waiting(hub: &Hub) -> Option<Waiting> {
+pub(crate) fn longest_waiting<T>(hub: &Hub<T>) -> Option<Waiting> {
     let mut found = None;
     let mut least = u64::MAX;
     for (key, one) in hub.connections.iter() {
@@ -173,34 +182,44 @@ pub(crate) fn longest_waiting(hub: &Hub) -> Option<Waiting> {
     found
 }
 
-/// Closes the connection under a key, and leaves its place to another one.
-pub(crate) fn make_room(hub: &mut Hub, key: usize)
-    ensures { HasNoOther hub.old hub.new }
-{
-    drop(hub.connections.try_remove(key));
-}
-
-/// Closes the connection under a key, if its time is over; an idle one gives back memory that it needs no more.
-fn tend(hub: &mut Hub, shared: &SharedCounts, alloc: Global, key: usize, now: u64, is_ending: bool)
-    ensures { HasNoOther hub.old hub.new }
+/// Lets the session under a key leave, if its time is over; an idle one gives back memory that it needs no more.
+fn tend<T: Accepted, D: Departures<T>>(
+    hub: &mut Hub<T>,
+    shared: &SharedCounts,
+    departures: &mut D,
+    alloc: Global,
+    key: usize,
+    now: u64,
+    is_ending: bool,
+)
+    ensures { HasTended T.remaining T.contents T.is_new hub.old (D.departed departures.old) hub.new (D.departed departures.new) }
 {
     let Some(mut one) = hub.connections.try_remove(key) else {
         return;
     };
     if one.is_over(now, is_ending) {
         shared.leave();
+        let cause = one.cause();
+        departures.take(one.number, one.session, cause);
         return;
     }
     one.rest(alloc);
     hub.connections.insert_reserved(one);
 }
 
-/// Closes the connections whose time is over; where the worker is about to end, also those that are idle.
-pub(crate) fn sweep(hub: &mut Hub, shared: &SharedCounts, alloc: Global, now: u64, is_ending: bool)
-    ensures { HasNoOther hub.old hub.new }
+/// Lets the sessions leave whose time is over; where the worker is about to end, also those that are idle.
+pub(crate) fn sweep<T: Accepted, D: Departures<T>>(
+    hub: &mut Hub<T>,
+    shared: &SharedCounts,
+    departures: &mut D,
+    alloc: Global,
+    now: u64,
+    is_ending: bool,
+)
+    ensures { HasTended T.remaining T.contents T.is_new hub.old (D.departed departures.old) hub.new (D.departed departures.new) }
 {
     let most = hub.connections.capacity();
     'keys: for key in 0..most {
-        tend(hub, shared, alloc, key, now, is_ending);
+        tend(hub, shared, departures, alloc, key, now, is_ending);
     }
 }

@@ -1,8 +1,10 @@
 //! What becomes of a connection behind its last answer: it is told that no more is sent, and what its other side still
 //! sends is read and dropped for a while. A connection that is closed while bytes of it are unread is reset, and the
 //! other side may then lose the answer before it has read it (RFC 9112, section 9.6).
-use std::io::{ErrorKind, Read};
-use std::net::TcpStream;
+ghost use Rattle.event_loop.specs.Lives.{Lingers};
+
+use http_turns::Session;
+use polled_io::{Polling, Stream};
 
 /// How many pieces of what the other side sends are dropped at most, and how many bytes each has: 8 MiB in all.
 pub(crate) const MOST_PIECES: u32 = 1_024;
@@ -24,25 +26,29 @@ pub(crate) enum Lingering {
 }
 
 /// Reads a piece and drops it.
-fn read_piece(stream: &TcpStream, left: u32) -> Lingering {
+fn read_piece<T: Stream>(session: &mut Session<T>, left: u32) -> Lingering
+    ensures { Lingers T.remaining T.contents session.old session.new }
+{
     let mut piece = [0; PIECE];
-    match (&mut &*stream).read(&mut piece) {
-        Ok(0) => Lingering::Over,
-        Ok(_) => Lingering::GoesOn(left),
-        Err(error) if error.kind() == ErrorKind::WouldBlock => Lingering::Waits(left),
-        Err(_) => Lingering::Over,
+    match session.read_on(&mut piece) {
+        Polling::Done(0) => Lingering::Over,
+        Polling::Done(_) => Lingering::GoesOn(left),
+        Polling::Waits => Lingering::Waits(left),
+        Polling::Failed => Lingering::Over,
     }
 }
 
 /// Reads what is there, and drops it, a few pieces at once, where so many may still come.
-pub(crate) fn read_on(stream: &TcpStream, most: u32) -> Lingering {
+pub(crate) fn read_on<T: Stream>(session: &mut Session<T>, most: u32) -> Lingering
+    ensures { Lingers T.remaining T.contents session.old session.new }
+{
     let mut left = most;
-    for _ in 0..PIECES_AT_ONCE {
+    'pieces: for _ in 0..PIECES_AT_ONCE {
         if left == 0 {
             return Lingering::Over;
         }
         left -= 1;
-        match read_piece(stream, left) {
+        match read_piece(session, left) {
             Lingering::GoesOn(_) => {}
             ended => return ended,
         }

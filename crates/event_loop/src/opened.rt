@@ -1,19 +1,20 @@
 //! A connection that is open.
 ghost use Rattle.std.specs.Prelude.{◌≡◌};
-ghost use Rattle.http_turns.specs.Connections.{new_connection};
+ghost use Rattle.event_loop.specs.Departures.{LeavesSo};
+ghost use Rattle.event_loop.specs.Lives.{Lingers};
 
+use crate::departing::Cause;
 use crate::linger::{Lingering, MOST_PIECES, read_on};
 use crate::patience::{MOST_LINGERING, idle_deadline, patience};
 use http_serving::Ended;
-use http_turns::{Connection, Phase, Turned};
+use http_turns::{Phase, Session, Turned};
+use polled_io::Stream;
 use std::alloc::Global;
-use std::net::{Shutdown, TcpStream};
 
 /// A connection that is open.
 #[derive(Drop)]
-pub(crate) struct Opened {
-    pub(crate) stream: TcpStream,
-    pub(crate) connection: Connection,
+pub(crate) struct Opened<T> {
+    pub(crate) session: Session<T>,
     /// No other connection of the worker has this number, or had it.
     pub(crate) number: u64,
     /// When it is closed, in milliseconds of the system's clock.
@@ -40,15 +41,14 @@ pub(crate) enum Served {
     Closed,
 }
 
-impl Opened {
+impl<T> Opened<T> {
     /// A connection of a number, of which nothing was read, at a moment in milliseconds of the system's clock.
-    pub(crate) fn new(alloc: Global, stream: TcpStream, number: u64, now: u64) -> Opened
+    pub(crate) fn new(session: Session<T>, number: u64, now: u64) -> Opened<T>
         ensures number { result.number ≡ number }
-        ensures connection { result.connection ≡ new_connection }
+        ensures session { result.session ≡ session }
     {
         Opened {
-            stream,
-            connection: Connection::new(alloc),
+            session,
             number,
             deadline: idle_deadline(now),
             phase: Phase::Idle,
@@ -62,10 +62,10 @@ impl Opened {
     /// Sets the deadline anew, where the connection is about something else than when it was set.
     fn renew(&mut self, now: u64)
         ensures number { self.new.number ≡ self.old.number }
-        ensures connection { self.new.connection ≡ self.old.connection }
+        ensures session { self.new.session ≡ self.old.session }
     {
-        let phase = self.connection.phase();
-        let answers = self.connection.answers();
+        let phase = self.session.phase();
+        let answers = self.session.answers();
         if phase == self.phase && answers == self.answers {
             return;
         }
@@ -74,12 +74,63 @@ impl Opened {
         self.deadline = now.saturating_add(patience(phase));
     }
 
+    /// Whether it waits until its client sends: it was given a turn, it has no more to do, and all that was whole is answered
+    /// and sent.
+    pub(crate) fn awaits_client(&self) -> bool {
+        !self.is_new
+            && !self.goes_on
+            && self.lingering.is_none()
+            && self.session.phase() != Phase::Answer
+    }
+
+    /// Since when it waits until its client sends, if it does: since its last answer where it is idle, and since the first
+    /// byte of a message which isn't whole.
+    pub(crate) fn waits_since(&self) -> Option<u64> {
+        if self.awaits_client() {
+            Some(self.deadline.saturating_sub(patience(self.phase)))
+        } else {
+            None
+        }
+    }
+
+    /// Whether it is idle: it waits until its client sends, and nothing of a message is there.
+    pub(crate) fn is_idle(&self) -> bool {
+        self.awaits_client() && self.session.phase() == Phase::Idle
+    }
+
+    /// Whether its deadline is over; where the worker is about to end, also whether it is idle.
+    pub(crate) fn is_over(&self, now: u64, is_ending: bool) -> bool {
+        self.deadline < now || (is_ending && self.is_idle())
+    }
+
+    /// Why it leaves, where no turn ended it now: its last answer is sent, or the worker closes it.
+    pub(crate) fn cause(&self) -> Cause
+        ensures { LeavesSo result self.now.session.connection }
+    {
+        if self.session.is_finished() {
+            return Cause::Ended(Ended::Finished);
+        }
+        Cause::Closed(self.session.phase())
+    }
+
+    /// Gives back the memory that an idle connection needs no more.
+    pub(crate) fn rest(&mut self, alloc: Global)
+        ensures number { self.new.number ≡ self.old.number }
+        ensures session { self.new.session ≡ self.old.session }
+    {
+        if self.is_idle() {
+            self.session.rest(alloc);
+        }
+    }
+}
+
+impl<T: Stream> Opened<T> {
     /// Reads on behind the last answer, where so many pieces may still come.
     pub(crate) fn linger(&mut self, pieces: u32) -> Served
         ensures number { self.new.number ≡ self.old.number }
-        ensures connection { self.new.connection ≡ self.old.connection }
+        ensures session { Lingers T.remaining T.contents self.old.session self.new.session }
     {
-        match read_on(&self.stream, pieces) {
+        match read_on(&mut self.session, pieces) {
             Lingering::Over => Served::Closed,
             Lingering::Waits(left) => {
                 self.lingering = Some(left);
@@ -95,9 +146,9 @@ impl Opened {
     /// Tells the other side that no more is sent, and begins to read on.
     fn begin_to_linger(&mut self, now: u64) -> Served
         ensures number { self.new.number ≡ self.old.number }
-        ensures connection { self.new.connection ≡ self.old.connection }
+        ensures session { Lingers T.remaining T.contents self.old.session self.new.session }
     {
-        if self.stream.shutdown(Shutdown::Write).is_err() {
+        if !self.session.end_sending() {
             return Served::Closed;
         }
         self.deadline = now.saturating_add(MOST_LINGERING);
@@ -107,7 +158,7 @@ impl Opened {
     /// What becomes of the connection behind a turn that ended so, at a moment in milliseconds of the system's clock.
     pub(crate) fn settle(&mut self, turned: Turned, now: u64) -> Served
         ensures number { self.new.number ≡ self.old.number }
-        ensures connection { self.new.connection ≡ self.old.connection }
+        ensures session { Lingers T.remaining T.contents self.old.session self.new.session }
     {
         self.is_new = false;
         match turned {
@@ -121,45 +172,6 @@ impl Opened {
             }
             Turned::Ended(Ended::Finished) => self.begin_to_linger(now),
             Turned::Ended(_) => Served::Closed,
-        }
-    }
-
-    /// Whether it waits until its client sends: it was given a turn, it has no more to do, and all that was whole is answered
-    /// and sent.
-    fn awaits_client(&self) -> bool {
-        !self.is_new
-            && !self.goes_on
-            && self.lingering.is_none()
-            && self.connection.phase() != Phase::Answer
-    }
-
-    /// Since when it waits until its client sends, if it does: since its last answer where it is idle, and since the first
-    /// byte of a message which isn't whole.
-    pub(crate) fn waits_since(&self) -> Option<u64> {
-        if self.awaits_client() {
-            Some(self.deadline.saturating_sub(patience(self.phase)))
-        } else {
-            None
-        }
-    }
-
-    /// Whether it is idle: it waits until its client sends, and nothing of a message is there.
-    pub(crate) fn is_idle(&self) -> bool {
-        self.awaits_client() && self.connection.phase() == Phase::Idle
-    }
-
-    /// Whether its deadline is over; where the worker is about to end, also whether it is idle.
-    pub(crate) fn is_over(&self, now: u64, is_ending: bool) -> bool {
-        self.deadline < now || (is_ending && self.is_idle())
-    }
-
-    /// Gives back the memory that an idle connection needs no more.
-    pub(crate) fn rest(&mut self, alloc: Global)
-        ensures number { self.new.number ≡ self.old.number }
-        ensures connection { self.new.connection ≡ self.old.connection }
-    {
-        if self.is_idle() {
-            self.connection.rest(alloc);
         }
     }
 }

@@ -1,20 +1,21 @@
 //! A worker: it waits until connections are ready, and gives each a turn.
-ghost use Rattle.std.specs.Prelude.{◌≡◌, false, IfOk, IfErr};
+ghost use Rattle.std.specs.Prelude.{◌≡◌, false, [], IfOk, IfErr};
 ghost use Rattle.event_loop.specs.Failures.{IsOfListener};
+ghost use Rattle.event_loop.specs.Hubs.{HaveLived};
 ghost use Rattle.event_loop.specs.Log.{HasServed};
 ghost use Rattle.event_loop.specs.Numbers.{is_left};
 
 use crate::accepting::{Accepting, LISTENER, accept_next};
+use crate::departing::Departures;
 use crate::failure::ListenerFailed;
 use crate::hub::{Hub, serve_key, sweep};
 use crate::limits::{Limits, SharedCounts};
+use crate::listening::{Accepted, Listener};
 use http_serving::{Clock, Responder};
 use http_turns::Intake;
-use mio::unix::SourceFd;
-use mio::{Events, Interest, Poll, Token};
+use mio::{Events, Poll, Token};
 use std::alloc::Global;
-use std::net::{Net, TcpListener};
-use std::os::fd::AsRawFd;
+use std::net::Net;
 use std::sync::Wait;
 use std::time::Duration;
 use std::{io, mem, thread, time};
@@ -39,19 +40,16 @@ struct Tools {
 impl Tools {
     /// Makes them, sees that the clock can be read, and has the listener polled, which then waits no more where nobody
     /// comes.
-    fn new<R: Net + time::Clock>(
+    fn new<R: Net + time::Clock, T: Accepted, L: Listener<T>>(
         rt: &R,
         alloc: Global,
-        listener: &TcpListener,
+        listener: &L,
     ) -> io::Result<Tools> {
         let poll = Poll::new(rt)?;
         let events = Events::with_capacity(alloc, MOST_EVENTS)?;
         let intake = Intake::new(alloc)?;
         rt.monotonic()?;
-        listener.set_nonblocking(true)?;
-        let fd = listener.as_raw_fd();
-        poll.registry()
-            .register(&mut SourceFd(&fd), LISTENER, Interest::READABLE)?;
+        listener.watch(&poll, LISTENER)?;
         Ok(Tools {
             poll,
             events,
@@ -60,10 +58,10 @@ impl Tools {
     }
 
     /// Makes them, and tries again a moment later where the system or memory gives too little.
-    fn wait_for<R: Wait + Net + time::Clock>(
+    fn wait_for<R: Wait + Net + time::Clock, T: Accepted, L: Listener<T>>(
         rt: &R,
         alloc: Global,
-        listener: &TcpListener,
+        listener: &L,
     ) -> Tools {
         for _ in rt.forever() {
             if let Ok(tools) = Tools::new(rt, alloc, listener) {
@@ -93,26 +91,69 @@ fn moment_after(time: &impl time::Clock, before: u64) -> u64 {
 /// waited for its client for longest is closed for a new one, whichever worker serves it: it is idle since its last answer, or
 /// in the middle of a message, for which nothing was done. One that is idle for 75 seconds is closed, and so is one whose
 /// message isn't whole 20 seconds after its first byte, or whose answer isn't taken within 20 seconds.
-pub fn work<R: Wait + Net + time::Clock, S, P: Responder<S>, C: Clock>(
+pub fn work<
+    R: Wait + Net + time::Clock,
+    T: Accepted + Drop,
+    L: Listener<T>,
+    D: Departures<T>,
+    S,
+    P: Responder<S>,
+    C: Clock,
+>(
     rt: &R,
     alloc: Global,
-    listener: &TcpListener,
+    listener: &L,
     limits: Limits,
     shared: &SharedCounts,
+    departures: &mut D,
     responder: &P,
     state: &mut S,
     clock: &mut C,
 ) -> Result<u64, ListenerFailed>
-    // The steps that were made for the messages of all connections are one chain from the state and the clock on, and
-    // those of each connection are the steps of its own messages, in order.
+    // The steps that were made for the messages of all connections are one chain from the state and the clock on. All
+    // sessions left by `departures`, each with its cause; and what each took off its own stream, and wrote to it, are the
+    // messages of its own steps and their answers, in order.
+    ensures lived { HaveLived T.remaining T.contents T.is_new P.refusal P.responds C.ticks state.old clock.old (D.departed departures.old) state.new clock.new (D.departed departures.new) }
+    // The same where nothing is known of streams: the steps of each connection are those of its own messages, in order.
     ensures served { HasServed P.refusal P.responds C.ticks state.old clock.old state.new clock.new }
     // It ends by itself only where a number of connections was given that is used up.
     ensures none_left { IfOk result (λ number. is_left limits.connections number ≡ false) }
     // A failure has the number of an error that lies in the listener.
     ensures failed { IfErr result IsOfListener }
 {
-    let mut tools = Tools::wait_for(rt, alloc, listener);
     let mut hub = Hub::new(alloc);
+    serve_all(
+        rt, alloc, listener, limits, shared, departures, &mut hub, responder, state, clock,
+    )
+}
+
+/// The same with a hub that is lent: here no stream can be let go but by `departures`, since nothing says that it is `Drop`.
+fn serve_all<
+    R: Wait + Net + time::Clock,
+    T: Accepted,
+    L: Listener<T>,
+    D: Departures<T>,
+    S,
+    P: Responder<S>,
+    C: Clock,
+>(
+    rt: &R,
+    alloc: Global,
+    listener: &L,
+    limits: Limits,
+    shared: &SharedCounts,
+    departures: &mut D,
+    hub: &mut Hub<T>,
+    responder: &P,
+    state: &mut S,
+    clock: &mut C,
+) -> Result<u64, ListenerFailed>
+    requires { hub.old.connections.slots ≡ [] }
+    ensures lived { HaveLived T.remaining T.contents T.is_new P.refusal P.responds C.ticks state.old clock.old (D.departed departures.old) state.new clock.new (D.departed departures.new) }
+    ensures none_left { IfOk result (λ number. is_left limits.connections number ≡ false) }
+    ensures failed { IfErr result IsOfListener }
+{
+    let mut tools = Tools::wait_for(rt, alloc, listener);
     let number = shared.draw();
     let mut accepting = Accepting::new(shared.begin(rt), number);
     let mut keys = Vec::new(alloc);
@@ -147,8 +188,9 @@ pub fn work<R: Wait + Net + time::Clock, S, P: Responder<S>, C: Clock>(
                 accepting.wake();
             } else if !hub.goes_on(key) {
                 serve_key(
-                    &mut hub,
+                    hub,
                     shared,
+                    departures,
                     key,
                     &mut again,
                     &mut tools.intake,
@@ -161,8 +203,9 @@ pub fn work<R: Wait + Net + time::Clock, S, P: Responder<S>, C: Clock>(
         }
         'keys: for key in &keys {
             serve_key(
-                &mut hub,
+                hub,
                 shared,
+                departures,
                 *key,
                 &mut again,
                 &mut tools.intake,
@@ -178,13 +221,21 @@ pub fn work<R: Wait + Net + time::Clock, S, P: Responder<S>, C: Clock>(
             listener,
             limits,
             shared,
+            departures,
             &mut accepting,
-            &mut hub,
+            hub,
             now,
         );
         if now >= swept {
             swept = now.saturating_add(BETWEEN_SWEEPS);
-            sweep(&mut hub, shared, alloc, now, accepting.failure.is_some());
+            sweep(
+                hub,
+                shared,
+                departures,
+                alloc,
+                now,
+                accepting.failure.is_some(),
+            );
         }
     }
     unreachable!()

@@ -5,7 +5,7 @@ ghost use Rattle.event_loop.specs.Numbers.{is_left, ends};
 ghost use Rattle.http_pool.specs.Connections.{HasServed};
 ghost use Rattle.http_pool.specs.Workers.{HasWorked, HaveWorked, HaveEnded, HasEnded, FailsByListener, FailByListener, most_workers};
 
-use event_loop::{Limits, ListenerFailed, SharedCounts};
+use event_loop::{Closing, Limits, ListenerFailed, SharedCounts};
 use http_front::{Answerer, Clock, HttpResponder};
 use std::alloc::{AllocError, Global};
 use std::net::{Net, TcpListener, TcpStream};
@@ -72,7 +72,15 @@ fn work<R: Wait + Net + time::Clock, A: Answerer, C: Clock>(
 {
     let responder = responder(rt, alloc);
     event_loop::work(
-        rt, alloc, listener, limits, shared, &responder, answerer, clock,
+        rt,
+        alloc,
+        listener,
+        limits,
+        shared,
+        &mut Closing,
+        &responder,
+        answerer,
+        clock,
     )
 }
 

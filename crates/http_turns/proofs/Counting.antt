@@ -1,13 +1,21 @@
 -- Counts of calls behind others that counted nothing.
-use Rattle.std.proofs.Common.{ℕ, List, Option, ap, ◌∙◌}
+use Rattle.std.proofs.Common.{◌≡◌, ℕ, List, Option, ap, ◌∙◌}
 use Rattle.counted_io.specs.Counting.{one_more}
 use Rattle.polled_io.specs.Counts.{PolledData, CountsNothing, CountsFailure, CountsWait, CountsEnd}
+use Rattle.polled_io.specs.Wires.{WireData, reader_of, writer_of}
 use Rattle.http_serving.specs.declared.ended.Ended.TheVariants as end
 use Rattle.http_turns.specs.declared.turned.Turned.{Turned}
 use Rattle.http_turns.specs.declared.turned.Turned.TheVariants as turned
 use Rattle.http_turns.specs.declared.turned.Want.TheVariants as want
 use Rattle.http_turns.specs.Connections.{ConnectionData}
 use Rattle.http_turns.specs.Ends.{IsTurned}
+
+-- calls of one direction leave the counts of the other
+pub reads_nothing : {T : Type 0} (a b : WireData T) → b.reads ≡ a.reads → CountsNothing (reader_of a) (reader_of b)
+reads_nothing a b same = (ap (λ c. c.failures) same, ap (λ c. c.waits) same, ap (λ c. c.ends) same)
+
+pub writes_nothing : {T : Type 0} (a b : WireData T) → b.writes ≡ a.writes → CountsNothing (writer_of a) (writer_of b)
+writes_nothing a b same = (ap (λ c. c.failures) same, ap (λ c. c.waits) same, ap (λ c. c.ends) same)
 
 pub nothing_on : {T : Type 0} (a b c : PolledData T) → CountsNothing a b → CountsNothing b c → CountsNothing a c
 nothing_on a b c h k = (k.0 ∙ h.0, k.1 ∙ h.1, k.2 ∙ h.2)

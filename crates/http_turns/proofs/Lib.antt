@@ -7,3 +7,4 @@ pub mod Reading
 pub mod Counting
 pub mod Alone
 pub mod Served
+pub mod Lingering

@@ -7,3 +7,4 @@ pub mod Calls
 pub mod Answering
 pub mod Ends
 pub mod Lives
+pub mod Sessions

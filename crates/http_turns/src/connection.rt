@@ -30,7 +30,9 @@ impl Model for Connection {
 impl Connection {
     ghost use Rattle.std.specs.Prelude.{◌≡◌, []};
     ghost use Rattle.http_turns.specs.Connections.{new_connection};
+    ghost use Rattle.std.specs.Prelude.{◌↔◌, IsTrue};
     ghost use Rattle.http_turns.specs.Phases.{IsPhase};
+    ghost use Rattle.http_turns.specs.Sessions.{IsFinished};
 
     /// A connection of which nothing was read. It takes no memory.
     pub fn new(alloc: Global) -> Self
@@ -56,6 +58,13 @@ impl Connection {
             return Phase::Idle;
         }
         Phase::Message
+    }
+
+    /// Whether the last message was answered, and all of that is written.
+    pub fn is_finished(&self) -> bool
+        ensures { IsTrue result ↔ IsFinished self.now }
+    {
+        matches!(self.stage, Stage::Last) && self.sent == self.text.len()
     }
 
     /// How many messages the responder was given. Behind 2^64 - 1 it goes on at 0, so that it is another one after each

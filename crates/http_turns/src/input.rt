@@ -1,13 +1,13 @@
 //! Reading what there is.
 ghost use Rattle.std.specs.Prelude.{◌≡◌, ◌≤◌, ◌+◌, length};
 ghost use Rattle.http_serving.specs.Reading.{ReadsMore};
+ghost use Rattle.polled_io.specs.Wires.{reader_of};
 ghost use Rattle.http_turns.specs.Calls.{IsFilled, turned_by};
 
 use crate::intake::PIECE;
 use crate::turned::{Turned, Want};
 use http_serving::Ended;
-use polled_io::{Polled, Polling};
-use std::io::Read;
+use polled_io::{Polling, Stream, Wire};
 
 /// What a read brought.
 #[derive(Clone, Copy)]
@@ -25,19 +25,21 @@ pub(crate) enum Filled {
 }
 
 /// Reads some more bytes, as far as they are there, by way of a piece of memory.
-pub(crate) fn fill<R: Read>(
-    reader: &mut Polled<R>,
+pub(crate) fn fill<T: Stream>(
+    wire: &mut Wire<T>,
     piece: &mut [u8; PIECE],
     unread: &mut Vec<u8>,
 ) -> Filled
-    ensures read { ReadsMore (R.remaining reader.old.inner) (R.remaining reader.new.inner) unread.old.items unread.new.items }
+    ensures read { ReadsMore (T.remaining wire.old.inner) (T.remaining wire.new.inner) unread.old.items unread.new.items }
     ensures most { length unread.new.items ≤ length unread.old.items + 2048 }
-    ensures filled { IsFilled result unread.old.items unread.new.items (R.remaining reader.new.inner) reader.old reader.new }
+    ensures filled { IsFilled result unread.old.items unread.new.items (T.remaining wire.new.inner) (reader_of wire.old) (reader_of wire.new) }
+    ensures apart { T.contents wire.new.inner ≡ T.contents wire.old.inner }
+    ensures writes { wire.new.writes ≡ wire.old.writes }
 {
     if unread.reserve(PIECE).is_err() {
         return Filled::NoMemory;
     }
-    match reader.take(piece) {
+    match wire.take(piece) {
         Polling::Done(0) => Filled::End,
         Polling::Done(taken) => {
             if unread.extend_from_slice(&piece[..taken]).is_err() {

@@ -1,7 +1,7 @@
 //! What follows from the definitions alone.
 ghost use Rattle.std.specs.Prelude.{◌≡◌, ◌++◌, ℕ, List, Option};
 ghost use Rattle.std.specs.Io.KnownBytes.{Consumes};
-ghost use Rattle.polled_io.specs.Counts.{PolledData};
+ghost use Rattle.polled_io.specs.Wires.{WireData, reader_of, writer_of};
 ghost use Rattle.http_messages.specs.declared.front.Fault.{Fault};
 ghost use Rattle.http_serving.specs.Serving.{AreAnswered, IsServed};
 ghost use Rattle.http_serving.specs.declared.ended.Ended.{Ended};
@@ -14,7 +14,7 @@ ghost use Rattle.http_turns.specs.Turns.{Goes};
 
 use crate::turned::Turned;
 use http_serving::{Clock, Responder};
-use std::io::{Read, Write};
+use polled_io::Stream;
 
 /// Turns of one connection, one after another, come to one exchange: what the first read, answered and wrote, and then
 /// what the next one did.
@@ -49,9 +49,9 @@ pub fn steps_alone_are_answers<S, P: Responder<S>, C: Clock>()
 /// A connection of which all turns find the state and the clock as its turn before left them, so that no other's steps
 /// stand between its own, is served as `http_serving::serve` serves it: where its last turn ended it, this says what
 /// `serve` says.
-pub fn turns_alone_are_served<S, P: Responder<S>, R: Read, W: Write, C: Clock>()
-    ensures { (ended : Ended) (connection : ConnectionData) (had has : Option (List ℕ)) (state after : S) (clock later : C) (held holds : Option (List ℕ)) (reader reader_after : PolledData R) (writer writer_after : PolledData W)
+pub fn turns_alone_are_served<S, P: Responder<S>, T: Stream, C: Clock>()
+    ensures { (ended : Ended) (connection : ConnectionData) (had has : Option (List ℕ)) (state after : S) (clock later : C) (held holds : Option (List ℕ)) (wire wire_after : WireData T)
         → HasLived P.refusal P.responds C.ticks connection had state clock held has after later holds
-        → IsTurned (Turned.Ended ended) connection has reader reader_after writer writer_after
+        → IsTurned (Turned.Ended ended) connection has (reader_of wire) (reader_of wire_after) (writer_of wire) (writer_of wire_after)
         → (bytes : List ℕ) × Consumes had has bytes × IsServed P.refusal P.responds C.ticks ended bytes state clock after later held holds }
 {}

@@ -1,5 +1,6 @@
 //! A turn of a connection.
 ghost use Rattle.std.specs.Prelude.{◌≡◌};
+ghost use Rattle.polled_io.specs.Wires.{reader_of, writer_of};
 ghost use Rattle.http_turns.specs.Exchanges.{HasGone, HasGoneWithin, HasProgressed};
 ghost use Rattle.http_turns.specs.Ends.{IsTurned};
 
@@ -8,8 +9,7 @@ use crate::intake::Intake;
 use crate::rounds::round;
 use crate::turned::Turned;
 use http_serving::{Clock, Responder};
-use polled_io::Polled;
-use std::io::{Read, Write};
+use polled_io::{Stream, Wire};
 
 /// How often a turn reads, or answers a message, before others come first.
 const MOST_ROUNDS: u32 = 64;
@@ -18,12 +18,12 @@ const MOST_ROUNDS: u32 = 64;
 /// and reads, until a call would have to wait, the connection ends, or the turn was long enough: it answers at most 64
 /// messages, and reads at most 131,072 bytes. It never waits. Nothing is read or answered while an answer isn't written.
 ///
-/// The connection is to be given the same reader and writer at each turn, and no turn behind one that said `Ended`.
-pub fn turn<S, P: Responder<S>, R: Read, W: Write, C: Clock>(
+/// The connection is to be given the same stream at each turn, and no turn behind one that said `Ended`. A `Session` sees to the
+/// first: it owns both.
+pub fn turn<S, P: Responder<S>, T: Stream, C: Clock>(
     connection: &mut Connection,
     intake: &mut Intake,
-    reader: &mut Polled<R>,
-    writer: &mut Polled<W>,
+    wire: &mut Wire<T>,
     responder: &P,
     state: &mut S,
     clock: &mut C,
@@ -31,16 +31,16 @@ pub fn turn<S, P: Responder<S>, R: Read, W: Write, C: Clock>(
     // What was read, answered and written. It says the same of several turns one after another, and from a new connection
     // on of its whole life: what was written, and what is pending, are the answers to the messages of the bytes that were
     // read, in order (`laws`).
-    ensures gone { HasGone P.refusal P.responds C.ticks connection.old (R.remaining reader.old.inner) state.old clock.old (W.contents writer.old.inner) connection.new (R.remaining reader.new.inner) state.new clock.new (W.contents writer.new.inner) }
+    ensures gone { HasGone P.refusal P.responds C.ticks connection.old (T.remaining wire.old.inner) state.old clock.old (T.contents wire.old.inner) connection.new (T.remaining wire.new.inner) state.new clock.new (T.contents wire.new.inner) }
     // A turn is short: others wait for it.
-    ensures share { HasGoneWithin P.refusal P.responds C.ticks 64 131072 connection.old (R.remaining reader.old.inner) state.old clock.old (W.contents writer.old.inner) connection.new (R.remaining reader.new.inner) state.new clock.new (W.contents writer.new.inner) }
+    ensures share { HasGoneWithin P.refusal P.responds C.ticks 64 131072 connection.old (T.remaining wire.old.inner) state.old clock.old (T.contents wire.old.inner) connection.new (T.remaining wire.new.inner) state.new clock.new (T.contents wire.new.inner) }
     // It goes on only where it read, answered, refused or wrote something: so no connection goes on for ever without its peer.
-    ensures progress { result ≡ Turned.GoesOn → HasProgressed P.refusal P.responds C.ticks connection.old (R.remaining reader.old.inner) state.old clock.old (W.contents writer.old.inner) connection.new (R.remaining reader.new.inner) state.new clock.new (W.contents writer.new.inner) }
+    ensures progress { result ≡ Turned.GoesOn → HasProgressed P.refusal P.responds C.ticks connection.old (T.remaining wire.old.inner) state.old clock.old (T.contents wire.old.inner) connection.new (T.remaining wire.new.inner) state.new clock.new (T.contents wire.new.inner) }
     // Why it waits or ended: where it waits for bytes no whole message is left, and where it waits for room an answer is.
-    ensures turned { IsTurned result connection.new (R.remaining reader.new.inner) reader.old reader.new writer.old writer.new }
+    ensures turned { IsTurned result connection.new (T.remaining wire.new.inner) (reader_of wire.old) (reader_of wire.new) (writer_of wire.old) (writer_of wire.new) }
 {
     'rounds: for _ in 0..MOST_ROUNDS {
-        match round(connection, intake, reader, writer, responder, state, clock) {
+        match round(connection, intake, wire, responder, state, clock) {
             Turned::GoesOn => {}
             ended => return ended,
         }

@@ -2,7 +2,7 @@
 use Rattle.std.specs.Prelude.{◌≡◌, ℕ}
 use Rattle.counted_io.specs.Counting.{one_more}
 
--- a reader or a writer, how many of its calls failed, how many would have had to wait, and how many met the end of the input
+-- one direction of a stream: how many of its calls failed, how many would have had to wait, and how many met the end of the input
 pub record PolledData (T : Type 0) : Type 0 where
   pub inner : T
   pub failures : ℕ

@@ -1,3 +1,4 @@
 pub mod Counts
 pub mod Polling
 pub mod Calls
+pub mod Wires

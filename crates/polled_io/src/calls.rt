@@ -5,38 +5,41 @@ ghost use Rattle.std.specs.Io.KnownBytes.{ReadConsumes, WriteAppends};
 ghost use Rattle.polled_io.specs.Calls.{read_polling, write_polling};
 
 use crate::polling::Polling;
+use crate::streams::Stream;
 use std::io;
-use std::io::{ErrorKind, Read, Write};
+use std::io::ErrorKind;
 
 /// How often a call is tried that is interrupted. The last try is the call that counts.
 const MOST_TRIES: u32 = 16;
 
-/// Reads once, and again where the read was interrupted.
-pub(crate) fn read_again<R: Read>(reader: &mut R, buf: &mut [u8]) -> io::Result<usize>
+/// Reads a stream once, and again where the read was interrupted.
+pub(crate) fn receive_again<T: Stream>(stream: &mut T, buf: &mut [u8]) -> io::Result<usize>
     ensures bound { ReadsAtMost result buf.new }
-    ensures bytes { ReadConsumes (R.remaining reader.old) (R.remaining reader.new) result buf.new }
+    ensures bytes { ReadConsumes (T.remaining stream.old) (T.remaining stream.new) result buf.new }
+    ensures apart { T.contents stream.new ≡ T.contents stream.old }
 {
     'tries: for _ in 1..MOST_TRIES {
-        match reader.read(buf) {
+        match stream.receive(buf) {
             Err(error) if error.kind() == ErrorKind::Interrupted => {}
             result => return result,
         }
     }
-    reader.read(buf)
+    stream.receive(buf)
 }
 
-/// Writes once, and again where the write was interrupted.
-pub(crate) fn write_again<W: Write>(writer: &mut W, buf: &[u8]) -> io::Result<usize>
+/// Writes a stream once, and again where the write was interrupted.
+pub(crate) fn send_again<T: Stream>(stream: &mut T, buf: &[u8]) -> io::Result<usize>
     ensures bound { WritesAtMost result buf.now }
-    ensures bytes { WriteAppends (W.contents writer.old) (W.contents writer.new) result buf.now }
+    ensures bytes { WriteAppends (T.contents stream.old) (T.contents stream.new) result buf.now }
+    ensures apart { T.remaining stream.new ≡ T.remaining stream.old }
 {
     'tries: for _ in 1..MOST_TRIES {
-        match writer.write(buf) {
+        match stream.send(buf) {
             Err(error) if error.kind() == ErrorKind::Interrupted => {}
             result => return result,
         }
     }
-    writer.write(buf)
+    stream.send(buf)
 }
 
 /// What a read came to.

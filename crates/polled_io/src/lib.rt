@@ -1,10 +1,11 @@
-//! Readers and writers that are polled: a call answers at once, also where it would have to wait, and it is counted how
-//! each call ended.
+//! Streams that are polled: a call answers at once, also where it would have to wait, and it is counted how each call ended.
 #![tactic(auto)]
 
 mod calls;
-mod polled;
 mod polling;
+mod streams;
+mod wires;
 
-pub use polled::Polled;
 pub use polling::Polling;
+pub use streams::{Halves, Stream};
+pub use wires::Wire;

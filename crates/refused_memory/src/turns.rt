@@ -5,7 +5,7 @@ use crate::counting::Refusals;
 use crate::messages::{ROOM, Still, all_requests, are_answers, begins_with_refusal, opened, right};
 use http_front::{Books, Ended, HttpResponder};
 use http_turns::{Connection, Intake, Turned, turn};
-use polled_io::Polled;
+use polled_io::{Halves, Wire};
 use std::alloc::{AllocError, Global};
 use std::io;
 use std::io::Write;
@@ -53,22 +53,23 @@ fn served(
 ) -> (Option<Ended>, usize) {
     let size = room.len();
     let mut connection = Connection::new(alloc);
-    let mut reader = Polled::new(input);
-    let mut writer = Polled::new(room);
+    let mut wire = Wire::new(Halves {
+        reader: input,
+        writer: room,
+    });
     for _ in 0..MOST_TURNS {
         let Tools { responder, intake } = &mut *tools;
         let turned = turn(
             &mut connection,
             intake,
-            &mut reader,
-            &mut writer,
+            &mut wire,
             &*responder,
             books,
             &mut Still,
         );
         connection.rest(alloc);
         if let Turned::Ended(ended) = turned {
-            return (Some(ended), size.saturating_sub(writer.inner().len()));
+            return (Some(ended), size.saturating_sub(wire.inner().writer.len()));
         }
     }
     (None, 0)

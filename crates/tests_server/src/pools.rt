@@ -15,7 +15,7 @@ use std::os::fd::OwnedFd;
 use std::process::Abort;
 use std::sync::Wait;
 use std::thread::Threads;
-use std::time;
+use std::{io, time};
 
 /// Tells how often it was read.
 #[derive(Drop)]
@@ -115,9 +115,14 @@ where
     (listener, address)
 }
 
-/// How many workers met the failure of a listener that doesn't listen (EINVAL).
+/// The failure of a listener that doesn't listen (EINVAL).
+fn deafness() -> Option<ListenerFailed> {
+    ListenerFailed::from_error(&io::Error::from_raw_os_error(22))
+}
+
+/// How many workers met that failure.
 fn failures(workers: &[Worker<Books, Readings>]) -> usize {
-    let is_deaf = Some(ListenerFailed { code: 22 });
+    let is_deaf = deafness();
     workers
         .iter()
         .filter(|worker| worker.failure == is_deaf)
@@ -205,7 +210,7 @@ where
         most_open: DEFAULT_OPEN,
     };
     let ended = serve_connections(rt, alloc, &listener, limits, &mut books, &mut clock);
-    same(rt, ended, Err(ListenerFailed { code: 22 }));
+    same(rt, ended.err(), deafness());
     same(rt, (entries(&books), clock.times), (0, 0));
 }
 

@@ -3,9 +3,8 @@ use counted_io::Counted;
 use http_messages::Fault;
 use http_serving::{Clock, Ended, HttpRequest, Responder, serve};
 use http_turns::{Connection, Intake, Turned, turn};
-use polled_io::Polled;
+use polled_io::{Stream, Wire};
 use std::alloc::{AllocError, Global};
-use std::io::{Read, Write};
 use std::process::Abort;
 use std::sync::Wait;
 
@@ -77,11 +76,10 @@ pub(crate) struct Outcome {
 const MOST_TURNS: u32 = 100_000;
 
 /// Gives a new connection turns until it ends.
-pub(crate) fn play<R: Read, W: Write>(
+pub(crate) fn play<T: Stream>(
     rt: &impl Abort,
     alloc: Global,
-    reader: &mut Polled<R>,
-    writer: &mut Polled<W>,
+    wire: &mut Wire<T>,
 ) -> (Option<Ended>, u64, u64) {
     let mut intake = Intake::new(alloc).expect(rt, "ample memory");
     let mut connection = Connection::new(alloc);
@@ -91,8 +89,7 @@ pub(crate) fn play<R: Read, W: Write>(
         let turned = turn(
             &mut connection,
             &mut intake,
-            reader,
-            writer,
+            wire,
             &Echo,
             &mut asked,
             &mut clock,

@@ -1,4 +1,5 @@
-//! Tests of connections that are served in turns, by the public functions of their crates. The library itself is empty.
+//! Tests of connections that are served in turns, by the public functions of their crates. The library itself has one
+//! function, whose clause says what a turn of a session comes to where the bytes of its stream are known.
 #![tactic(auto)]
 
 #[cfg(test)]
@@ -9,6 +10,7 @@ mod counted_calls;
 mod echo;
 #[cfg(test)]
 mod limits;
+mod memory;
 #[cfg(test)]
 mod pieces;
 #[cfg(test)]
@@ -16,4 +18,8 @@ mod pipelines;
 #[cfg(test)]
 mod polls;
 #[cfg(test)]
+mod sessions;
+#[cfg(test)]
 mod streams;
+
+pub use memory::turn_in_memory;

@@ -4,31 +4,21 @@ use crate::echo::{Asked, Echo, Readings};
 use crate::streams::Slow;
 use http_serving::Ended;
 use http_turns::{Connection, Intake, Phase, Turned, Want, turn};
-use polled_io::Polled;
+use polled_io::{Halves, Stream, Wire};
 use std::alloc::Global;
-use std::io::{Read, Write};
 use std::process::Abort;
 
 /// Gives a connection a turn, and answers how it ended, what it is about then, and how many answers were begun.
-fn turned<R: Read, W: Write>(
+fn turned<T: Stream>(
     rt: &impl Abort,
     alloc: Global,
     connection: &mut Connection,
-    reader: &mut Polled<R>,
-    writer: &mut Polled<W>,
+    wire: &mut Wire<T>,
 ) -> (Turned, Phase, u64) {
     let mut intake = Intake::new(alloc).expect(rt, "ample memory");
     let mut asked = Asked { times: 0 };
     let mut clock = Readings { times: 0 };
-    let turned = turn(
-        connection,
-        &mut intake,
-        reader,
-        writer,
-        &Echo,
-        &mut asked,
-        &mut clock,
-    );
+    let turned = turn(connection, &mut intake, wire, &Echo, &mut asked, &mut clock);
     (turned, connection.phase(), connection.answers())
 }
 
@@ -43,22 +33,26 @@ fn turns_are_short(rt: HostRuntime) {
             .extend_from_slice(b"GET / HTTP/1.1\r\n\r\n")
             .expect(rt, "ample memory");
     }
-    let mut reader = Polled::new(bytes.as_slice());
-    let mut writer = Polled::new(Vec::new(alloc));
+    let mut wire = Wire::new(Halves {
+        reader: bytes.as_slice(),
+        writer: Vec::new(alloc),
+    });
     let mut connection = Connection::new(alloc);
-    let first = turned(rt, alloc, &mut connection, &mut reader, &mut writer);
+    let first = turned(rt, alloc, &mut connection, &mut wire);
     same(rt, first, (Turned::GoesOn, Phase::Answer, 63));
-    let second = turned(rt, alloc, &mut connection, &mut reader, &mut writer);
+    let second = turned(rt, alloc, &mut connection, &mut wire);
     same(rt, second, (Turned::Ended(Ended::Closed), Phase::Idle, 100));
-    same(rt, writer.inner().len(), 200);
+    same(rt, wire.inner().writer.len(), 200);
 }
 
 /// The reader would have to wait before each piece of 10 bytes, and the writer before each of 2.
 #[test]
 fn waits_say_for_what(rt: HostRuntime) {
     let alloc = rt.alloc();
-    let mut reader = Polled::new(Slow::new(b"GET /a HTTP/1.1\r\n\r\n".as_slice(), 10));
-    let mut writer = Polled::new(Slow::new(Vec::new(alloc), 2));
+    let mut wire = Wire::new(Halves {
+        reader: Slow::new(b"GET /a HTTP/1.1\r\n\r\n".as_slice(), 10),
+        writer: Slow::new(Vec::new(alloc), 2),
+    });
     let mut connection = Connection::new(alloc);
     for wanted in &[
         (Turned::Waits(Want::Bytes), Phase::Idle, 0),
@@ -68,7 +62,7 @@ fn waits_say_for_what(rt: HostRuntime) {
         (Turned::Waits(Want::Bytes), Phase::Idle, 1),
         (Turned::Ended(Ended::Closed), Phase::Idle, 1),
     ] {
-        let found = turned(&rt, alloc, &mut connection, &mut reader, &mut writer);
+        let found = turned(&rt, alloc, &mut connection, &mut wire);
         same(&rt, found, *wanted);
     }
 }

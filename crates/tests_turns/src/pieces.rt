@@ -3,7 +3,7 @@ use crate::checks::same_at;
 use crate::echo::{by_serve, play};
 use crate::streams::Slow;
 use http_serving::Ended;
-use polled_io::Polled;
+use polled_io::{Halves, Wire};
 use std::alloc::Global;
 use std::process::Abort;
 use std::sync::Wait;
@@ -13,12 +13,14 @@ use std::sync::Wait;
 fn is_served_alike(rt: &(impl Wait + Abort), alloc: Global, input: &str, piece: usize) {
     let bytes = input.as_bytes();
     let wanted = by_serve(rt, alloc, bytes);
-    let mut reader = Polled::new(Slow::new(bytes, piece));
-    let mut writer = Polled::new(Slow::new(Vec::new(alloc), piece));
-    let (ended, asked, readings) = play(rt, alloc, &mut reader, &mut writer);
+    let mut wire = Wire::new(Halves {
+        reader: Slow::new(bytes, piece),
+        writer: Slow::new(Vec::new(alloc), piece),
+    });
+    let (ended, asked, readings) = play(rt, alloc, &mut wire);
     same_at(
         rt,
-        writer.inner().inner.as_slice(),
+        wire.inner().writer.inner.as_slice(),
         wanted.text.as_slice(),
         input,
     );
@@ -28,7 +30,7 @@ fn is_served_alike(rt: &(impl Wait + Abort), alloc: Global, input: &str, piece: 
         (wanted.ended, wanted.asked, wanted.readings),
         input,
     );
-    same_at(rt, (reader.failures(), writer.failures()), (0, 0), input);
+    same_at(rt, wire.failures(), (0, 0), input);
 }
 
 /// Serves each input so.
@@ -72,19 +74,22 @@ fn fails(rt: &impl Abort, alloc: Global, reads: u64, writes: u64, wanted: Fails)
     let (end, length, times, failures) = wanted;
     let mut slow = Slow::new(TWO, 1);
     slow.calls_left = reads;
-    let mut reader = Polled::new(slow);
     let mut full = Slow::new(Vec::new(alloc), 1);
     full.calls_left = writes;
-    let mut writer = Polled::new(full);
-    let (ended, asked, _) = play(rt, alloc, &mut reader, &mut writer);
+    let mut wire = Wire::new(Halves {
+        reader: slow,
+        writer: full,
+    });
+    let (ended, asked, _) = play(rt, alloc, &mut wire);
     let written = BOTH.get(..length).expect(rt, "a beginning");
     same_at(
         rt,
-        writer.inner().inner.as_slice(),
+        wire.inner().writer.inner.as_slice(),
         written,
         (reads, writes),
     );
-    let failed = reader.failures().saturating_add(writer.failures());
+    let (read_failures, write_failures) = wire.failures();
+    let failed = read_failures.saturating_add(write_failures);
     same_at(
         rt,
         (ended, asked, failed),
@@ -123,9 +128,11 @@ fn failed_writes_leave_a_beginning(rt: HostRuntime) {
 
 #[test]
 fn writes_of_nothing_fail(rt: HostRuntime) {
-    let mut reader = Polled::new(TWO);
-    let mut writer = Polled::new(Slow::new(Vec::new(rt.alloc()), 0));
-    let (ended, asked, _) = play(&rt, rt.alloc(), &mut reader, &mut writer);
+    let mut wire = Wire::new(Halves {
+        reader: TWO,
+        writer: Slow::new(Vec::new(rt.alloc()), 0),
+    });
+    let (ended, asked, _) = play(&rt, rt.alloc(), &mut wire);
     same_at(&rt, (ended, asked), (Some(Ended::WriteFailed), 1), 0);
-    same_at(&rt, (writer.failures(), writer.waits()), (1, 1), 0);
+    same_at(&rt, (wire.failures().1, wire.waits().1), (1, 1), 0);
 }

@@ -2,7 +2,7 @@
 use crate::checks::same_at;
 use crate::echo::{Outcome, by_serve, play};
 use crate::streams::Cut;
-use polled_io::Polled;
+use polled_io::{Halves, Wire};
 use std::alloc::Global;
 use std::process::Abort;
 use std::sync::Wait;
@@ -27,14 +27,21 @@ fn messages(rt: &impl Abort, alloc: Global, count: u64) -> Vec<u8> {
 /// Serves the bytes in turns, where the reader would have to wait behind the first of them.
 fn is_cut(rt: &impl Abort, alloc: Global, bytes: &[u8], at: usize, wanted: &Outcome) {
     let (first, rest) = bytes.split_at(at.min(bytes.len()));
-    let mut reader = Polled::new(Cut {
-        first,
-        rest,
-        has_waited: false,
+    let mut wire = Wire::new(Halves {
+        reader: Cut {
+            first,
+            rest,
+            has_waited: false,
+        },
+        writer: Vec::new(alloc),
     });
-    let mut writer = Polled::new(Vec::new(alloc));
-    let (ended, asked, readings) = play(rt, alloc, &mut reader, &mut writer);
-    same_at(rt, writer.inner().as_slice(), wanted.text.as_slice(), at);
+    let (ended, asked, readings) = play(rt, alloc, &mut wire);
+    same_at(
+        rt,
+        wire.inner().writer.as_slice(),
+        wanted.text.as_slice(),
+        at,
+    );
     same_at(
         rt,
         (ended, asked, readings),
@@ -43,7 +50,7 @@ fn is_cut(rt: &impl Abort, alloc: Global, bytes: &[u8], at: usize, wanted: &Outc
     );
     same_at(
         rt,
-        (reader.failures(), reader.waits(), reader.ends()),
+        (wire.failures().0, wire.waits().0, wire.ends()),
         (0, 1, 1),
         at,
     );

@@ -1,5 +1,5 @@
-use Rattle.std.proofs.Common.{rules}
+use Rattle.std.proofs.Common.{inr, refl}
 use Rattle.event_loop.proofs.hub.put_back.Goals as goal
 
 pub returns : goal.returns
-returns c = search rules
+returns g c = (refl, inr (c.insert_reserved.result, _, c.insert_reserved.ensures.updates, c.insert_reserved.ensures.was_vacant, refl, refl, refl))
