@@ -36,11 +36,17 @@ IsQuiet other before after = IsNotice before after
 abbrev pub lost_output_line : List ℕ
 lost_output_line = codes "standard output: a line couldn't be written" ++ 10 ∷ []
 
--- what standard error has more behind a server that ended so: where a write or a flush failed, that line, or a beginning of it
-abbrev pub IsLossTold : ServerStatus → Option (List ℕ) → Option (List ℕ) → Type 0
-IsLossTold status.WriteFailed before after = AppendsPart before after lost_output_line
-IsLossTold status.FlushFailed before after = AppendsPart before after lost_output_line
-IsLossTold other before after = after ≡ before
+-- that line was written, and no call failed; or one more call failed, and a beginning of the line was written, and not all of it
+abbrev pub IsLossWritten : ℕ → ℕ → Option (List ℕ) → Option (List ℕ) → Type 0
+IsLossWritten failures later before after =
+    ((later ≡ failures) × Appends before after lost_output_line)
+    ⊎ ((later ≡ one_more failures) × AppendsProperPart before after lost_output_line)
+
+-- what standard error has more behind a server that ended so: that line where a write or a flush failed, and else nothing
+abbrev pub IsLossTold : ServerStatus → ℕ → ℕ → Option (List ℕ) → Option (List ℕ) → Type 0
+IsLossTold status.WriteFailed failures later before after = IsLossWritten failures later before after
+IsLossTold status.FlushFailed failures later before after = IsLossWritten failures later before after
+IsLossTold other failures later before after = (later ≡ failures) × (after ≡ before)
 
 -- what a line left that couldn't be printed: a beginning of it, and not all of it, where a write failed, and the whole of it where it couldn't be flushed
 abbrev pub IsLineCut : ServerStatus → List ℕ → Option (List ℕ) → Option (List ℕ) → Type 0

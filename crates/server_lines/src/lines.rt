@@ -15,12 +15,17 @@ const LOST_OUTPUT: &str = "standard output: a line couldn't be written\n";
 
 /// Says on `err`, for people, that a line couldn't be written on standard output, where a server ended for that.
 pub fn notify_lost_output<E: Write>(status: ServerStatus, err: &mut Counted<E>)
-    // Where a write or a flush failed, `err` has as much of the line as could be written, and else nothing more.
-    ensures { IsLossTold status (E.contents err.old.inner) (E.contents err.new.inner) }
+    // Where a write or a flush failed, `err` has the line, or a beginning of it where that write failed too; and else nothing
+    // more.
+    ensures { IsLossTold status err.old.failures err.new.failures (E.contents err.old.inner) (E.contents err.new.inner) }
 {
     match status {
         ServerStatus::WriteFailed | ServerStatus::FlushFailed => {
-            let _sent = err.send(LOST_OUTPUT.as_bytes());
+            match err.send(LOST_OUTPUT.as_bytes()) {
+                Ok(()) => {}
+                // There is nobody left to tell.
+                Err(_) => {}
+            }
         }
         ServerStatus::Done
         | ServerStatus::ListenerFailed
