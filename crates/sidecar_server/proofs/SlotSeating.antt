@@ -1,5 +1,5 @@
 -- Seats of a desk whose books lie in slots, one after another, the workers who have them, what they bring back, and how they end.
-use Rattle.std.proofs.Common.{◌≡◌, ◌∙◌, ◌+◌, ℕ, zero, suc, List, [], ◌∷◌, ◌++◌, map, length, Option, None, ap, refl, sym, subst, String, Global, arith, string_bytes}
+use Rattle.std.proofs.Common.{◌≡◌, ◌∙◌, ◌+◌, ℕ, zero, suc, List, [], ◌∷◌, ◌++◌, map, sum, length, Option, None, ap, refl, sym, subst, String, Global, arith, string_bytes}
 use Rattle.std.proofs.lemmas.List.{map-append}
 use Rattle.std.specs.List.{AllByRecursion}
 use Rattle.atomic_table.specs.Seated.{TableId}
@@ -9,7 +9,7 @@ use Rattle.service_profile.specs.declared.configuration.Config.{Config}
 use Rattle.verifier.specs.declared.verified.Verified.{Verified}
 use Rattle.slot_desk.specs.Calls.{service_seat}
 use Rattle.slot_table.specs.Rules.{Course}
-use Rattle.slot_desk.specs.Closing.{SeatBegins}
+use Rattle.slot_desk.specs.Closing.{SeatBegins, NumbersAgree, last_number, first_number}
 use Rattle.slot_desk.specs.Desks.{DeskData, name_of, first_of}
 use Rattle.slot_desk.specs.Seats.{SeatData, new_seat, IsSeatOf}
 use Rattle.slot_desk.proofs.Backwards.{served_keeps}
@@ -19,7 +19,7 @@ use Rattle.http_pool.specs.declared.workers.Worker.{Worker}
 use Rattle.http_pool.specs.Workers.{HaveWorked}
 use Rattle.service_file.specs.declared.settings.ServiceSettings.{ServiceSettings}
 use Rattle.sidecar_server.specs.Served.{opening_of}
-use Rattle.sidecar_server.specs.Slotted.{names_of, origins_of, slot_seats_of, workers_of, slot_seats_with, IsAskedWithin}
+use Rattle.sidecar_server.specs.Slotted.{names_of, origins_of, slot_seats_of, workers_of, slot_seats_with, slot_counts_of, IsAskedWithin}
 use Rattle.sidecar_server.proofs.Along.{worker}
 
 -- ---- seats
@@ -124,3 +124,16 @@ opened_as services openings opened = ap (map first_of) opened ∙ firsts service
     firsts : (services : List ServiceSettings) → map first_of (map opening_of services) ≡ origins_of services
     firsts [] = refl
     firsts (s ∷ services) = ap (λ later. first_of (opening_of s) ∷ later) (firsts services)
+
+-- ---- the numbers of the last entries
+
+-- each book opened with none
+none_numbered : (services : List ServiceSettings) → sum (map first_number (origins_of services)) ≡ 0
+none_numbered [] = refl
+none_numbered (service ∷ services) = none_numbered services
+
+pub numbers_add_up : (origins : List (Option History)) (services : List ServiceSettings) (books : List History) (seats : List SeatData) (counts : List ℕ) → origins ≡ origins_of services → NumbersAgree origins books seats → counts ≡ slot_counts_of seats → sum (map last_number books) ≡ sum counts
+numbers_add_up origins services books seats counts are agree same =
+    let none : sum (map first_number origins) ≡ 0 = ap (λ os. sum (map first_number os)) are ∙ none_numbered services in
+    let counted : sum counts ≡ sum (map (λ seat. seat.count) seats) = ap sum same in
+    omega (arith, agree, none, counted)

@@ -1,17 +1,13 @@
 -- How many places the slots have dealt and taken back.
 use Rattle.std.proofs.Common.{◌≡◌, ℕ, zero, suc, ◌+◌, ◌<◌, ◌≤◌, List, [], ◌∷◌, ◌++◌, map, replicate, length, refl, sym, ap, ◌∙◌, arith}
 use Rattle.std.proofs.Common.{take, drop}
-use Rattle.std.proofs.lemmas.List.{length-map}
+use Rattle.std.proofs.lemmas.List.{length-map, length-replicate}
 use Rattle.std.specs.List.{AllByRecursion}
 use Rattle.slot_table.specs.Places.{SlotData}
 use Rattle.slot_desk.specs.Slots.{dealt_of, back_of}
 
 abbrev pub Leaves : ℕ → SlotData → Type 0
 Leaves n d = d.back + n ≤ d.dealt
-
-pub all_last : {A : Type 0} (P : A → Type 0) (xs : List A) (x : A) → AllByRecursion P (xs ++ x ∷ []) → AllByRecursion P xs × P x
-all_last P [] x h = (tt, h.0)
-all_last P (y ∷ ys) x h = let r = all_last P ys x h.1 in ((h.0, r.0), r.1)
 
 pub all_snoc : {A : Type 0} (P : A → Type 0) (xs : List A) (x : A) → AllByRecursion P xs → P x → AllByRecursion P (xs ++ x ∷ [])
 all_snoc P [] x h p = (p, tt)
@@ -21,13 +17,13 @@ pub some_left : (n : ℕ) (ds : List SlotData) → 0 < n → AllByRecursion (Lea
 some_left n [] less h = tt
 some_left n (d ∷ ds) less h = let here = h.0 in (omega (arith, less, here), some_left n ds less h.1)
 
-head_is : {A : Type 0} (x y : A) (xs ys : List A) → x ∷ xs ≡ y ∷ ys → x ≡ y
+pub head_is : {A : Type 0} (x y : A) (xs ys : List A) → x ∷ xs ≡ y ∷ ys → x ≡ y
 head_is x y xs ys e = cc
 
-tail_is : {A : Type 0} (x y : A) (xs ys : List A) → x ∷ xs ≡ y ∷ ys → xs ≡ ys
+pub tail_is : {A : Type 0} (x y : A) (xs ys : List A) → x ∷ xs ≡ y ∷ ys → xs ≡ ys
 tail_is x y xs ys e = cc
 
-no_cons : {A : Type 0} (x : A) (xs : List A) → [] ≡ x ∷ xs → ⊥
+pub no_cons : {A : Type 0} (x : A) (xs : List A) → [] ≡ x ∷ xs → ⊥
 no_cons x xs e = cc
 
 -- each slot took one seat back
@@ -77,3 +73,7 @@ whole (suc n) (x ∷ xs) (y ∷ ys) l e = ap (λ zs. x ∷ zs) (whole n xs ys (o
 
 pub as_long : {A B : Type 0} (f : A → B) (xs ys : List A) → map f xs ≡ map f ys → length xs ≡ length ys
 as_long f xs ys e = sym (length-map xs f) ∙ (ap length e ∙ length-map ys f)
+
+-- as many of one number as a vector has
+pub numbered : {A : Type 0} (f : A → ℕ) (xs : List A) (len many n : ℕ) → len ≡ length xs → map f xs ≡ replicate many n → map f xs ≡ replicate len n
+numbered f xs len many n long all = all ∙ ap (λ k. replicate k n) (sym (length-replicate many n) ∙ (ap length (sym all) ∙ (length-map xs f ∙ sym long)))

@@ -1,79 +1,110 @@
 -- What is known at the end.
-use Rattle.std.proofs.Common.{◌≡◌, suc, List, [], ◌∷◌, ◌++◌, length, map, refl, sym, ap, subst, inl, inr}
+use Rattle.std.proofs.Common.{◌≡◌, ℕ, zero, suc, List, [], ◌∷◌, ◌++◌, length, map, replicate, append-nil, append_assoc, refl, sym, ap, ◌∙◌, subst}
 use Rattle.std.specs.List.{AllByRecursion}
-use Rattle.service_profile.specs.Events.{History}
 use Rattle.atomic_table.specs.Seated.{TableId}
-use Rattle.slot_table.specs.Rules.{Course, AllBegin, EachBegins}
+use Rattle.slot_table.specs.declared.view.Trace.{Trace}
+use Rattle.slot_table.specs.declared.view.View.{View}
+use Rattle.slot_table.specs.Rules.{Course, AllBegin, EachBegins, IsMadeBy, trace}
 use Rattle.slot_table.proofs.Keeps.{last_good}
-use Rattle.slot_desk.specs.Closing.{row_of, added, IsIn, RowKnown, SeatKnown, KeepsKnown, Finished, RowBegins, SeatBegins, AreOf, AreCourses, last_of}
+use Rattle.slot_desk.specs.Closing.{traces_row, firsts, behind, CoursesAreMadeBy, added, all_added, Finished, RowBegins, SeatBegins, AreOf, AreCourses, last_of}
 use Rattle.slot_desk.specs.Seats.{SeatData}
-use Rattle.slot_desk.specs.Slots.{seen_at, seen_of, view_at, known_of, origin_of}
+use Rattle.slot_desk.specs.Slots.{trace_at, seen_of, number_at, view_at, known_of, origin_of}
+use Rattle.slot_desk.proofs.Counting.{head_is, tail_is, no_cons}
 use Rattle.slot_table.specs.Places.{SlotData, PlaceData}
 
--- what a seat has seen is what its places have
-pub seen_row : (places : List PlaceData) → map seen_at places ≡ map seen_of (map view_at places)
-seen_row [] = refl
-seen_row (p ∷ places) = ap (λ l. p.view.all_seen ∷ l) (seen_row places)
-
-is_in_last : (k : List (List History)) (x : List History) → IsIn x (k ++ x ∷ [])
-is_in_last [] x = inl refl
-is_in_last (y ∷ k) x = inr (is_in_last k x)
-
-is_in_more : (k : List (List History)) (x y : List History) → IsIn x k → IsIn x (k ++ y ∷ [])
-is_in_more [] x y h = absurd h
-is_in_more (z ∷ k) x y (inl e) = inl e
-is_in_more (z ∷ k) x y (inr h) = inr (is_in_more k x y h)
-
--- a row that is added is known, and what was known stays known
-pub added_known : (ks : List (List (List History))) (row : List (List History)) → RowKnown (added ks row) row
-added_known [] row = tt
-added_known (k ∷ ks) [] = tt
-added_known (k ∷ ks) (x ∷ xs) = (is_in_last k x, added_known ks xs)
-
-pub added_keeps : (ks : List (List (List History))) (more : List (List History)) → KeepsKnown ks (added ks more)
-added_keeps [] more row h = tt
-added_keeps (k ∷ ks) [] row h = h
-added_keeps (k ∷ ks) (y ∷ ys) [] h = tt
-added_keeps (k ∷ ks) (y ∷ ys) (x ∷ xs) h = (is_in_more k x y h.0, added_keeps ks ys xs h.1)
+-- what a seat leaves behind is what its places do
+pub trace_row : (places : List PlaceData) (n number : ℕ) → map number_at places ≡ replicate n number → map trace_at places ≡ map (trace number) (map view_at places)
+trace_row [] n number all = refl
+trace_row (p ∷ places) zero number all = absurd (no_cons _ _ (sym all))
+trace_row (p ∷ places) (suc n) number all =
+    let own : p.number ≡ number = head_is _ _ (map number_at places) (replicate n number) all in
+    let others = trace_row places n number (tail_is _ _ (map number_at places) (replicate n number) all) in
+    λ i. trace (own i) p.view ∷ others i
 
 pub seats_of_moved : (tables tables' : List TableId) (seats : List SeatData) → tables' ≡ tables → AllByRecursion (λ seat. seat.tables ≡ tables) seats → AllByRecursion (λ seat. seat.tables ≡ tables') seats
 seats_of_moved tables tables' seats e h = subst (λ ts. AllByRecursion (λ (seat : SeatData). seat.tables ≡ ts) seats) (sym e) h
 
-pub seats_more : (known : List (List (List History))) (seats : List SeatData) (seat : SeatData) → AllByRecursion (SeatKnown known) seats → SeatKnown known seat → AllByRecursion (SeatKnown known) (seats ++ seat ∷ [])
-seats_more known [] seat h r = (r, tt)
-seats_more known (other ∷ seats) seat h r = (h.0, seats_more known seats seat h.1 r)
+-- ---- rows, by services
+
+added_none : (ks : List (List Trace)) → added ks [] ≡ ks
+added_none [] = refl
+added_none (k ∷ ks) = refl
+
+-- what is known of the first service, and of the others
+all_first : (k : List Trace) (ks rows : List (List Trace)) → all_added (k ∷ ks) rows ≡ (k ++ firsts rows) ∷ all_added ks (behind rows)
+all_first k ks [] = ap (λ l. l ∷ ks) (sym (append-nil k))
+all_first k ks ([] ∷ rows) = all_first k ks rows ∙ ap (λ l. (k ++ firsts rows) ∷ all_added l (behind rows)) (sym (added_none ks))
+all_first k ks ((t ∷ ts) ∷ rows) = all_first (k ++ t ∷ []) (added ks ts) rows ∙ ap (λ l. l ∷ all_added (added ks ts) (behind rows)) (append_assoc k (t ∷ []) (firsts rows))
+
+none_added : (rows : List (List Trace)) → all_added [] rows ≡ []
+none_added [] = refl
+none_added (row ∷ rows) = none_added rows
 
 -- ---- the books
 
-begins_of : (c : Course) (k : List (List History)) (x : List History) → EachBegins c k → IsIn x k → AllBegin c x
-begins_of c [] x all h = absurd h
-begins_of c (y ∷ k) x all (inl e) = subst (AllBegin c) e all.0
-begins_of c (y ∷ k) x all (inr h) = begins_of c k x all.1 h
+-- what a row says of each service
+abbrev TracesBegin : List Course → List Trace → Type 0
+TracesBegin [] row = Unit {0}
+TracesBegin (c ∷ cs) [] = Unit {0}
+TracesBegin (c ∷ cs) (t ∷ ts) = AllBegin c t.seen × TracesBegin cs ts
 
-row_begins : (courses : List Course) (slots : List SlotData) (row : List (List History)) → Finished courses slots → RowKnown (map known_of slots) row → RowBegins courses row
-row_begins [] slots row f h = tt
-row_begins (c ∷ cs) [] row f h = absurd f
-row_begins (c ∷ cs) (slot ∷ slots) [] f h = tt
-row_begins (c ∷ cs) (slot ∷ slots) (x ∷ xs) f h = (begins_of c slot.known x f.1 h.0, row_begins cs slots xs f.2 h.1)
+rows_begin : (c : Course) (cs : List Course) (rows : List (List Trace)) → EachBegins c (firsts rows) → AllByRecursion (TracesBegin cs) (behind rows) → AllByRecursion (TracesBegin (c ∷ cs)) rows
+rows_begin c cs [] all more = tt
+rows_begin c cs ([] ∷ rows) all more = (tt, rows_begin c cs rows all more.1)
+rows_begin c cs ((t ∷ ts) ∷ rows) all more = ((all.0, more.0), rows_begin c cs rows all.1 more.1)
 
-pub seats_begin : (courses : List Course) (slots : List SlotData) (seats : List SeatData) → Finished courses slots → AllByRecursion (SeatKnown (map known_of slots)) seats → AllByRecursion (SeatBegins courses) seats
-seats_begin courses slots [] f h = tt
-seats_begin courses slots (seat ∷ seats) f h = (row_begins courses slots (row_of seat) f h.0, seats_begin courses slots seats f h.1)
+none_begin : (rows : List (List Trace)) → AllByRecursion (TracesBegin []) rows
+none_begin [] = tt
+none_begin (row ∷ rows) = (tt, none_begin rows)
+
+module _ (slot : SlotData) (slots : List SlotData) (many : ℕ) (rows : List (List Trace)) (known : map known_of (slot ∷ slots) ≡ all_added (replicate (suc many) []) rows) where
+  first_known : slot.known ≡ firsts rows
+  first_known = head_is _ _ (map known_of slots) (all_added (replicate many []) (behind rows)) (known ∙ all_first [] (replicate many []) rows)
+
+  others_known : map known_of slots ≡ all_added (replicate many []) (behind rows)
+  others_known = tail_is _ _ (map known_of slots) (all_added (replicate many []) (behind rows)) (known ∙ all_first [] (replicate many []) rows)
+
+all_begin : (courses : List Course) (slots : List SlotData) (many : ℕ) (rows : List (List Trace)) → map known_of slots ≡ all_added (replicate many []) rows → Finished courses slots → AllByRecursion (TracesBegin courses) rows
+all_begin [] slots many rows known f = none_begin rows
+all_begin (c ∷ cs) [] many rows known f = absurd f
+all_begin (c ∷ cs) (slot ∷ slots) zero rows known f = absurd (no_cons _ _ (sym (known ∙ none_added rows)))
+all_begin (c ∷ cs) (slot ∷ slots) (suc many) rows known f =
+    rows_begin c cs rows (subst (EachBegins c) (first_known slot slots many rows known) f.1) (all_begin cs slots many (behind rows) (others_known slot slots many rows known) f.3)
+
+pub all_made : (courses : List Course) (slots : List SlotData) (many : ℕ) (rows : List (List Trace)) → map known_of slots ≡ all_added (replicate many []) rows → Finished courses slots → CoursesAreMadeBy (map origin_of slots) courses rows
+all_made [] [] many rows known f = tt
+all_made [] (slot ∷ slots) many rows known f = absurd f
+all_made (c ∷ cs) [] many rows known f = absurd f
+all_made (c ∷ cs) (slot ∷ slots) zero rows known f = absurd (no_cons _ _ (sym (known ∙ none_added rows)))
+all_made (c ∷ cs) (slot ∷ slots) (suc many) rows known f =
+    (subst (IsMadeBy slot.origin c) (first_known slot slots many rows known) f.2, all_made cs slots many (behind rows) (others_known slot slots many rows known) f.3)
+
+row_begins : (courses : List Course) (number : ℕ) (views : List View) → TracesBegin courses (map (trace number) views) → RowBegins courses (map seen_of views)
+row_begins [] number views h = tt
+row_begins (c ∷ cs) number [] h = tt
+row_begins (c ∷ cs) number (v ∷ views) h = (h.0, row_begins cs number views h.1)
+
+each_begins : (courses : List Course) (seats : List SeatData) → AllByRecursion (TracesBegin courses) (map traces_row seats) → AllByRecursion (SeatBegins courses) seats
+each_begins courses [] h = tt
+each_begins courses (seat ∷ seats) h = (row_begins courses seat.number seat.views h.0, each_begins courses seats h.1)
+
+pub seats_begin : (courses : List Course) (slots : List SlotData) (many : ℕ) (seats : List SeatData) → map known_of slots ≡ all_added (replicate many []) (map traces_row seats) → Finished courses slots → AllByRecursion (SeatBegins courses) seats
+seats_begin courses slots many seats known f = each_begins courses seats (all_begin courses slots many (map traces_row seats) known f)
 
 pub courses_of : (courses : List Course) (slots : List SlotData) → Finished courses slots → AreCourses (map origin_of slots) courses
 courses_of [] [] f = tt
 courses_of [] (slot ∷ slots) f = absurd f
 courses_of (c ∷ cs) [] f = absurd f
-courses_of (c ∷ cs) (slot ∷ slots) f = (f.0, courses_of cs slots f.2)
+courses_of (c ∷ cs) (slot ∷ slots) f = (f.0, courses_of cs slots f.3)
 
 pub all_of : (courses : List Course) (slots : List SlotData) → Finished courses slots → AreOf (map origin_of slots) (map last_of courses)
 all_of [] [] f = tt
 all_of [] (slot ∷ slots) f = absurd f
 all_of (c ∷ cs) [] f = absurd f
-all_of (c ∷ cs) (slot ∷ slots) f = (last_good slot.origin c f.0, all_of cs slots f.2)
+all_of (c ∷ cs) (slot ∷ slots) f = (last_good slot.origin c f.0, all_of cs slots f.3)
 
 pub as_many_books : (courses : List Course) (slots : List SlotData) → Finished courses slots → length (map last_of courses) ≡ length slots
 as_many_books [] [] f = refl
 as_many_books [] (slot ∷ slots) f = absurd f
 as_many_books (c ∷ cs) [] f = absurd f
-as_many_books (c ∷ cs) (slot ∷ slots) f = ap suc (as_many_books cs slots f.2)
+as_many_books (c ∷ cs) (slot ∷ slots) f = ap suc (as_many_books cs slots f.3)

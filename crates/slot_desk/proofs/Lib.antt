@@ -3,6 +3,7 @@ pub mod Naming
 pub mod Places
 pub mod Counting
 pub mod Known
+pub mod Entries
 pub mod Reporting
 pub mod Showing
 pub mod Backwards

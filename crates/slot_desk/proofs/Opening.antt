@@ -1,5 +1,5 @@
 -- One service more, of a list that opens in order.
-use Rattle.std.proofs.Common.{◌≡◌, ◌∙◌, ◌++◌, ℕ, List, [], ◌∷◌, map, length, replicate, append_assoc, sym, ap, refl}
+use Rattle.std.proofs.Common.{◌≡◌, ◌∙◌, ◌++◌, List, [], ◌∷◌, map, length, replicate, append_assoc, sym, ap, refl}
 
 -- one name more on both sides
 pub more_names : {A B C : Type 0} (f : A → C) (g : B → C) (xs : List A) (ys : List B) (x : A) (y : B) → map f xs ≡ map g ys → f x ≡ g y → map f (xs ++ x ∷ []) ≡ map g (ys ++ y ∷ [])
@@ -12,16 +12,13 @@ more_names f g (u ∷ xs) (v ∷ ys) x y same is =
     let tail : map f xs ≡ map g ys = cc in
     rw (head, more_names f g xs ys x y tail is) refl
 
-abbrev none_of : {B : Type 0} → B → ℕ
-none_of y = 0
+as_alike : {B C : Type 0} (z : C) (ys : List B) → map (λ y. z) ys ≡ replicate (length ys) z
+as_alike z [] = refl
+as_alike z (y ∷ ys) = ap (λ l. z ∷ l) (as_alike z ys)
 
-as_zeros : {B : Type 0} (ys : List B) → map none_of ys ≡ replicate (length ys) 0
-as_zeros [] = refl
-as_zeros (y ∷ ys) = ap (λ l. 0 ∷ l) (as_zeros ys)
-
--- one zero more on both sides
-pub more_zeros : {A B : Type 0} (f : A → ℕ) (xs : List A) (ys : List B) (x : A) (y : B) → map f xs ≡ replicate (length ys) 0 → f x ≡ 0 → map f (xs ++ x ∷ []) ≡ replicate (length (ys ++ y ∷ [])) 0
-more_zeros f xs ys x y same is = more_names f none_of xs ys x y (same ∙ sym (as_zeros ys)) is ∙ as_zeros (ys ++ y ∷ [])
+-- one more of the same on both sides
+pub more_alike : {A B C : Type 0} (f : A → C) (z : C) (xs : List A) (ys : List B) (x : A) (y : B) → map f xs ≡ replicate (length ys) z → f x ≡ z → map f (xs ++ x ∷ []) ≡ replicate (length (ys ++ y ∷ [])) z
+more_alike f z xs ys x y same is = more_names f (λ y. z) xs ys x y (same ∙ sym (as_alike z ys)) is ∙ as_alike z (ys ++ y ∷ [])
 
 -- an element goes from the front of a list to the end of another
 pub handed_on : {A : Type 0} (done : List A) (x : A) (later : List A) → done ++ (x ∷ later) ≡ (done ++ x ∷ []) ++ later

@@ -10,7 +10,7 @@ use Rattle.slot_table.specs.Rules.{missing}
 use Rattle.service_profile.specs.Calls.{CallData, CallAnswer, IsCalled}
 use Rattle.slot_desk.specs.Calls.{made_by, IsCalledAt, IsTriedAt, IsMissedAt}
 use Rattle.slot_desk.specs.Desks.{DeskData, IsServiceOf}
-use Rattle.slot_desk.specs.Seats.{SeatData, seat_of, seat_with, IsSeatOf, ChangesAt}
+use Rattle.slot_desk.specs.Seats.{SeatData, seat_of, seat_with, entries_in, IsSeatOf, ChangesAt}
 use Rattle.slot_desk.specs.Slots.{table_of, table_at, number_at, view_at}
 
 -- where two lists look the same, so do their elements at a place
@@ -34,6 +34,15 @@ replicated : {A : Type 0} (n k : ℕ) (a b : A) → slice_get (replicate n a) k 
 replicated zero k a b e = let bad : ◌≡◌ {A = Option _} None (Some b) = e in absurd cc
 replicated (suc n) zero a b e = let is : ◌≡◌ {A = Option _} (Some a) (Some b) = e in cc
 replicated (suc n) (suc k) a b e = replicated n k a b e
+
+entries_set : (places : List PlaceData) (k : ℕ) (p q : PlaceData) → slice_get places k ≡ Some p → entries_in (map view_at (slice_set places k q)) + p.view.entries ≡ entries_in (map view_at places) + q.view.entries
+entries_set [] k p q e = let bad : ◌≡◌ {A = Option _} None (Some p) = e in absurd cc
+entries_set (z ∷ zs) zero p q e =
+    let both : ◌≡◌ {A = Option PlaceData} (Some z) (Some p) = e in
+    let is : z ≡ p = cc in
+    let s : z.view.entries ≡ p.view.entries = ap (λ (x : PlaceData). x.view.entries) is in
+    omega (arith, s)
+entries_set (z ∷ zs) (suc k) p q e = let i = entries_set zs k p q e in omega (arith, i)
 
 -- what an index gives
 stands : {A : Type 0} (xs : List A) (k : ℕ) (x : A) → k < length xs → x ≡ get_or xs k x → slice_get xs k ≡ Some x
@@ -72,6 +81,12 @@ module _ (slots : List SlotData) (desk : DeskData) (number count : ℕ) (places 
     own_number n all =
         let here : ◌≡◌ {A = Option ℕ} (slice_get (map number_at places) k) (Some p.number) = slice_get-map number_at places k ∙ ap (option_map number_at) stands_here in
         replicated n k number p.number (sym (ap (λ l. slice_get l k) all) ∙ here) ∙ ap (λ (s : SeatData). s.number) is_seat
+
+    -- the count goes on by what the place has made
+    pub counts_on : (q : PlaceData) (made after : ℕ) → after ≡ count + made → q.view.entries ≡ p.view.entries + made → count ≡ entries_in (map view_at places) → after ≡ entries_in (map view_at (slice_set places k q))
+    counts_on q made after counted more before =
+        let e = entries_set places k p q stands_here in
+        omega (arith, counted, more, before, e)
 
     -- a place comes in that differs by its view
     module _ (q : PlaceData) (same : q ≡ with_view p q.view) where

@@ -1,12 +1,13 @@
 -- What is known at the end of a desk.
-use Rattle.std.specs.Prelude.{◌≡◌, ◌≢◌, ◌⊎◌, ℕ, List, [], ◌∷◌, ◌++◌, map, Option}
+use Rattle.std.specs.Prelude.{◌≡◌, ◌≢◌, ◌⊎◌, ℕ, ◌+◌, ◌-◌, List, [], ◌∷◌, ◌++◌, map, sum, Option, Some, None}
 use Rattle.std.specs.List.{AllByRecursion}
 use Rattle.refusals.specs.declared.RefusalNumber.{RefusalNumber}
 use Rattle.refusals.specs.declared.RefusalNumber.TheVariants as refusal
 use Rattle.slot_table.specs.Origins.{IsOf}
 use Rattle.service_profile.specs.Events.{History}
 use Rattle.slot_table.specs.Places.{SlotData}
-use Rattle.slot_table.specs.Rules.{Course, IsCourseOf, AllBegin, EachBegins}
+use Rattle.slot_table.specs.declared.view.Trace.{Trace}
+use Rattle.slot_table.specs.Rules.{Course, IsCourseOf, AllBegin, EachBegins, IsMadeBy, next_number, trace}
 use Rattle.slot_desk.specs.Seats.{SeatData}
 use Rattle.slot_desk.specs.Slots.{seen_of}
 
@@ -22,6 +23,33 @@ RowBegins (c ∷ cs) (xs ∷ rows) = AllBegin c xs × RowBegins cs rows
 
 abbrev pub SeatBegins : List Course → SeatData → Type 0
 SeatBegins courses seat = RowBegins courses (row_of seat)
+
+-- ---- what seats leave behind
+
+-- what a seat leaves behind at each service, by its number
+abbrev pub traces_row : SeatData → List Trace
+traces_row seat = map (trace seat.number) seat.views
+
+-- the first trace of each row: those of the first service
+abbrev pub firsts : List (List Trace) → List Trace
+firsts [] = []
+firsts ([] ∷ rows) = firsts rows
+firsts ((t ∷ ts) ∷ rows) = t ∷ firsts rows
+
+-- what is behind the first of each row: the traces of the other services
+abbrev pub behind : List (List Trace) → List (List Trace)
+behind [] = []
+behind ([] ∷ rows) = [] ∷ behind rows
+behind ((t ∷ ts) ∷ rows) = ts ∷ behind rows
+
+-- nobody but the seats that left these rows of traces has changed the books
+abbrev pub CoursesAreMadeBy : List (Option History) → List Course → List (List Trace) → Type 0
+CoursesAreMadeBy [] [] rows = Unit {0}
+CoursesAreMadeBy [] (c ∷ cs) rows = ⊥
+CoursesAreMadeBy (origin ∷ origins) [] rows = ⊥
+CoursesAreMadeBy (origin ∷ origins) (c ∷ cs) rows = IsMadeBy origin c (firsts rows) × CoursesAreMadeBy origins cs (behind rows)
+
+-- ---- books
 
 -- each of the books is good, and of the one at its place that opened so
 abbrev pub AreOf : List (Option History) → List History → Type 0
@@ -46,6 +74,22 @@ pub record HaveCourses (origins : List (Option History)) (books : List History) 
   pub lasts : map last_of courses ≡ books
   pub of_books : AreCourses origins courses
   pub begun : AllByRecursion (SeatBegins courses) seats
+  -- nobody but these seats has changed the books
+  pub made : CoursesAreMadeBy origins courses (map traces_row seats)
+
+-- the number of the last entry, 0 before the first; and that of a book as it opened
+abbrev pub last_number : History → ℕ
+last_number history = next_number history - 1
+
+abbrev pub first_number : Option History → ℕ
+first_number None = 0
+first_number (Some history) = last_number history
+
+-- the numbers of the books' last entries add up to those with which the books opened, and the counts of the seats: no entry
+-- is there that no seat counts, and each that a seat counts was made
+abbrev pub NumbersAgree : List (Option History) → List History → List SeatData → Type 0
+NumbersAgree origins books seats =
+    sum (map last_number books) ≡ sum (map first_number origins) + sum (map (λ seat. seat.count) seats)
 
 -- as many seats were brought as this, of as many as that: not exactly all, or there was no memory for the books
 abbrev pub IsUnclosed : ℕ → ℕ → RefusalNumber → Type 0
@@ -55,32 +99,21 @@ IsUnclosed brought given number =
 
 -- ---- while seats are taken back
 
--- one row more: to what is known of each service comes what was seen of it
-abbrev pub added : List (List (List History)) → List (List History) → List (List (List History))
+-- what is known of each service, and what one seat more left behind there
+abbrev pub added : List (List Trace) → List Trace → List (List Trace)
 added [] xs = []
 added (k ∷ ks) [] = k ∷ ks
 added (k ∷ ks) (x ∷ xs) = (k ++ x ∷ []) ∷ added ks xs
 
-abbrev pub IsIn : List History → List (List History) → Type 0
-IsIn x [] = ⊥
-IsIn x (y ∷ ys) = (y ≡ x) ⊎ IsIn x ys
+-- the same of several rows, one after another
+abbrev pub all_added : List (List Trace) → List (List Trace) → List (List Trace)
+all_added ks [] = ks
+all_added ks (row ∷ rows) = all_added (added ks row) rows
 
--- what was seen of each service is known of it
-abbrev pub RowKnown : List (List (List History)) → List (List History) → Type 0
-RowKnown [] xs = Unit {0}
-RowKnown (k ∷ ks) [] = Unit {0}
-RowKnown (k ∷ ks) (x ∷ xs) = IsIn x k × RowKnown ks xs
-
-abbrev pub SeatKnown : List (List (List History)) → SeatData → Type 0
-SeatKnown known seat = RowKnown known (row_of seat)
-
--- what was known is known
-abbrev pub KeepsKnown : List (List (List History)) → List (List (List History)) → Type 0
-KeepsKnown ks ms = (row : List (List History)) → RowKnown ks row → RowKnown ms row
-
--- each is what becomes of the book that was laid into its slot, and all that is known of its service begins the histories of its openings
+-- each is what becomes of the book that was laid into its slot; all that is known of its service begins the histories of its
+-- openings, and nobody else has changed the book
 abbrev pub Finished : List Course → List SlotData → Type 0
 Finished [] [] = Unit {0}
 Finished [] (slot ∷ slots) = ⊥
 Finished (c ∷ cs) [] = ⊥
-Finished (c ∷ cs) (slot ∷ slots) = IsCourseOf slot.origin c × EachBegins c slot.known × Finished cs slots
+Finished (c ∷ cs) (slot ∷ slots) = IsCourseOf slot.origin c × EachBegins c slot.known × IsMadeBy slot.origin c slot.known × Finished cs slots

@@ -1,5 +1,5 @@
 -- What contracts see of a seat, which has a place at each service of its desk.
-use Rattle.std.specs.Prelude.{◌≡◌, ℕ, ◌+◌, List, map, Option, slice_get, slice_set, Some}
+use Rattle.std.specs.Prelude.{◌≡◌, ℕ, ◌+◌, List, [], ◌∷◌, length, map, Option, slice_get, slice_set, Some}
 use Rattle.atomic_table.specs.Seated.{TableId}
 use Rattle.service_profile.specs.Events.{History}
 use Rattle.slot_table.specs.declared.view.View.{View}
@@ -15,6 +15,16 @@ pub record SeatData : Type 0 where
 
 abbrev pub seat_of : ℕ → ℕ → List TableId → List View → SeatData
 seat_of number count tables views = record { number = number; count = count; tables = tables; views = views }
+
+-- how many entries a seat with these views has made
+abbrev pub entries_in : List View → ℕ
+entries_in [] = 0
+entries_in (v ∷ views) = v.entries + entries_in views
+
+-- its count is the number of the entries that it has made at all its services, and of each of them it has a view
+pub record IsTallied (seat : SeatData) : Type 0 where
+  pub counted : seat.count ≡ entries_in seat.views
+  pub each_viewed : length seat.views ≡ length seat.tables
 
 -- the seat is one of the desk's
 abbrev pub IsSeatOf : DeskData → SeatData → Type 0

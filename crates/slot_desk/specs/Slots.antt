@@ -2,7 +2,9 @@
 use Rattle.std.specs.Prelude.{ℕ, List, Option}
 use Rattle.atomic_table.specs.Seated.{TableId}
 use Rattle.service_profile.specs.Events.{History}
+use Rattle.slot_table.specs.declared.view.Trace.{Trace}
 use Rattle.slot_table.specs.declared.view.View.{View}
+use Rattle.slot_table.specs.Rules.{trace}
 use Rattle.slot_table.specs.Places.{SlotData, PlaceData}
 
 abbrev pub table_of : SlotData → TableId
@@ -18,8 +20,8 @@ dealt_of slot = slot.dealt
 abbrev pub back_of : SlotData → ℕ
 back_of slot = slot.back
 
--- all that each of the places that came back had seen
-abbrev pub known_of : SlotData → List (List History)
+-- what each of the places that came back left behind
+abbrev pub known_of : SlotData → List Trace
 known_of slot = slot.known
 
 abbrev pub table_at : PlaceData → TableId
@@ -31,9 +33,10 @@ number_at place = place.number
 abbrev pub view_at : PlaceData → View
 view_at place = place.view
 
--- all that it has seen
-abbrev pub seen_at : PlaceData → List History
-seen_at place = place.view.all_seen
+-- what it leaves behind, by its number
+abbrev pub trace_at : PlaceData → Trace
+trace_at place = trace place.number place.view
 
+-- all that was seen
 abbrev pub seen_of : View → List History
 seen_of view = view.all_seen

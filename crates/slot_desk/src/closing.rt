@@ -2,9 +2,9 @@
 ghost use Rattle.std.specs.Prelude.{◌≡◌, ◌<◌, ◌≤◌, ◌+◌, ◌++◌, List, suc, vec_len, vec_capacity, length, map, reverse, IfOk, IfErr};
 ghost use Rattle.std.specs.List.{AllByRecursion};
 ghost use Rattle.slot_table.specs.Rules.{Course};
-ghost use Rattle.slot_desk.specs.Closing.{AreOf, HaveCourses, IsUnclosed, last_of, added, SeatKnown, KeepsKnown, Finished};
-ghost use Rattle.slot_desk.specs.Seats.{IsSeatOf};
-ghost use Rattle.slot_desk.specs.Slots.{table_of, origin_of, dealt_of, back_of, known_of, table_at, seen_at};
+ghost use Rattle.slot_desk.specs.Closing.{AreOf, HaveCourses, NumbersAgree, IsUnclosed, last_of, added, all_added, traces_row, Finished};
+ghost use Rattle.slot_desk.specs.Seats.{IsSeatOf, IsTallied};
+ghost use Rattle.slot_desk.specs.Slots.{table_of, origin_of, dealt_of, back_of, known_of, table_at, trace_at};
 
 use crate::desks::Desk;
 use crate::seats::Seat;
@@ -30,7 +30,7 @@ fn give_back_all(slots: &mut [Slot], mut places: Vec<Place>)
     ensures origins { map origin_of slots.new ≡ map origin_of slots.old }
     ensures dealt { map dealt_of slots.new ≡ map dealt_of slots.old }
     ensures back { map back_of slots.new ≡ map suc (map back_of slots.old) }
-    ensures known { map known_of slots.new ≡ added (map known_of slots.old) (map seen_at (reverse places.items)) }
+    ensures known { map known_of slots.new ≡ added (map known_of slots.old) (map trace_at (reverse places.items)) }
 {
     if let Some((first, rest)) = slots.split_first_mut() {
         let Some(place) = places.pop() else {
@@ -41,22 +41,36 @@ fn give_back_all(slots: &mut [Slot], mut places: Vec<Place>)
     }
 }
 
-/// Gives the slots the places of all seats back.
+/// Gives the slots the places of all seats back, seat by seat. The first seat is the last of the list.
+fn gather_reversed(slots: &mut [Slot], mut seats: Vec<Seat>)
+    requires here { AllByRecursion (λ seat. seat.tables ≡ map table_of slots.old) (reverse seats.items) }
+    requires some { AllByRecursion (λ slot. slot.back + vec_len seats ≤ slot.dealt) slots.old }
+    ensures origins { map origin_of slots.new ≡ map origin_of slots.old }
+    ensures dealt { map dealt_of slots.new ≡ map dealt_of slots.old }
+    ensures back { map back_of slots.new ≡ map (λ n. n + vec_len seats) (map back_of slots.old) }
+    ensures known { map known_of slots.new ≡ all_added (map known_of slots.old) (map traces_row (reverse seats.items)) }
+    ensures tallied { AllByRecursion IsTallied (reverse seats.items) }
+{
+    if let Some(seat) = seats.pop() {
+        let Seat { mut places, .. } = seat;
+        places.reverse();
+        give_back_all(slots, places);
+        gather_reversed(slots, seats);
+    }
+}
+
+/// Gives the slots the places of all seats back, in the order of the seats.
 fn gather(slots: &mut [Slot], mut seats: Vec<Seat>)
     requires here { AllByRecursion (λ seat. seat.tables ≡ map table_of slots.old) seats.items }
     requires some { AllByRecursion (λ slot. slot.back + vec_len seats ≤ slot.dealt) slots.old }
     ensures origins { map origin_of slots.new ≡ map origin_of slots.old }
     ensures dealt { map dealt_of slots.new ≡ map dealt_of slots.old }
     ensures back { map back_of slots.new ≡ map (λ n. n + vec_len seats) (map back_of slots.old) }
-    ensures known { AllByRecursion (SeatKnown (map known_of slots.new)) seats.items }
-    ensures kept { KeepsKnown (map known_of slots.old) (map known_of slots.new) }
+    ensures known { map known_of slots.new ≡ all_added (map known_of slots.old) (map traces_row seats.items) }
+    ensures tallied { AllByRecursion IsTallied seats.items }
 {
-    if let Some(seat) = seats.pop() {
-        let Seat { mut places, .. } = seat;
-        places.reverse();
-        give_back_all(slots, places);
-        gather(slots, seats);
-    }
+    seats.reverse();
+    gather_reversed(slots, seats);
 }
 
 /// Takes the books out of the slots. The first book's slot is the last of the list.
@@ -82,8 +96,10 @@ impl Desk {
         // place.
         ensures good { IfOk result (λ books. AreOf self.origins books.items) }
         // Of each service there is one history of each opening, the last one that of its book, and all that any seat had seen of the
-        // service begins that of its opening.
+        // service begins that of its opening. Nobody but these seats has changed the books.
         ensures begun { IfOk result (λ books. HaveCourses self.origins books.items seats.items) }
+        // The numbers of the last entries add up to those with which the books opened, and the counts of the seats.
+        ensures agree { IfOk result (λ books. NumbersAgree self.origins books.items seats.items) }
         ensures unclosed { IfErr result (λ e. IsUnclosed (vec_len seats) self.seats e.number) }
         ensures unchanged { IfErr result (λ e. (e.desk ≡ self) × (e.seats ≡ seats)) }
     {

@@ -1,7 +1,7 @@
 //! Desks: services, each with its book in a slot.
 ghost use Rattle.std.specs.Prelude.{◌≡◌, ◌≤◌, [], length, map, position, replicate, bytes_eq, string_bytes, vec_len, IfOk, IfSome};
 ghost use Rattle.slot_desk.specs.Desks.{IsServiceOf, name_of, first_of, most_services};
-ghost use Rattle.slot_desk.specs.Slots.{origin_of, dealt_of, back_of};
+ghost use Rattle.slot_desk.specs.Slots.{origin_of, dealt_of, back_of, known_of};
 
 use crate::services::ServiceId;
 use book::Config;
@@ -20,9 +20,9 @@ pub struct Desk {
 }
 
 impl Model for Desk {
-    ghost use Rattle.std.specs.Prelude.{◌≡◌, ◌≤◌, map, replicate, string_bytes, vec_len};
+    ghost use Rattle.std.specs.Prelude.{◌≡◌, ◌≤◌, [], map, replicate, string_bytes, vec_len};
     ghost use Rattle.slot_desk.specs.Desks.{DeskData, desk_of};
-    ghost use Rattle.slot_desk.specs.Slots.{table_of, origin_of, dealt_of, back_of};
+    ghost use Rattle.slot_desk.specs.Slots.{table_of, origin_of, dealt_of, back_of, known_of};
 
     ghost Value = { DeskData };
 
@@ -32,7 +32,8 @@ impl Model for Desk {
     ghost invariant = { λ desk.
         (map dealt_of desk.slots.items ≡ replicate (vec_len desk.slots) desk.given)
         × (map back_of desk.slots.items ≡ replicate (vec_len desk.slots) 0)
-        × (vec_len desk.names ≡ vec_len desk.slots) × (desk.given ≤ 128) };
+        × (vec_len desk.names ≡ vec_len desk.slots) × (desk.given ≤ 128)
+        × (map known_of desk.slots.items ≡ replicate (vec_len desk.slots) []) };
 }
 
 impl Desk {
@@ -85,6 +86,7 @@ fn opened(
     ensures origins { IfOk result (λ opened. map origin_of opened.1.items ≡ map first_of services.items) }
     ensures dealt { IfOk result (λ opened. map dealt_of opened.1.items ≡ replicate (vec_len services) 0) }
     ensures back { IfOk result (λ opened. map back_of opened.1.items ≡ replicate (vec_len services) 0) }
+    ensures known { IfOk result (λ opened. map known_of opened.1.items ≡ replicate (vec_len services) []) }
 {
     let mut names = Vec::new(alloc);
     let mut slots = Vec::new(alloc);

@@ -21,15 +21,15 @@ pub struct Seat {
 
 impl Model for Seat {
     ghost use Rattle.std.specs.Prelude.{◌≡◌, map, replicate, vec_len};
-    ghost use Rattle.slot_desk.specs.Seats.{SeatData, seat_of};
+    ghost use Rattle.slot_desk.specs.Seats.{SeatData, seat_of, entries_in};
     ghost use Rattle.slot_desk.specs.Slots.{table_at, number_at, view_at};
 
     ghost Value = { SeatData };
 
     ghost view = { λ seat. seat_of seat.number seat.count (map table_at seat.places.items) (map view_at seat.places.items) };
 
-    // Its places all have its number.
-    ghost invariant = { λ seat. map number_at seat.places.items ≡ replicate (vec_len seat.places) seat.number };
+    // Its places all have its number, and it counts the entries that were made by them.
+    ghost invariant = { λ seat. (map number_at seat.places.items ≡ replicate (vec_len seat.places) seat.number) × (seat.count ≡ entries_in (map view_at seat.places.items)) };
 }
 
 impl Seat {

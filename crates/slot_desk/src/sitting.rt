@@ -2,7 +2,7 @@
 ghost use Rattle.std.specs.Prelude.{◌≡◌, ◌<◌, ◌≤◌, ◌+◌, ◌++◌, vec_len, vec_capacity, length, map, replicate, IfOk, IfErr};
 ghost use Rattle.slot_desk.specs.Desks.{desk_of, IsUnseated};
 ghost use Rattle.slot_desk.specs.Seats.{new_seat, newcomer_of};
-ghost use Rattle.slot_desk.specs.Slots.{dealt_of, back_of, table_of, origin_of, table_at, number_at, view_at};
+ghost use Rattle.slot_desk.specs.Slots.{dealt_of, back_of, known_of, table_of, origin_of, table_at, number_at, view_at};
 
 use crate::desks::Desk;
 use crate::seats::Seat;
@@ -17,6 +17,7 @@ fn deal(slots: &mut [Slot], places: &mut Vec<Place>, given: u32)
     requires room { vec_len places.old + length slots.old ≤ vec_capacity places.old }
     ensures dealt { map dealt_of slots.new ≡ replicate (length slots.old) (given + 1) }
     ensures back { map back_of slots.new ≡ map back_of slots.old }
+    ensures known { map known_of slots.new ≡ map known_of slots.old }
     ensures tables { map table_of slots.new ≡ map table_of slots.old }
     ensures origins { map origin_of slots.new ≡ map origin_of slots.old }
     ensures here { map table_at places.new.items ≡ map table_at places.old.items ++ map table_of slots.old }

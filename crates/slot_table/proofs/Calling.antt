@@ -1,5 +1,5 @@
 -- A call between its take and its put.
-use Rattle.std.proofs.Common.{◌≡◌, ℕ, ◌+◌, ◌≤◌, ◌==◌, List, [], ◌∷◌, append_assoc, Bool, true, false, refl, sym, ap, ◌∙◌, subst, arith, Result, Ok, Err, Option, suc}
+use Rattle.std.proofs.Common.{◌≡◌, ℕ, ◌+◌, ◌<◌, ◌≤◌, ◌==◌, List, [], ◌∷◌, append_assoc, Bool, true, false, refl, sym, ap, ◌∙◌, subst, arith, Result, Ok, Err, Option, suc}
 use Rattle.std.specs.Prelude.{if◌then◌else◌, MatchBool}
 use Rattle.std.specs.List.{fold}
 use Rattle.std.proofs.lemmas.Bool.{eqb-true, eqb-false}
@@ -13,11 +13,12 @@ use Rattle.service_profile.specs.Histories.{Past, opened, passed, past_of, situa
 use Rattle.service_profile.specs.Machine.{is_entered}
 use Rattle.service_profile.specs.Answers.{IsApplied, as_documented, out_of_memory, IsCut, IsRolled, with_line, line_of, answer, reopened, cut, after_cut, after_roll, lines_up_to, is_worn_out, is_some_open}
 use Rattle.service_profile.specs.Answers as answers
+use Rattle.book.proofs.Counting.{cuts_go_on}
 use Rattle.book.proofs.Deciding.{decision_near}
 use Rattle.book.specs.Good.{IsGood}
 use Rattle.slot_table.specs.Origins.{IsOf, IsOpeningAfter}
 use Rattle.slot_table.specs.declared.view.View.{View}
-use Rattle.slot_table.specs.Rules.{taking, putting, missing, missed, Grows, same, hands_out, entry, opens, MayPut, Took}
+use Rattle.slot_table.specs.Rules.{taking, putting, missing, missed, Grows, same, hands_out, entry, opens, MayPut, Took, next_number}
 use Rattle.slot_table.specs.Calls.{HoldsOne, Holds, Does, Called, CalledAfterTries}
 use Rattle.slot_table.specs.Places.{PlaceData, place_of}
 use Rattle.atomic_table.specs.Seated.{TableId}
@@ -45,14 +46,27 @@ apply_grows : (history : History) (seat moment : ℕ) (event : EventData) (r : R
 apply_grows history seat moment event r after (as_documented replied is) = subst (Grows seat history) (sym is) (applied_grows history seat moment event (is_entered (answer history moment event).reply))
 apply_grows history seat moment event r after (out_of_memory replied entered is) = same is
 
-cut_grows_by : (history : History) (seat : ℕ) (worn some : Bool) → Grows seat history (after_cut history (if worn then Err refusal.JournalFull else (if some then Err refusal.TicketsOpen else Ok (reopened (past_of history)))))
-cut_grows_by history seat true some = same refl
-cut_grows_by history seat false true = same refl
-cut_grows_by history seat false false = let rises = period_rises history in opens refl (omega (arith, rises))
+-- a cut raises the period
+cut_rises : (history : History) (opening : Opening) (worn some : Bool) → (if worn then Err refusal.JournalFull else (if some then Err refusal.TicketsOpen else Ok (reopened (past_of history)))) ≡ Ok opening → history.opening.period < opening.period
+cut_rises history opening true some is = let e : ◌≡◌ {A = Result Opening RefusalNumber} (Err refusal.JournalFull) (Ok opening) = is in absurd cc
+cut_rises history opening false true is = let e : ◌≡◌ {A = Result Opening RefusalNumber} (Err refusal.TicketsOpen) (Ok opening) = is in absurd cc
+cut_rises history opening false false is =
+    let e : ◌≡◌ {A = Result Opening RefusalNumber} (Ok (reopened (past_of history))) (Ok opening) = is in
+    let same : reopened (past_of history) ≡ opening = cc in
+    let rises = period_rises history in
+    subst (λ (o : Opening). history.opening.period < o.period) same (omega (arith, rises))
 
-cut_grows : (history : History) (seat : ℕ) (found : Result (List EntryData) RefusalNumber) (after : History) → IsCut history found after → Grows seat history after
-cut_grows history seat found after (answers.cuts handed is) = subst (Grows seat history) (sym is) (cut_grows_by history seat (is_worn_out (past_of history)) (is_some_open (situation_of (past_of history)).open_tickets))
-cut_grows history seat found after (answers.no_room opening there refused is) = same is
+cut_grows_at : (history : History) (seat : ℕ) (opened : Result Opening RefusalNumber) (after : History) → cut (past_of history) ≡ opened → after ≡ after_cut history opened → IsGood history → next_number after ≡ next_number history → Grows seat history after
+cut_grows_at history seat (Ok opening) after is leads good goes =
+    let there : after.opening ≡ opening = ap (λ (h : History). h.opening) leads in
+    opens (ap (λ (h : History). h.lines) leads)
+    (subst (λ (o : Opening). history.opening.period < o.period) (sym there) (cut_rises history opening (is_worn_out (past_of history)) (is_some_open (situation_of (past_of history)).open_tickets) is))
+    good (is ∙ ap (λ (o : Opening). Ok o) (sym there)) goes
+cut_grows_at history seat (Err refused) after is leads good goes = same leads
+
+cut_grows : (history : History) (seat : ℕ) (found : Result (List EntryData) RefusalNumber) (after : History) → IsGood history → IsCut history found after → Grows seat history after
+cut_grows history seat found after good (answers.cuts handed is) = cut_grows_at history seat (cut (past_of history)) after refl is good (cuts_go_on history found after (answers.cuts handed is))
+cut_grows history seat found after good (answers.no_room opening there refused is) = same is
 
 roll_grows_by : (history : History) (seat last : ℕ) (worn : Bool) → Grows seat history (after_roll history last (if worn then Err refusal.JournalFull else Ok (lines_up_to history last)))
 roll_grows_by history seat last true = same refl
@@ -63,14 +77,14 @@ roll_grows history seat last found after (answers.rolls handed is) = subst (Grow
 roll_grows history seat last found after (answers.no_room lines there less refused is) = same is
 
 -- whatever is called, and whatever is answered
-pub called_grows : (number : ℕ) (before : History) (call : CallData) (given : CallAnswer) (after : History) → IsCalled number before call given after → Grows number before after
-called_grows number before (applies moment event) (replies r) after did = apply_grows before number moment event r after did
-called_grows number before (looks ticket) (finds found) after did = same did.1
-called_grows number before (reads moment) (shows shown) after did = same did.1
-called_grows number before (pages from) (hands found) after did = same did.1
-called_grows number before cuts (hands found) after did = cut_grows before number found after did
-called_grows number before (rolls last) (hands found) after did = roll_grows before number last found after did
-called_grows number before call given after did = absurd did
+pub called_grows : (number : ℕ) (before : History) (call : CallData) (given : CallAnswer) (after : History) → IsGood before → IsCalled number before call given after → Grows number before after
+called_grows number before (applies moment event) (replies r) after good did = apply_grows before number moment event r after did
+called_grows number before (looks ticket) (finds found) after good did = same did.1
+called_grows number before (reads moment) (shows shown) after good did = same did.1
+called_grows number before (pages from) (hands found) after good did = same did.1
+called_grows number before cuts (hands found) after good did = cut_grows before number found after good did
+called_grows number before (rolls last) (hands found) after good did = roll_grows before number last found after did
+called_grows number before call given after good did = absurd did
 
 -- ---- of which book it is
 
@@ -175,7 +189,7 @@ module _ (call : CallData) (given : CallAnswer) (number : ℕ) where
   may_put v u held m' own h d =
       let from = does_from (λ before after. IsCalled number before call given after) v h.0 (u, held) m' (λ i. (h.2.2 i, h.1 i)) d in
       let of_after = called_of v.origin number h.0 call given from.0 from.2 from.3 h.2.0 in
-      subst (λ (m : Me History View). HoldsOne m (MayPut m.0)) (sym from.1) (from.0, refl, (of_after, (h.0, refl, subst (λ (n : ℕ). Grows n h.0 from.0) (sym own) (called_grows number h.0 call given from.0 from.2))))
+      subst (λ (m : Me History View). HoldsOne m (MayPut m.0)) (sym from.1) (from.0, refl, (of_after, (h.0, refl, subst (λ (n : ℕ). Grows n h.0 from.0) (sym own) (called_grows number h.0 call given from.0 h.2.0.good from.2))))
 
 -- the same of a place, which contracts see as one value
 module _ (call : CallData) (given : CallAnswer) (number : ℕ) (table : TableId) (v w : View) (p : PlaceData) (is : place_of number table v ≡ p) where

@@ -7,6 +7,7 @@ use Rattle.service_profile.specs.Answers.{with_line}
 use Rattle.book.specs.Good.{IsGood}
 use Rattle.service_profile.specs.Seats.{lines_of}
 use Rattle.slot_table.proofs.Lines.{other_line, begins_with_itself, begins_with_more}
+use Rattle.slot_table.specs.declared.view.Trace.{Trace}
 use Rattle.slot_table.specs.Rules.{Begins, FoundAfter, at_first, goes_on, later, IsPast, AllPast, ArePast, Grows, same, hands_out, entry, opens, AreOfOne}
 
 abbrev pub period_of : History → ℕ
@@ -39,14 +40,14 @@ pub found_grown : (seen : Option History) (number : ℕ) (mine : List EntryData)
 found_grown seen number mine by now y ne (same is) f = subst (FoundAfter seen number mine) (sym is) f
 found_grown seen number mine by now y ne (hands_out o l) f = found_rolled seen number mine now y o l f
 found_grown seen number mine by now y ne (entry l own is) f = subst (FoundAfter seen number mine) (sym is) (found_line seen number mine now l (λ e. ne (sym own ∙ e)) f)
-found_grown seen number mine by now y ne (opens empty up) f = found_opening seen number mine now y empty up f
+found_grown seen number mine by now y ne (opens empty up good is goes) f = found_opening seen number mine now y empty up f
 
 -- no entries of a number that nobody has yet
 pub none_grown : (number by : ℕ) (now y : History) → by ≢ number → Grows by now y → lines_of number now.lines ≡ [] → lines_of number y.lines ≡ []
 none_grown number by now y ne (same is) e = ap (λ (h : History). lines_of number h.lines) is ∙ e
 none_grown number by now y ne (hands_out o l) e = ap (lines_of number) l ∙ e
 none_grown number by now y ne (entry l own is) e = ap (λ (h : History). lines_of number h.lines) is ∙ (other_line number now.lines l (ne_eqb l.seat number (λ o. ne (sym own ∙ o))) ∙ e)
-none_grown number by now y ne (opens empty up) e = ap (lines_of number) empty
+none_grown number by now y ne (opens empty up good is goes) e = ap (lines_of number) empty
 
 -- ---- the histories of all openings
 
@@ -57,7 +58,7 @@ renewed past y period = if period == period_of y then y else past period
 pub renewed_last : (past : ℕ → History) (y : History) (period : ℕ) → period ≡ period_of y → renewed past y period ≡ y
 renewed_last past y period is = ap (λ (b : Bool). if b then y else past period) (eq-eqb period (period_of y) is)
 
-renewed_other : (past : ℕ → History) (y : History) (period : ℕ) → period ≢ period_of y → renewed past y period ≡ past period
+pub renewed_other : (past : ℕ → History) (y : History) (period : ℕ) → period ≢ period_of y → renewed past y period ≡ past period
 renewed_other past y period ne = ap (λ (b : Bool). if b then y else past period) (ne_eqb period (period_of y) ne)
 
 pub renewed_good : (P : History → Type 0) (past : ℕ → History) (y : History) → P y → ((period : ℕ) → P (past period)) → (period : ℕ) → P (renewed past y period)
@@ -91,15 +92,15 @@ past_grown past by now y current grows None is = tt
 past_grown past by now y current (same e) (Some x) is = past_on past now y x current (ap period_of e, λ z b. subst (λ (h : History). Begins h z) (sym e) b) is
 past_grown past by now y current (hands_out o l) (Some x) is = past_on past now y x current (ap (λ z. z.period) o, λ z b. (b.0 ∙ sym o, (b.1.0, l ∙ b.1.1))) is
 past_grown past by now y current (entry l own e) (Some x) is = past_on past now y x current (ap period_of e, λ z b. subst (λ (h : History). Begins h z) (sym e) (begins_more now z l b)) is
-past_grown past by now y current (opens empty up) (Some x) is = past_opening past now y x up is
+past_grown past by now y current (opens empty up good cut goes) (Some x) is = past_opening past now y x up is
 
 pub seen_grown : (past : ℕ → History) (by : ℕ) (now y : History) → past (period_of now) ≡ now → Grows by now y → (seen : List History) → AllPast past now seen → AllPast (renewed past y) y seen
 seen_grown past by now y current grows [] is = tt
 seen_grown past by now y current grows (x ∷ xs) is = (past_grown past by now y current grows (Some x) is.0, seen_grown past by now y current grows xs is.1)
 
-pub all_grown : (past : ℕ → History) (by : ℕ) (now y : History) → past (period_of now) ≡ now → Grows by now y → (known : List (List History)) → ArePast past now known → ArePast (renewed past y) y known
+pub all_grown : (past : ℕ → History) (by : ℕ) (now y : History) → past (period_of now) ≡ now → Grows by now y → (known : List Trace) → ArePast past now known → ArePast (renewed past y) y known
 all_grown past by now y current grows [] is = tt
-all_grown past by now y current grows (xs ∷ others) is = (seen_grown past by now y current grows xs is.0, all_grown past by now y current grows others is.1)
+all_grown past by now y current grows (t ∷ others) is = (seen_grown past by now y current grows t.seen is.0, all_grown past by now y current grows others is.1)
 
 pub past_itself : (past : ℕ → History) (now : History) → past (period_of now) ≡ now → IsPast past now (Some now)
 past_itself past now current = (omega arith, subst (λ (h : History). Begins h now) (sym current) (begins_itself now))
@@ -108,9 +109,9 @@ pub seen_snoc : (past : ℕ → History) (now : History) (seen : List History) (
 seen_snoc past now [] x all is = (is, tt)
 seen_snoc past now (y ∷ ys) x all is = (all.0, seen_snoc past now ys x all.1 is)
 
-pub past_snoc : (past : ℕ → History) (now : History) (known : List (List History)) (seen : List History) → ArePast past now known → AllPast past now seen → ArePast past now (known ++ seen ∷ [])
-past_snoc past now [] seen all is = (is, tt)
-past_snoc past now (xs ∷ others) seen all is = (all.0, past_snoc past now others seen all.1 is)
+pub past_snoc : (past : ℕ → History) (now : History) (known : List Trace) (t : Trace) → ArePast past now known → AllPast past now t.seen → ArePast past now (known ++ t ∷ [])
+past_snoc past now [] t all is = (is, tt)
+past_snoc past now (u ∷ others) t all is = (all.0, past_snoc past now others t all.1 is)
 
 -- what was seen first, of what was seen
 pub seen_before : (past : ℕ → History) (now : History) (first more : List History) → AllPast past now (first ++ more) → AllPast past now first

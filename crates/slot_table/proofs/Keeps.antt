@@ -1,5 +1,5 @@
 -- Each step keeps the rule.
-use Rattle.std.proofs.Common.{◌≡◌, ◌≢◌, ◌⊎◌, ℕ, zero, suc, ◌+◌, ◌<◌, ◌==◌, List, [], ◌∷◌, ◌++◌, length, set, true, false, refl, sym, ap, ◌∙◌, subst, ⊎_elim, inl, inr, arith, Some, None}
+use Rattle.std.proofs.Common.{◌≡◌, ◌≢◌, ◌⊎◌, ℕ, zero, suc, ◌+◌, ◌<◌, ◌==◌, List, [], ◌∷◌, ◌++◌, length, set, Bool, append-nil, true, false, refl, sym, ap, ◌∙◌, subst, ⊎_elim, inl, inr, arith, Some, None}
 use Rattle.std.specs.Prelude.{slice_index, slice_set}
 use mathlib.Core.Option.{Option, some, none, some-injective, some-ne-none}
 use lib.ListN.{get_elem?}
@@ -11,9 +11,11 @@ use Rattle.book.specs.Good.{IsGood}
 use Rattle.slot_table.specs.Origins.{IsOf}
 use Rattle.service_profile.specs.Seats.{lines_of}
 use Rattle.std.specs.Prelude as prelude
+use Rattle.slot_table.specs.declared.view.Trace.{Trace}
 use Rattle.slot_table.specs.declared.view.View.{View}
-use Rattle.slot_table.specs.Rules.{dealer, spent, dealt, dealt_to, gathered, note, informed, taking, missing, putting, Each, OnlyHolder, AtHome, IsOut, Course, IsCourseOf, EachBegins, Fits, at_first, goes_on, card, Agree, Pairs, Kept, Took, Grows, MayPut, Put, Met}
+use Rattle.slot_table.specs.Rules.{dealer, spent, dealt, dealt_to, gathered, note, informed, taking, missing, putting, Each, OnlyHolder, AtHome, IsOut, Course, IsCourseOf, EachBegins, IsMadeBy, AreMadeBy, trace_of, traces_in, traces_of, Fits, at_first, goes_on, card, traces_by, Agree, Pairs, Kept, Took, Grows, MayPut, Put, Met}
 use Rattle.slot_table.proofs.Histories.{period_of, begins_itself, found_grown, none_grown, renewed, renewed_last, renewed_good, past_grown, seen_grown, all_grown, past_itself, seen_snoc, past_snoc, begin_one}
+use Rattle.slot_table.proofs.Traces.{traces_same, traces_more, traces_all, made_dealt, made_taken, made_put, made_joined}
 use Rattle.slot_table.proofs.Views.{off, never, is_false, set_same, same_at, at_end, places_set, each_set, each_more, pairs_set, pairs_more, parts_set, parts_more, parts_both}
 
 abbrev pub held_of : History → List (ℕ × History) → History
@@ -76,9 +78,10 @@ takes_step {origin = origin} st id v sits idle backed s kept one here small = �
                 ((w, set_same s.views id v w here, refl, sits, refl), places_set (λ j u. u.holds ≡ true → j ≡ id) s.views id w (λ j u ne e t. absurd (off u.holds t (h.2 j u e))) (λ _. refl)),
               ),
             );
-            fits = each_set (Fits origin kept.past now) s.views id w kept.fits record { seat = λ _. (goes_on now refl (begins_itself now) refl, past_itself kept.past now kept.current, f.2, seen_snoc kept.past now v.all_seen now f.3 (past_itself kept.past now kept.current)); told = all.told; known = all.known; source = all.source; fresh = all.fresh; backed = λ _. backed };
+            fits = each_set (Fits origin kept.past now) s.views id w kept.fits record { seat = λ _. (goes_on now refl (begins_itself now) refl, past_itself kept.past now kept.current, f.2, seen_snoc kept.past now v.all_seen now f.3 (past_itself kept.past now kept.current)); told = all.told; known = all.known; source = all.source; fresh = all.fresh; backed = λ _. backed; bare = λ e. absurd (omega (arith, backed, e)) };
             pairs = pairs_set s.views id v w here (inl refl) kept.pairs;
             parts = omega (arith, sum, kept.parts);
+            made = made_taken kept.past now s.views id v here kept.current kept.made;
           },
           ((λ _. (now, subst (λ (o : prelude.Option History). IsOf o now) (sym f.2) (good_now s kept), f.0, refl, refl)), (λ ne. absurd (ne (ap (λ ws. slice_index ws 0) h.0)))),
         )
@@ -102,9 +105,10 @@ takes_step {origin = origin} st id v sits idle backed s kept one here small = �
               h.1,
               (h.2.0, holder_set s.views id v w h.2.0 now here idle idle h.2.1),
             );
-            fits = each_set (Fits origin kept.past now) s.views id w kept.fits record { seat = all.seat; told = all.told; known = all.known; source = all.source; fresh = all.fresh; backed = all.backed };
+            fits = each_set (Fits origin kept.past now) s.views id w kept.fits record { seat = all.seat; told = all.told; known = all.known; source = all.source; fresh = all.fresh; backed = all.backed; bare = all.bare };
             pairs = pairs_set s.views id v w here (inl refl) kept.pairs;
             parts = omega (arith, sum, kept.parts);
+            made = subst (AreMadeBy origin kept.past now) (sym (traces_same s.views id v w here refl)) kept.made;
           },
           ((λ is. absurd (omega (arith, is, ap (λ ws. slice_index ws 0) h.0))), (λ _. (refl, refl))),
         )
@@ -118,6 +122,7 @@ fits_grown {origin = origin} past now y by u current grows ne low f = record {
   source = f.source;
   fresh = λ deals n le. let l = low deals in none_grown n by now y (λ is. absurd (omega (arith, l, le, is))) grows (f.fresh deals n le);
   backed = f.backed;
+  bare = f.bare;
 }
 
 pub puts_step : {origin : prelude.Option History} (st : Step History) (id : ℕ) (v : View) (y : History) → v.sits ≡ true → v.holds ≡ true → MayPut v y → Allows (Kept origin) 1 id (v, (0, y) ∷ []) 0 (λ _. 1) (Put st (v, (0, y) ∷ []))
@@ -138,7 +143,7 @@ puts_step {origin = origin} st id v y sits holds may s kept one here small = ⊎
         let sum = parts_set s.views id v w here in
         let others : (j : ℕ) (x : View) → j ≢ id → get_elem? s.views j ≡ some x → Fits origin (renewed past y) y x = λ j x ne e. fits_grown past now y v.number x kept.current grows (λ t is. ne ((kept.pairs j id x v e here).apart t sits (sym is))) (λ t. (kept.pairs j id x v e here).below t sits) (kept.fits j x e) in
         let all = kept.fits id v here in
-        let mine = fits_grown past now y v.number (record v { sits = false }) kept.current grows (λ t. absurd (never t)) (λ t. (kept.pairs id id v v here here).below t sits) record { seat = λ t. absurd (never t); told = all.told; known = all.known; source = all.source; fresh = all.fresh; backed = all.backed } in
+        let mine = fits_grown past now y v.number (record v { sits = false }) kept.current grows (λ t. absurd (never t)) (λ t. (kept.pairs id id v v here here).below t sits) record { seat = λ t. absurd (never t); told = all.told; known = all.known; source = all.source; fresh = all.fresh; backed = all.backed; bare = λ e. absurd (omega (arith, all.backed holds, e)) } in
         let last : renewed past y (period_of y) ≡ y = renewed_last past y (period_of y) refl in (
           w,
           gives,
@@ -153,9 +158,10 @@ puts_step {origin = origin} st id v y sits holds may s kept one here small = ⊎
               ap (λ hs. slice_set hs 0 (some y)) h.1,
               places_set (λ j x. x.holds ≡ false) s.views id w (λ j x ne e. is_false x.holds (λ t. ne (only.1 j x e t ∙ sym me))) refl,
             );
-            fits = places_set (λ j x. Fits origin (renewed past y) y x) s.views id w others record { seat = λ _. (goes_on y refl (begins_itself y) refl, past_itself (renewed past y) y last, (all.seat sits).2, seen_snoc (renewed past y) y v.all_seen y (seen_grown past v.number now y kept.current grows v.all_seen (all.seat sits).3) (past_itself (renewed past y) y last)); told = mine.told; known = mine.known; source = mine.source; fresh = mine.fresh; backed = λ t. absurd (never t) };
+            fits = places_set (λ j x. Fits origin (renewed past y) y x) s.views id w others record { seat = λ _. (goes_on y refl (begins_itself y) refl, past_itself (renewed past y) y last, (all.seat sits).2, seen_snoc (renewed past y) y v.all_seen y (seen_grown past v.number now y kept.current grows v.all_seen (all.seat sits).3) (past_itself (renewed past y) y last)); told = mine.told; known = mine.known; source = mine.source; fresh = mine.fresh; backed = λ t. absurd (never t); bare = λ e. absurd (omega (arith, all.backed holds, e)) };
             pairs = pairs_set s.views id v w here (inl refl) kept.pairs;
             parts = omega (arith, sum, kept.parts);
+            made = made_put past now y s.views id v here sits seen kept.current grows kept.made;
           },
           λ l is. (ap (λ c. putting v (held_of y c)) is, refl),
         )
@@ -196,7 +202,7 @@ deal_which views id v i z e =
     (λ (p : (i ≡ length (set views id (dealt v))) × (dealt_to v ≡ z)). inr (inr (p.0, sym p.1)))
     (at_end (set views id (dealt v)) (dealt_to v) z i e)
 
-pub deals_step : {origin : prelude.Option History} (id : ℕ) (v : View) → v.sits ≡ false → v.holds ≡ false → v.deals ≡ true → 0 < v.parts → Splits (Kept origin) id v (dealt v) (dealt_to v)
+pub deals_step : {origin : prelude.Option History} (id : ℕ) (v : View) → v.sits ≡ false → v.holds ≡ false → v.deals ≡ true → 1 < v.parts → Splits (Kept origin) id v (dealt v) (dealt_to v)
 deals_step {origin = origin} id v stands idle deals some_left s kept here =
     let now = kept.now in
     let views = set s.views id (dealt v) in
@@ -210,15 +216,16 @@ deals_step {origin = origin} id v stands idle deals some_left s kept here =
       good = kept.good;
       place = place_more s.words s.homes views now (dealt_to v) refl (place_set s.words s.homes s.views now id v (dealt v) here idle idle kept.place);
       fits = each_more (Fits origin kept.past now) views (dealt_to v)
-          (each_set (Fits origin kept.past now) s.views id (dealt v) kept.fits record { seat = all.seat; told = all.told; known = all.known; source = all.source; fresh = λ d n le. all.fresh d n (omega (arith, le)); backed = λ t. absurd (off v.holds t idle) })
-          record { seat = λ _. (at_first refl (all.fresh deals v.next (omega arith)), tt, all.source deals, tt); told = tt; known = tt; source = λ d. absurd (never d); fresh = λ d. absurd (never d); backed = λ t. absurd (never t) };
+          (each_set (Fits origin kept.past now) s.views id (dealt v) kept.fits record { seat = all.seat; told = all.told; known = all.known; source = all.source; fresh = λ d n le. all.fresh d n (omega (arith, le)); backed = λ t. absurd (off v.holds t idle); bare = λ e. absurd (omega (arith, some_left, e)) })
+          record { seat = λ _. (at_first refl (all.fresh deals v.next (omega arith)), tt, all.source deals, tt); told = tt; known = tt; source = λ d. absurd (never d); fresh = λ d. absurd (never d); backed = λ t. absurd (never t); bare = λ e. absurd (omega (arith, e)) };
       pairs = λ j k x y ej ek. deal_pick s.views id v (length views) kept.pairs here stands deals j k x y (deal_which s.views id v j x ej) (deal_which s.views id v k y ek);
       parts = omega (arith, sum, more, kept.parts);
+      made = subst (AreMadeBy origin kept.past now) (sym (traces_more views (dealt_to v) ∙ ap (λ ts. ts ++ traces_in (dealt_to v)) (traces_same s.views id v (dealt v) here refl))) (made_dealt kept.past now (traces_of s.views) v kept.made);
     }
 
 -- two views change, of which neither holds the book: one takes the other's in
-joins_step : {origin : prelude.Option History} (id : ℕ) (v : View) (other : ℕ) (w both : View) → v.holds ≡ false → w.holds ≡ false → both.holds ≡ false → card both ≡ card v → both.parts ≡ v.parts + w.parts → ((past : ℕ → History) (now : History) → Fits origin past now v → Fits origin past now w → Fits origin past now both) → Joins (Kept origin) id v other w both spent
-joins_step {origin = origin} id v other w both idle still after same parts fits s kept here apart there =
+joins_step : {origin : prelude.Option History} (id : ℕ) (v : View) (other : ℕ) (w both : View) → v.holds ≡ false → w.holds ≡ false → both.holds ≡ false → card both ≡ card v → both.parts ≡ v.parts + w.parts → traces_in both ≡ traces_in v ++ traces_in w → ((past : ℕ → History) (now : History) → Fits origin past now v → Fits origin past now w → Fits origin past now both) → Joins (Kept origin) id v other w both spent
+joins_step {origin = origin} id v other w both idle still after same parts traces fits s kept here apart there =
     let now = kept.now in
     let views = set s.views id both in
     let was : get_elem? s.views other ≡ some w = sym (set_else s.views id other both apart) ∙ there in
@@ -232,16 +239,29 @@ joins_step {origin = origin} id v other w both idle still after same parts fits 
       place = place_set s.words s.homes views now other w spent there still refl (place_set s.words s.homes s.views now id v both here idle after kept.place);
       fits = each_set (Fits origin kept.past now) views other spent
           (each_set (Fits origin kept.past now) s.views id both kept.fits (fits kept.past now (kept.fits id v here) (kept.fits other w was)))
-          record { seat = λ t. absurd (never t); told = tt; known = tt; source = λ d. absurd (never d); fresh = λ d. absurd (never d); backed = λ t. absurd (never t) };
+          record { seat = λ t. absurd (never t); told = tt; known = tt; source = λ d. absurd (never d); fresh = λ d. absurd (never d); backed = λ t. absurd (never t); bare = λ _. refl };
       pairs = pairs_set views other w spent there (inr refl) (pairs_set s.views id v both here (inl same) kept.pairs);
       parts = omega (arith, one, two, parts, kept.parts);
+      made = made_joined s.views id v other w both here was apart traces kept.past now kept.made;
     }
+
+-- a view without parts has no traces, where it takes in another's parts and traces
+both_bare : (v w both : View) → traces_in both ≡ traces_in v ++ traces_in w → (v.parts ≡ 0 → traces_in v ≡ []) → (w.parts ≡ 0 → traces_in w ≡ []) → v.parts + w.parts ≡ 0 → traces_in both ≡ []
+both_bare v w both traces f g e = traces ∙ (λ i. f (omega (arith, e)) i ++ g (omega (arith, e)) i)
+
+gathered_traces : (v w : View) → v.sits ≡ false → w.sits ≡ true → traces_in (gathered v w) ≡ traces_in v ++ traces_in w
+gathered_traces v w stands sits =
+    let one : traces_in (gathered v w) ≡ v.known ++ trace_of w ∷ [] = ap (λ (b : Bool). traces_by b (trace_of (gathered v w)) (v.known ++ trace_of w ∷ [])) stands in
+    let two : traces_in v ≡ v.known = ap (λ (b : Bool). traces_by b (trace_of v) v.known) stands in
+    let three : traces_in w ≡ trace_of w ∷ [] = ap (λ (b : Bool). traces_by b (trace_of w) w.known) sits in
+    one ∙ (λ i. sym two i ++ sym three i)
 
 -- the dealer takes a seat back
 pub gathers_step : {origin : prelude.Option History} (id : ℕ) (v : View) (other : ℕ) (w : View) → v.holds ≡ false → v.sits ≡ false → w.holds ≡ false → w.sits ≡ true → Joins (Kept origin) id v other w (gathered v w) spent
 gathers_step {origin = origin} id v other w idle stands still sits =
-    joins_step id v other w (gathered v w) idle still idle refl refl
-    (λ past now f g. record { seat = λ t. absurd (off v.sits t stands); told = f.told; known = past_snoc past now v.known w.all_seen f.known (g.seat sits).3; source = f.source; fresh = f.fresh; backed = λ t. absurd (off v.holds t idle) })
+    let traces : traces_in (gathered v w) ≡ traces_in v ++ traces_in w = gathered_traces v w stands sits in
+    joins_step id v other w (gathered v w) idle still idle refl refl traces
+    (λ past now f g. record { seat = λ t. absurd (off v.sits t stands); told = f.told; known = past_snoc past now v.known (trace_of w) f.known (g.seat sits).3; source = f.source; fresh = f.fresh; backed = λ t. absurd (off v.holds t idle); bare = both_bare v w (gathered v w) traces f.bare g.bare })
 
 -- a note of what a seat has seen
 pub notes_step : {origin : prelude.Option History} (id : ℕ) (v : View) → v.sits ≡ true → Splits (Kept origin) id v v (note v)
@@ -256,15 +276,16 @@ notes_step {origin = origin} id v sits s kept here =
       current = kept.current;
       good = kept.good;
       place = place_more s.words s.homes s.views now (note v) refl kept.place;
-      fits = each_more (Fits origin kept.past now) s.views (note v) kept.fits record { seat = λ t. absurd (never t); told = (all.seat sits).1; known = tt; source = λ d. absurd (never d); fresh = λ d. absurd (never d); backed = λ t. absurd (never t) };
+      fits = each_more (Fits origin kept.past now) s.views (note v) kept.fits record { seat = λ t. absurd (never t); told = (all.seat sits).1; known = tt; source = λ d. absurd (never d); fresh = λ d. absurd (never d); backed = λ t. absurd (never t); bare = λ _. refl };
       pairs = pairs_more s.views (note v) refl kept.pairs;
       parts = omega (arith, more, kept.parts);
+      made = subst (AreMadeBy origin kept.past now) (sym (traces_more s.views (note v) ∙ append-nil (traces_of s.views))) kept.made;
     }
 
-pub informs_step : {origin : prelude.Option History} (id : ℕ) (v : View) (other : ℕ) (w : View) → v.holds ≡ false → w.holds ≡ false → w.parts ≡ 0 → Joins (Kept origin) id v other w (informed v w) spent
-informs_step {origin = origin} id v other w idle still none_left =
-    joins_step id v other w (informed v w) idle still idle refl (omega (arith, none_left))
-    (λ past now f g. record { seat = f.seat; told = g.told; known = f.known; source = f.source; fresh = f.fresh; backed = λ t. absurd (off v.holds t idle) })
+pub informs_step : {origin : prelude.Option History} (id : ℕ) (v : View) (other : ℕ) (w : View) → v.holds ≡ false → w.holds ≡ false → w.parts ≡ 0 → traces_in w ≡ [] → Joins (Kept origin) id v other w (informed v w) spent
+informs_step {origin = origin} id v other w idle still none_left bare =
+    joins_step id v other w (informed v w) idle still idle refl (omega (arith, none_left)) (sym (append-nil (traces_in v)) ∙ ap (λ ts. traces_in v ++ ts) (sym bare))
+    (λ past now f g. record { seat = f.seat; told = g.told; known = f.known; source = f.source; fresh = f.fresh; backed = λ t. absurd (off v.holds t idle); bare = f.bare })
 
 place_still : (ws : List ℕ) (hs : List (Option History)) (views : List View) (log : History) (id : ℕ) (v w : View) → get_elem? views id ≡ some v → v.holds ≡ false → w.holds ≡ false
     → AtHome record { words = ws; homes = hs; views = views } log ⊎ IsOut record { words = ws; homes = hs; views = views } log
@@ -287,9 +308,10 @@ meets_step {origin = origin} st id v sits idle s kept one here small =
         current = kept.current;
         good = kept.good;
         place = place_still s.words s.homes s.views now id v w here idle idle kept.place;
-        fits = each_set (Fits origin kept.past now) s.views id w kept.fits record { seat = all.seat; told = tt; known = all.known; source = all.source; fresh = all.fresh; backed = all.backed };
+        fits = each_set (Fits origin kept.past now) s.views id w kept.fits record { seat = all.seat; told = tt; known = all.known; source = all.source; fresh = all.fresh; backed = all.backed; bare = all.bare };
         pairs = pairs_set s.views id v w here (inl refl) kept.pairs;
         parts = omega (arith, sum, kept.parts);
+        made = subst (AreMadeBy origin kept.past now) (sym (traces_same s.views id v w here refl)) kept.made;
       },
       (refl, refl, begin_one kept.past now v.seen v.told (λ period. (kept.good period).good) (all.seat sits).1 all.told),
     )
@@ -299,16 +321,23 @@ pub last_good : (origin : prelude.Option History) (course : Course) → IsCourse
 last_good origin course is = subst (IsOf origin) is.current (is.good (period_of course.last))
 
 -- who has all parts knows that the book is at home, where it does not hold it
-pub closes : {origin : prelude.Option History} (s : State History View) (id : ℕ) (v : View) → Kept origin s → get_elem? s.views id ≡ some v → v.holds ≡ false → v.deals ≡ true → v.parts ≡ 129 → (course : Course) × IsCourseOf v.origin course × (s.homes ≡ some course.last ∷ []) × EachBegins course v.known
-closes {origin = origin} s id v kept here idle deals full = ⊎_elim home out kept.place
+pub closes : {origin : prelude.Option History} (s : State History View) (id : ℕ) (v : View) → Kept origin s → get_elem? s.views id ≡ some v → v.holds ≡ false → v.sits ≡ false → v.deals ≡ true → v.parts ≡ 129 → (course : Course) × IsCourseOf v.origin course × (s.homes ≡ some course.last ∷ []) × EachBegins course v.known × IsMadeBy v.origin course v.known
+closes {origin = origin} s id v kept here idle stands deals full = ⊎_elim home out kept.place
   where
-    home : AtHome s kept.now → (course : Course) × IsCourseOf v.origin course × (s.homes ≡ some course.last ∷ []) × EachBegins course v.known
+    home : AtHome s kept.now → (course : Course) × IsCourseOf v.origin course × (s.homes ≡ some course.last ∷ []) × EachBegins course v.known × IsMadeBy v.origin course v.known
     home h =
         let course : Course = record { past = kept.past; last = kept.now } in
         let is : IsCourseOf origin course = record { current = kept.current; good = kept.good } in
-        (course, subst (λ (o : prelude.Option History). IsCourseOf o course) (sym ((kept.fits id v here).source deals)) is, h.1, (kept.fits id v here).known)
+        let of_all : traces_of s.views ≡ v.known = traces_all s.views id v here (λ j u e. (kept.fits j u e).bare) (kept.parts ∙ sym full) ∙ ap (λ (b : Bool). traces_by b (trace_of v) v.known) stands in
+        let source : v.origin ≡ origin = (kept.fits id v here).source deals in (
+          course,
+          subst (λ (o : prelude.Option History). IsCourseOf o course) (sym source) is,
+          h.1,
+          (kept.fits id v here).known,
+          subst (λ (x : prelude.Option History × List Trace). AreMadeBy x.0 kept.past kept.now x.1) (λ i. (sym source i, of_all i)) kept.made,
+        )
 
-    out : IsOut s kept.now → (course : Course) × IsCourseOf v.origin course × (s.homes ≡ some course.last ∷ []) × EachBegins course v.known
+    out : IsOut s kept.now → (course : Course) × IsCourseOf v.origin course × (s.homes ≡ some course.last ∷ []) × EachBegins course v.known × IsMadeBy v.origin course v.known
     out h =
         let only = h.2.1 in
         let u = only.0.0 in
@@ -325,9 +354,10 @@ begins first good empty = record {
   current = refl;
   good = λ _. record { good = good; cuts = 0; first = first; is_first = refl; after_cuts = refl };
   place = inl (refl, refl, alone (λ x. x.holds ≡ false) refl);
-  fits = alone (Fits (Some first) (λ _. first) first) record { seat = λ t. absurd (never t); told = tt; known = tt; source = λ _. refl; fresh = λ d n le. ap (lines_of n) empty; backed = λ t. absurd (never t) };
+  fits = alone (Fits (Some first) (λ _. first) first) record { seat = λ t. absurd (never t); told = tt; known = tt; source = λ _. refl; fresh = λ d n le. ap (lines_of n) empty; backed = λ t. absurd (never t); bare = λ _. refl };
   pairs = λ j k x y ej ek. record { apart = λ a b n. head j x ej ∙ sym (head k y ek); below = λ a b. absurd (off y.sits b (ap (λ (z : View). z.sits) (sym (only k y ek)))); one = λ a b. head j x ej ∙ sym (head k y ek) };
   parts = refl;
+  made = record { first = first; is_first = refl; left = λ _. inl refl; found = λ x h. absurd h; made = λ _ n. inl (ap (lines_of n) empty); entries = omega arith; cuts = refl };
 }
   where
     alone : (P : View → Type 0) → P (dealer (Some first) 1 129 []) → Each P (dealer (Some first) 1 129 [] ∷ [])

@@ -6,7 +6,7 @@ use Rattle.slot_table.specs.Origins.{IsOf}
 use Rattle.service_profile.specs.Events.{History}
 use Rattle.service_profile.specs.Seats.{lines_of}
 use Rattle.slot_table.specs.declared.view.View.{View}
-use Rattle.slot_table.specs.Rules.{taking, missed, Finds}
+use Rattle.slot_table.specs.Rules.{taking, missed, left_after, entries_since, cuts_since, Finds}
 
 -- it makes calls, and holds nothing
 abbrev pub IsResting : Me History View → Type 0
@@ -39,7 +39,16 @@ pub record Does (Did : History → History → Type 0) (m m' : Me History View) 
 
 -- the view after a call that found and left these histories: it has seen both, last what was left, with its own entries in it, and there is one take more
 abbrev pub called : View → History → History → View
-called v before after = record v { holds = false; seen = Some after; all_seen = v.all_seen ++ before ∷ after ∷ []; mine = lines_of v.number after.lines; takes = v.takes + 1 }
+called v before after = record v {
+  holds = false;
+  seen = Some after;
+  all_seen = v.all_seen ++ before ∷ after ∷ [];
+  left = left_after v.left (Some before) after;
+  mine = lines_of v.number after.lines;
+  entries = v.entries + entries_since (Some before) after;
+  cuts = v.cuts + cuts_since (Some before) after;
+  takes = v.takes + 1;
+}
 
 -- a call: the history that its last take found, what the call did to it, and the view after it. Both histories are good, and of the book that opened first in the slot, since its opening or since a cut
 pub record Called (Did : History → History → Type 0) (v w : View) : Type 0 where

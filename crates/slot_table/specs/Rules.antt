@@ -1,13 +1,15 @@
 -- The rule of the table, and what each step tells. Word 0 is 1 where the book is at home, and else 0.
-use Rattle.std.specs.Prelude.{◌≡◌, ◌≢◌, ◌⊎◌, ℕ, ◌+◌, ◌-◌, ◌<◌, ◌≤◌, List, [], ◌∷◌, ◌++◌, Bool, true, false, Option, Some, None}
+use Rattle.std.specs.Prelude.{◌≡◌, ◌≢◌, ◌⊎◌, ℕ, ◌+◌, ◌-◌, ◌==◌, ◌<◌, ◌≤◌, ◌&&◌, List, [], ◌∷◌, ◌++◌, Bool, true, false, Option, Some, None, Ok, if◌then◌else◌}
 use mathlib.Core.Option.{some, none}
 use lib.ListN.{get_elem?}
 use Rattle.atomic_table.specs.Table.{State, Me, Step}
 use Rattle.service_profile.specs.Events.{EntryData, History}
-use Rattle.service_profile.specs.Answers.{with_line}
+use Rattle.service_profile.specs.Answers.{with_line, cut}
+use Rattle.service_profile.specs.Histories.{past_of, next_line}
 use Rattle.book.specs.Good.{IsGood}
-use Rattle.slot_table.specs.Origins.{IsOf}
+use Rattle.slot_table.specs.Origins.{IsOf, IsOpeningAfter}
 use Rattle.service_profile.specs.Seats.{lines_of, BeginsWith}
+use Rattle.slot_table.specs.declared.view.Trace.{Trace}
 use Rattle.slot_table.specs.declared.view.View.{View}
 
 -- ---- histories that were seen
@@ -38,9 +40,69 @@ abbrev pub AllPast : (ℕ → History) → History → List History → Type 0
 AllPast past now [] = Unit {0}
 AllPast past now (x ∷ xs) = IsPast past now (Some x) × AllPast past now xs
 
-abbrev pub ArePast : (ℕ → History) → History → List (List History) → Type 0
+abbrev pub ArePast : (ℕ → History) → History → List Trace → Type 0
 ArePast past now [] = Unit {0}
-ArePast past now (xs ∷ others) = AllPast past now xs × ArePast past now others
+ArePast past now (t ∷ others) = AllPast past now t.seen × ArePast past now others
+
+-- ---- what places leave behind
+
+-- one of these is the history x
+abbrev pub Has : History → List History → Type 0
+Has x [] = ⊥
+Has x (y ∷ ys) = (y ≡ x) ⊎ Has x ys
+
+-- of what some places left behind, P is true of one at least
+abbrev pub Among : (Trace → Type 0) → List Trace → Type 0
+Among P [] = ⊥
+Among P (t ∷ ts) = P t ⊎ Among P ts
+
+-- the sum of a number over all places
+abbrev pub total : (Trace → ℕ) → List Trace → ℕ
+total f [] = 0
+total f (t ∷ ts) = f t + total f ts
+
+-- how many entries the places made
+abbrev pub entries_of : List Trace → ℕ
+entries_of traces = total (λ t. t.entries) traces
+
+-- how many cuts they made
+abbrev pub cuts_of : List Trace → ℕ
+cuts_of traces = total (λ t. t.cuts) traces
+
+-- the number that the next entry has
+abbrev pub next_number : History → ℕ
+next_number history = next_line (past_of history)
+
+-- the place put this history back, and had changed it
+abbrev pub HasLeft : History → Trace → Type 0
+HasLeft x t = Has x t.left
+
+-- the place has taken this history, or put it back
+abbrev pub HasSeen : History → Trace → Type 0
+HasSeen x t = Has x t.seen
+
+-- the place has this number, and a history of the same opening that it changed and put back has all entries of the number
+abbrev pub HasMade : History → ℕ → Trace → Type 0
+HasMade whole number t =
+    (t.number ≡ number)
+    × ((x : History) × HasLeft x t × (x.opening ≡ whole.opening) × (lines_of number x.lines ≡ lines_of number whole.lines))
+
+-- the history is the first one, or one of the places changed it to this, and put it back
+abbrev pub IsLeftBy : List Trace → History → History → Type 0
+IsLeftBy traces first x = (x ≡ first) ⊎ Among (HasLeft x) traces
+
+-- nobody but the places that left these traces has changed the book that opened so
+pub record AreMadeBy (origin : Option History) (past : ℕ → History) (now : History) (traces : List Trace) : Type 0 where
+  pub first : History
+  pub is_first : origin ≡ Some first
+  -- the history of each opening is the first one, or was left by one of them; and so was each history that one of them saw
+  pub left : (period : ℕ) → IsLeftBy traces first (past period)
+  pub found : (x : History) → Among (HasSeen x) traces → IsLeftBy traces first x
+  -- in each opening the entries of a number are those that a place of this number has left there, or there are none
+  pub made : (period number : ℕ) → (lines_of number (past period).lines ≡ []) ⊎ Among (HasMade (past period) number) traces
+  -- there are as many entries, and as many cuts, as they have made
+  pub entries : next_number now ≡ next_number first + entries_of traces
+  pub cuts : IsOpeningAfter first.opening (cuts_of traces) now.opening
 
 -- ---- views
 
@@ -49,14 +111,35 @@ abbrev pub origin_of : List History → Option History
 origin_of [] = None
 origin_of (first ∷ others) = Some first
 
-abbrev pub newcomer : Option History → ℕ → View
-newcomer origin n = record { origin = origin; sits = true; number = n; holds = false; seen = None; all_seen = []; mine = []; takes = 0; misses = 0; deals = false; next = 0; parts = 1; told = None; known = [] }
-
-abbrev pub dealer : Option History → ℕ → ℕ → List (List History) → View
-dealer origin next parts known = record { origin = origin; sits = false; number = 0; holds = false; seen = None; all_seen = []; mine = []; takes = 0; misses = 0; deals = true; next = next; parts = parts; told = None; known = known }
-
+-- what a view is that knows nothing
 abbrev pub spent : View
-spent = record { origin = None; sits = false; number = 0; holds = false; seen = None; all_seen = []; mine = []; takes = 0; misses = 0; deals = false; next = 0; parts = 0; told = None; known = [] }
+spent = record {
+  origin = None;
+  sits = false;
+  number = 0;
+  holds = false;
+  seen = None;
+  all_seen = [];
+  left = [];
+  mine = [];
+  entries = 0;
+  cuts = 0;
+  takes = 0;
+  misses = 0;
+  deals = false;
+  next = 0;
+  parts = 0;
+  told = None;
+  known = [];
+}
+
+-- the view of a place of this number that has seen nothing, of a book that opened so
+abbrev pub newcomer : Option History → ℕ → View
+newcomer origin n = record spent { origin = origin; sits = true; number = n; parts = 1 }
+
+-- the view of who deals the places
+abbrev pub dealer : Option History → ℕ → ℕ → List Trace → View
+dealer origin next parts known = record spent { origin = origin; deals = true; next = next; parts = parts; known = known }
 
 abbrev pub dealt : View → View
 dealt v = record v { next = v.next + 1; parts = v.parts - 1 }
@@ -64,8 +147,30 @@ dealt v = record v { next = v.next + 1; parts = v.parts - 1 }
 abbrev pub dealt_to : View → View
 dealt_to v = newcomer v.origin v.next
 
+-- what a place of this number and this view leaves behind
+abbrev pub trace : ℕ → View → Trace
+trace number v = record { number = number; seen = v.all_seen; left = v.left; entries = v.entries; cuts = v.cuts }
+
+-- the same, by the number that the view has
+abbrev pub trace_of : View → Trace
+trace_of v = trace v.number v
+
+-- the traces that a view has: its own one, where it makes calls, and else those of the places that were given back
+abbrev pub traces_by : Bool → Trace → List Trace → List Trace
+traces_by true own known = own ∷ []
+traces_by false own known = known
+
+abbrev pub traces_in : View → List Trace
+traces_in v = traces_by v.sits (trace_of v) v.known
+
+-- the traces that all views have
+abbrev pub traces_of : List View → List Trace
+traces_of [] = []
+traces_of (v ∷ vs) = traces_in v ++ traces_of vs
+
+-- the dealer's view after it took a place back that has the view w
 abbrev pub gathered : View → View → View
-gathered v w = record v { parts = v.parts + w.parts; known = v.known ++ w.all_seen ∷ [] }
+gathered v w = record v { parts = v.parts + w.parts; known = v.known ++ trace_of w ∷ [] }
 
 abbrev pub note : View → View
 note v = record spent { told = v.seen }
@@ -83,9 +188,39 @@ missing v = record v { misses = v.misses + 1 }
 abbrev pub missed : ℕ → View → View
 missed n v = record v { misses = v.misses + n }
 
+-- how many entries were made since what was seen
+abbrev pub entries_since : Option History → History → ℕ
+entries_since None history = 0
+entries_since (Some seen) history = next_number history - next_number seen
+
+-- how many cuts were made since what was seen, of which one call makes one at most: a cut begins another opening
+abbrev pub cuts_since : Option History → History → ℕ
+cuts_since None history = 0
+cuts_since (Some seen) history = if history.opening.period == seen.opening.period then 0 else 1
+
+-- whether a history is the one that was seen, as far as these numbers tell: its opening, how many entries it has, and how many
+-- entries and programs rolls have handed out. Of what a place may put back they tell all
+abbrev pub is_same : Option History → History → Bool
+is_same None history = false
+is_same (Some seen) history =
+    ((seen.opening.period == history.opening.period) && (next_number seen == next_number history))
+    && ((seen.rolled.lines == history.rolled.lines) && (seen.rolled.programs == history.rolled.programs))
+
+-- what a place has put back changed, with this history, where it changed it
+abbrev pub left_after : List History → Option History → History → List History
+left_after left seen history = if is_same seen history then left else left ++ history ∷ []
+
 -- seen and own entries are those of the history put
 abbrev pub putting : View → History → View
-putting v history = record v { holds = false; seen = Some history; all_seen = v.all_seen ++ history ∷ []; mine = lines_of v.number history.lines }
+putting v history = record v {
+  holds = false;
+  seen = Some history;
+  all_seen = v.all_seen ++ history ∷ [];
+  left = left_after v.left v.seen history;
+  mine = lines_of v.number history.lines;
+  entries = v.entries + entries_since v.seen history;
+  cuts = v.cuts + cuts_since v.seen history;
+}
 
 -- ---- the rule
 
@@ -114,6 +249,8 @@ pub record Fits (origin : Option History) (past : ℕ → History) (now : Histor
   pub source : v.deals ≡ true → v.origin ≡ origin
   pub fresh : v.deals ≡ true → (by : ℕ) → v.next ≤ by → lines_of by now.lines ≡ []
   pub backed : v.holds ≡ true → 0 < v.parts
+  -- where it has no part of the right to close, it has no trace either
+  pub bare : v.parts ≡ 0 → traces_in v ≡ []
 
 -- whether it makes calls, its number, whether it deals, and the next number
 abbrev pub card : View → Bool × ℕ × Bool × ℕ
@@ -142,6 +279,8 @@ pub record Kept (origin : Option History) (s : State History View) : Type 0 wher
   pub fits : Each (Fits origin past now) s.views
   pub pairs : Pairs s.views
   pub parts : parts_of s.views ≡ 129
+  -- nobody but those who have, or had, a view here has changed the book
+  pub made : AreMadeBy origin past now (traces_of s.views)
 
 -- ---- the steps
 
@@ -157,7 +296,9 @@ pub data Grows (number : ℕ) (history after : History) : Type 0 where
   -- entries were handed out
   hands_out : after.opening ≡ history.opening → after.lines ≡ history.lines → Grows number history after
   entry : (l : EntryData) → l.seat ≡ number → after ≡ with_line history l → Grows number history after
-  opens : after.lines ≡ [] → history.opening.period < after.opening.period → Grows number history after
+  -- the documented cut of a good history, after which the numbers of the entries go on
+  opens : after.lines ≡ [] → history.opening.period < after.opening.period → IsGood history → cut (past_of history) ≡ Ok after.opening
+      → next_number after ≡ next_number history → Grows number history after
 
 abbrev pub MayPut : View → History → Type 0
 MayPut v after = IsOf v.origin after × ((history : History) × (v.seen ≡ Some history) × Grows v.number history after)
@@ -194,5 +335,9 @@ abbrev pub AllBegin : Course → List History → Type 0
 AllBegin course xs = AllPast course.past course.last xs
 
 -- the same of all that several seats have seen
-abbrev pub EachBegins : Course → List (List History) → Type 0
+abbrev pub EachBegins : Course → List Trace → Type 0
 EachBegins course known = ArePast course.past course.last known
+
+-- nobody but the places that left these traces has changed the book
+abbrev pub IsMadeBy : Option History → Course → List Trace → Type 0
+IsMadeBy origin course known = AreMadeBy origin course.past course.last known

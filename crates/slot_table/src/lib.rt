@@ -11,4 +11,4 @@ mod view;
 
 pub use slots::{Place, Slot};
 pub use trying::{Busy, Held};
-pub use view::{OneHistory, View};
+pub use view::{OneHistory, Trace, View};

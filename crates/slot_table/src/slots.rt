@@ -3,7 +3,7 @@ ghost use Rattle.std.specs.Prelude.{◌≡◌, ◌<◌, ◌+◌, [], Some, IfOk,
 ghost use Rattle.slot_table.specs.Origins.{IsOf};
 ghost use Rattle.service_profile.specs.Events.{history_of};
 ghost use Rattle.service_profile.specs.Openings.{first_opening};
-ghost use Rattle.slot_table.specs.Rules.{newcomer, AreOfOne, Course, IsCourseOf, EachBegins};
+ghost use Rattle.slot_table.specs.Rules.{newcomer, trace, AreOfOne, Course, IsCourseOf, EachBegins, IsMadeBy};
 ghost use Rattle.slot_table.specs.Places.{place_of, with_dealt, with_back};
 
 use crate::exchange::TableSeat;
@@ -19,7 +19,7 @@ use verifier::Verified;
 const MOST_PLACES: u32 = 128;
 
 /// The book of a service, in a slot that many threads share. Contracts see which table it lies in, how it opened, how many places it has dealt
-/// and taken back, and all that those that came back had seen; the book itself is in the hands of whoever takes it.
+/// and taken back, and what those left behind that came back; the book itself is in the hands of whoever takes it.
 #[derive(Drop)]
 pub struct Slot {
     pub(crate) table: Table<Book, View, Pieces<Book>, OneHistory, Global>,
@@ -118,11 +118,11 @@ impl Slot {
         self.table.shared.load::<Meets>(&mut one.seat, 0);
     }
 
-    /// Takes a place back. All that it had seen stays known.
+    /// Takes a place back. What it saw and what it made stay known.
     pub fn give_back(&mut self, place: Place)
         requires here { place.table ≡ self.old.table }
         requires some { self.old.back < self.old.dealt }
-        ensures { self.new ≡ with_back self.old place.view.all_seen }
+        ensures { self.new ≡ with_back self.old (trace place.number place.view) }
     {
         let Slot {
             table,
@@ -141,7 +141,9 @@ impl Slot {
         // It is good, and of the book that was laid into the slot.
         ensures good { IsOf self.origin result }
         // There is one history of each opening, of which the book's is the last, and all that any place had seen begins that of its opening.
-        ensures known { (course : Course) × (course.last ≡ result) × IsCourseOf self.origin course × EachBegins course self.known }
+        // Nobody but these places has changed the book: each history is the one that was laid into the slot, or one of them left it, and
+        // there are as many entries and cuts as they have made.
+        ensures known { (course : Course) × (course.last ≡ result) × IsCourseOf self.origin course × EachBegins course self.known × IsMadeBy self.origin course self.known }
     {
         let Slot { table, dealer, .. } = self;
         let mut closed = table.close_with(dealer);

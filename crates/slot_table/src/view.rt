@@ -4,6 +4,20 @@ use book::{Book, Entry};
 use pieces::Pieces;
 use std::collections::LinkedList;
 
+/// What a place leaves behind when it is given back: what it saw, and what it made. No value of it is made: proofs alone read it.
+pub struct Trace {
+    /// Its number.
+    pub number: u64,
+    /// All histories that it saw, in their order.
+    pub seen: LinkedList<Book>,
+    /// Those of them that it had changed and put back, in their order.
+    pub left: LinkedList<Book>,
+    /// How many entries it made, in all openings.
+    pub entries: u64,
+    /// How often it cut the journal.
+    pub cuts: u64,
+}
+
 /// What a seat of the table knows. No value of it is made: proofs alone read it.
 pub struct View {
     /// The book that was laid into the slot, as it opened.
@@ -18,8 +32,14 @@ pub struct View {
     pub seen: Option<Book>,
     /// All histories that it saw, in their order: those that it took, and those that it put back.
     pub all_seen: LinkedList<Book>,
-    /// Its own entries in that history.
+    /// Those of them that it had changed and put back, in their order.
+    pub left: LinkedList<Book>,
+    /// Its own entries in the history that it saw last.
     pub mine: LinkedList<Entry>,
+    /// How many entries it made, in all openings.
+    pub entries: u64,
+    /// How often it cut the journal.
+    pub cuts: u64,
     /// How often it took the book.
     pub takes: u64,
     /// How often it found the book out.
@@ -32,12 +52,13 @@ pub struct View {
     pub parts: u64,
     /// What a note says that another seat had seen.
     pub told: Option<Book>,
-    /// All that those had seen that were given back.
-    pub known: LinkedList<LinkedList<Book>>,
+    /// What those left behind that were given back.
+    pub known: LinkedList<Trace>,
 }
 
 /// There is one good history of each opening, the last one in the slot or with one seat. All that a seat has seen
-/// begins the history of its opening, and each seat knows its own entries in the last one.
+/// begins the history of its opening, and each seat knows its own entries in the last one. Nobody but the seats has
+/// changed the book: each history is the first one, or one of them left it.
 pub struct OneHistory;
 
 // What is remembered of the book that is laid into the slot, as it opens, is the table's key.
@@ -79,7 +100,7 @@ impl Split<View> for Deals {
     ghost right = { dealt_to };
 }
 
-/// The dealer takes a seat back, and keeps what it had seen.
+/// The dealer takes a seat back, and keeps what it leaves behind.
 pub struct Gathers;
 
 impl Join<View> for Gathers {

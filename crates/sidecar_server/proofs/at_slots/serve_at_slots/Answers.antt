@@ -11,7 +11,7 @@ use Rattle.sidecar_server.specs.Slotted.{slot_seats_of, slot_seats_with, slot_co
 use Rattle.http_slots.specs.Seated.{seated}
 use Rattle.sidecar_server.proofs.Crews.{all_back, as_many_workers, enough}
 use Rattle.sidecar_server.proofs.Endings.{over_by}
-use Rattle.sidecar_server.proofs.SlotSeating.{all_here, all_seated, as_many_seats, back_here, named_as, opened_as, worked_within}
+use Rattle.sidecar_server.proofs.SlotSeating.{all_here, all_seated, as_many_seats, back_here, named_as, opened_as, worked_within, numbers_add_up}
 use Rattle.sidecar_server.proofs.at_slots.serve_at_slots.Goals as goal
 
 pub serve_by_pool-requires-send-A : goal.serve_by_pool-requires-send-A
@@ -57,4 +57,4 @@ returns-clause-served g c =
     let shut : AreClosedSlots desk c.served.result.books.items (slot_seats_with later) = subst (λ books. AreClosedSlots desk books (slot_seats_with later)) (sym (ap (λ books. books.items) c.served.ensures.left.0)) here in
     let counts = ap (λ counts. counts.items) c.served.ensures.left.1 ∙ (c.in_ok-books.ensures.counts ∙ ap slot_counts_of c.in_ok-seats-2.ensures.seats) in
     let worked = worked_within g.C.Clock.ticks shut.begun.courses c.in_ok-workers.workers.items later c.in_ok-workers-2.ensures.worked shut.begun.begun in
-    (desk, later, shut, names, origins, rw all at worked, counts)
+    (desk, later, shut, names, origins, rw all at worked, counts, numbers_add_up desk.origins c.args.settings.services.items c.served.result.books.items (slot_seats_with later) c.served.result.counts.items origins shut.agree counts)

@@ -15,4 +15,4 @@ returns-in-Some t c =
     let pushed : c.push_reserved.new.self.items ≡ books ++ c.finish.result ∷ [] = search rules in
     let items : c.finish_all.new.books.items ≡ books ++ map last_of (k.0 ∷ f.0) =
     f.1 ∙ (ap (λ l. l ++ map last_of f.0) pushed ∙ (append_assoc books (c.finish.result ∷ []) (map last_of f.0) ∙ ap (λ h. books ++ h ∷ map last_of f.0) (sym k.1))) in
-    (k.0 ∷ f.0, items, subst (Finished (k.0 ∷ f.0)) (sym turned) (k.2, k.3, f.2))
+    (k.0 ∷ f.0, items, subst (Finished (k.0 ∷ f.0)) (sym turned) (k.2, k.3, k.4, f.2))

@@ -1,8 +1,8 @@
-use Rattle.std.proofs.Common.{◌≡◌, ◌++◌, List, length, map, replicate}
+use Rattle.std.proofs.Common.{◌≡◌, ◌++◌, [], List, length, map, replicate}
 use Rattle.std.specs.Prelude.{string_bytes}
 use Rattle.std.specs.Vec.Iter.{into_iter_items}
 use Rattle.slot_desk.specs.Desks.{name_of, first_of}
-use Rattle.slot_desk.specs.Slots.{origin_of, dealt_of, back_of}
+use Rattle.slot_desk.specs.Slots.{origin_of, dealt_of, back_of, known_of}
 use Rattle.slot_desk.proofs.desks.opened.Given as goal
 
 abbrev pub invariant-loop-name : goal.invariant-loop-name
@@ -14,4 +14,5 @@ invariant-loop-name l =
     × (map string_bytes l.names.items ≡ map name_of done)
     × (map origin_of l.slots.items ≡ map first_of done)
     × (map dealt_of l.slots.items ≡ replicate (length done) 0)
-    × (map back_of l.slots.items ≡ replicate (length done) 0))
+    × (map back_of l.slots.items ≡ replicate (length done) 0)
+    × (map known_of l.slots.items ≡ replicate (length done) []))

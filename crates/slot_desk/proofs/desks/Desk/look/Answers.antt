@@ -3,16 +3,20 @@ use Rattle.service_profile.specs.Calls.{looks, finds}
 use Rattle.service_profile.specs.Answers.{map_ok}
 use Rattle.std.specs.Arc.{arc_value}
 use Rattle.slot_desk.specs.Desks.{DeskData}
-use Rattle.slot_desk.proofs.Places.{here, numbers_stay, is_called_at}
+use Rattle.slot_desk.proofs.Entries.{called_makes}
+use Rattle.slot_desk.proofs.Places.{here, numbers_stay, counts_on, is_called_at}
 use Rattle.slot_desk.proofs.desks.Desk.look.Goals as goal
 
 pub look-requires : goal.look-requires
 look-requires g c = record { here = here c.self.inside.slots.items c.args.self.now c.seat.inside.number c.seat.inside.count c.seat.inside.places.items c.args.seat.now (ap (λ (d : DeskData). d.tables) c.self.view_is) c.seat.view_is c.requires.seat c.args.service c.requires.service c.place-at.result c.place-at.ensures _ _ c.index.ensures c.index_mut-place.ensures.value }
 
 pub invariant_of-seat : goal.invariant_of-seat
-invariant_of-seat g c = numbers_stay c.self.inside.slots.items c.args.self.now c.seat.inside.number c.seat.inside.count c.seat.inside.places.items c.args.seat.now (ap (λ (d : DeskData). d.tables) c.self.view_is) c.seat.view_is c.requires.seat c.args.service c.requires.service c.place-at.result c.place-at.ensures _ c.index_mut-place.ensures.value _ c.look.ensures.same _ c.seat.invariant
+invariant_of-seat g c = (
+  numbers_stay c.self.inside.slots.items c.args.self.now c.seat.inside.number c.seat.inside.count c.seat.inside.places.items c.args.seat.now (ap (λ (d : DeskData). d.tables) c.self.view_is) c.seat.view_is c.requires.seat c.args.service c.requires.service c.place-at.result c.place-at.ensures _ c.index_mut-place.ensures.value _ c.look.ensures.same _ c.seat.invariant.0,
+  counts_on c.self.inside.slots.items c.args.self.now c.seat.inside.number c.seat.inside.count c.seat.inside.places.items c.args.seat.now (ap (λ (d : DeskData). d.tables) c.self.view_is) c.seat.view_is c.requires.seat c.args.service c.requires.service c.place-at.result c.place-at.ensures _ c.index_mut-place.ensures.value _ 0 _ (omega arith) (called_makes c.index_mut-place.result.now.number (looks c.args.ticket) (finds (map_ok arc_value c.look.result)) _ _ c.look.ensures.called) c.seat.invariant.1,
+)
 
 pub returns : goal.returns
 returns g c = record {
-  called = is_called_at c.self.inside.slots.items c.args.self.now c.seat.inside.number c.seat.inside.count c.seat.inside.places.items c.args.seat.now (ap (λ (d : DeskData). d.tables) c.self.view_is) c.seat.view_is c.requires.seat c.args.service c.requires.service c.place-at.result c.place-at.ensures _ c.index_mut-place.ensures.value _ c.look.ensures.same _ c.seat.invariant (looks c.args.ticket) (finds (map_ok arc_value c.look.result)) 0 _ refl (omega arith) c.look.ensures.called;
+  called = is_called_at c.self.inside.slots.items c.args.self.now c.seat.inside.number c.seat.inside.count c.seat.inside.places.items c.args.seat.now (ap (λ (d : DeskData). d.tables) c.self.view_is) c.seat.view_is c.requires.seat c.args.service c.requires.service c.place-at.result c.place-at.ensures _ c.index_mut-place.ensures.value _ c.look.ensures.same _ c.seat.invariant.0 (looks c.args.ticket) (finds (map_ok arc_value c.look.result)) 0 _ refl (omega arith) c.look.ensures.called;
 }

@@ -1,7 +1,7 @@
 use Rattle.std.proofs.Common.{rules, ap, subst, ◌≡◌}
 use lib.ListN.{get_elem?}
 use Rattle.slot_table.specs.Origins.{IsOf}
-use Rattle.slot_table.specs.Rules.{IsCourseOf, EachBegins}
+use Rattle.slot_table.specs.Rules.{IsCourseOf, EachBegins, IsMadeBy}
 use Rattle.slot_table.specs.Places.{SlotData}
 use Rattle.slot_table.proofs.Views.{same_at}
 use Rattle.slot_table.proofs.Keeps.{closes, last_good}
@@ -13,7 +13,7 @@ returns-clause-good c =
     let d = c.self.inside.dealer.me.0 in
     let k = c.self.invariant.3 in
     let full : d.parts ≡ 129 = search rules in
-    let done = closes f.0 _ d f.1.0 f.1.1 k.1 k.3 full in
+    let done = closes f.0 _ d f.1.0 f.1.1 k.1 k.2 k.3 full in
     let there = f.4 0 done.0.last (ap (λ l. get_elem? l 0) done.2) in
     let same : done.0.last ≡ c.take-book.result = same_at _ 0 _ _ there c.take-book.ensures.value in
     subst (λ h. IsOf c.args.self.origin h) same (subst (λ (s : SlotData). IsOf s.origin done.0.last) c.self.view_is (last_good _ done.0 done.1))
@@ -24,7 +24,7 @@ returns-clause-known c =
     let d = c.self.inside.dealer.me.0 in
     let k = c.self.invariant.3 in
     let full : d.parts ≡ 129 = search rules in
-    let done = closes f.0 _ d f.1.0 f.1.1 k.1 k.3 full in
+    let done = closes f.0 _ d f.1.0 f.1.1 k.1 k.2 k.3 full in
     let there = f.4 0 done.0.last (ap (λ l. get_elem? l 0) done.2) in
     let same : done.0.last ≡ c.take-book.result = same_at _ 0 _ _ there c.take-book.ensures.value in
-    (done.0, same, subst (λ (s : SlotData). IsCourseOf s.origin done.0) c.self.view_is done.1, subst (λ (s : SlotData). EachBegins done.0 s.known) c.self.view_is done.3)
+    (done.0, same, subst (λ (s : SlotData). IsCourseOf s.origin done.0) c.self.view_is done.1, subst (λ (s : SlotData). EachBegins done.0 s.known) c.self.view_is done.3, subst (λ (s : SlotData). IsMadeBy s.origin done.0 s.known) c.self.view_is done.4)

@@ -1,6 +1,7 @@
 use Rattle.std.proofs.Common.{rules, ap}
 use mathlib.Core.Option.{none}
 use Rattle.atomic_table.specs.Table.{step}
+use Rattle.slot_table.specs.Rules.{traces_in}
 use Rattle.slot_table.proofs.Keeps.{notes_step, informs_step, meets_at}
 use Rattle.slot_table.proofs.slots.Slot.meet.Goals as goal
 
@@ -11,7 +12,7 @@ pub join_seat-requires : goal.join_seat-requires
 join_seat-requires c =
     let n = c.split_seat-note.ensures in
     let none_held = ap (λ m. m.1) n.4 in
-    (search rules, search rules, none_held, search rules, informs_step _ _ _ _ (search rules) (ap (λ m. m.0.holds) n.4) (ap (λ m. m.0.parts) n.4))
+    (search rules, search rules, none_held, search rules, informs_step _ _ _ _ (search rules) (ap (λ m. m.0.holds) n.4) (ap (λ m. m.0.parts) n.4) (ap (λ m. traces_in m.0) n.4))
 
 pub load-requires : goal.load-requires
 load-requires c =
