@@ -1,19 +1,19 @@
--- After a roll of all entries no event meets a full journal.
-use Rattle.std.proofs.Common.{◌≡◌, ℕ, suc, ◌-◌, ◌≤◌, ◌<◌, Bool, true, false, [], length, arith, ap, sym, ◌∙◌, rules}
+-- Behind a roll of all entries no event meets a full journal.
+use Rattle.std.proofs.Common.{◌≡◌, ℕ, suc, ◌-◌, ◌≤◌, ◌<◌, Bool, true, false, List, [], length, Ok, arith, ap, sym, ◌∙◌, rules}
 use Rattle.bpf_profile.specs.Programs.{VerifiedProgram}
 use Rattle.refusals.specs.declared.RefusalNumber.TheVariants as refusal
 use Rattle.service_profile.specs.declared.decisions.Decision.{Decision}
 use Rattle.service_profile.specs.declared.replies.Reply.{Reply}
 use Rattle.service_profile.specs.declared.replies.Reply.TheVariants as reply
 use Rattle.service_profile.specs.Limits.{most_versions}
-use Rattle.service_profile.specs.Answers.{answer, least_version, least_needed, count_unneeded, taken_up_to, rolled_up_to}
-use Rattle.service_profile.specs.Events.{EventData, installs, Rolled, History}
-use Rattle.service_profile.specs.Histories.{Past, past_of, situation_of, programs_of, raised, IsLegal}
+use Rattle.service_profile.specs.Answers.{answer, least_version, least_needed, count_unneeded, taken_up_to, rolled_up_to, after_roll, IsRolled, rolls, no_room}
+use Rattle.service_profile.specs.Events.{EventData, EntryData, installs, Opening, Rolled, History}
+use Rattle.service_profile.specs.Histories.{Past, past_of, next_line, situation_of, programs_of, raised, IsLegal}
 use Rattle.service_profile.specs.Machine.{Situation, Judging, is_full, used, current_version, decision, decision_by}
 use Rattle.book.specs.Interleavings.{replied, lacks_memory}
-use Rattle.book.specs.Rolling.{with_rolled, rolled_whole, versions_needed}
+use Rattle.book.specs.Rolling.{with_rolled, versions_needed}
 use Rattle.book.specs.Sound.{IsSound}
-use Rattle.book.proofs.Applying.{stage_count, same_rolled}
+use Rattle.book.proofs.Applying.{stage_count, same_opening, same_rolled}
 use Rattle.book.proofs.Configured.{few_places}
 use Rattle.book.proofs.Rolled.{rolled_legal, roll_goes_further}
 
@@ -45,20 +45,30 @@ decision_has_memory judging s moment event = search rules
 
 -- ---- a history
 
-roomy_after : (history : History) (event : EventData) → IsLegal history → IsSound (past_of history) → history.rolled.lines ≤ length history.lines → is_full (situation_of (past_of (rolled_whole history))) event ≡ false
-roomy_after history event legal sound there =
+roomy_after : (history : History) (last : ℕ) (event : EventData) → IsLegal history → IsSound (past_of history) → history.rolled.lines ≤ length history.lines → next_line (past_of history) ≤ suc last
+    → is_full (situation_of (past_of (rolled_up_to history last))) event ≡ false
+roomy_after history last event legal sound there whole =
     let past : Past = past_of history in
-    let all : Rolled = record { lines = length history.lines; programs = history.rolled.programs } in
     let few = few_places past.opening.config sound.opening.config in
-    ap (λ (p : Past). is_full (situation_of p) event) (rolled_legal history all legal (record { lines = there; programs = omega arith })).1
-    ∙ roomy (situation_of (with_rolled all past)) event (omega (arith, few, sound.places, stage_count history.opening history.lines history.rolled))
+    ap (λ (p : Past). is_full (situation_of p) event) (rolled_legal history (taken_up_to history last) legal (roll_goes_further history last)).1
+    ∙ roomy (situation_of (with_rolled (taken_up_to history last) past)) event (omega (arith, few, sound.places, stage_count history.opening history.lines history.rolled, ap (λ (o : Opening). o.line) (same_opening history.opening history.lines history.rolled)))
 
-pub rolled_roomy : (history : History) (moment : ℕ) (event : EventData) → IsLegal history → IsSound (past_of history) → history.rolled.lines ≤ length history.lines
-    → (answer (rolled_whole history) moment event).reply ≡ reply.Refused refusal.JournalFull → ⊥
-rolled_roomy history moment event legal sound there =
-    let past : Past = past_of (rolled_whole history) in
-    not_full (answer (rolled_whole history) moment event).reply
-    (decision_other (situation_of past) (raised past moment) event (roomy_after history event legal sound there)).0
+rolled_up_roomy : (history : History) (last moment : ℕ) (event : EventData) → IsLegal history → IsSound (past_of history) → history.rolled.lines ≤ length history.lines → next_line (past_of history) ≤ suc last
+    → (answer (rolled_up_to history last) moment event).reply ≡ reply.Refused refusal.JournalFull → ⊥
+rolled_up_roomy history last moment event legal sound there whole =
+    let past : Past = past_of (rolled_up_to history last) in
+    not_full (answer (rolled_up_to history last) moment event).reply
+    (decision_other (situation_of past) (raised past moment) event (roomy_after history last event legal sound there whole)).0
+
+-- what a roll leaves that hands something out
+left_by : (history : History) (last : ℕ) (lines : List EntryData) (after : History) → IsRolled history last (Ok lines) after → after ≡ rolled_up_to history last
+left_by history last lines after (rolls same left) = left ∙ ap (after_roll history last) (sym same)
+left_by history last lines after (no_room held allowed fewer lacks left) = search rules
+
+pub rolled_roomy : (history after : History) (last moment : ℕ) (lines : List EntryData) (event : EventData) → IsLegal history → IsSound (past_of history) → history.rolled.lines ≤ length history.lines → next_line (past_of history) ≤ suc last → IsRolled history last (Ok lines) after
+    → (answer after moment event).reply ≡ reply.Refused refusal.JournalFull → ⊥
+rolled_roomy history after last moment lines event legal sound there whole rolled full =
+    rolled_up_roomy history last moment event legal sound there whole (ap (λ (h : History). (answer h moment event).reply) (sym (left_by history last lines after rolled)) ∙ full)
 
 -- ---- versions
 

@@ -22,10 +22,6 @@ pub record IsFurther (before after : Rolled) : Type 0 where
 abbrev pub with_rolled : Rolled → Past → Past
 with_rolled rolled past = record { opening = past.opening; rolled = rolled; stages = past.stages; standing = past.standing }
 
--- the same history with all its lines handed out
-abbrev pub rolled_whole : History → History
-rolled_whole history = rolled_to (record { lines = length history.lines; programs = history.rolled.programs }) history
-
 -- how many versions there are from the least that an open ticket or a new one has up to the last
 abbrev pub versions_needed : Situation → ℕ
 versions_needed s = suc (current_version s) - least_needed s

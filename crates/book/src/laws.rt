@@ -12,13 +12,13 @@ ghost use Rattle.service_profile.specs.declared.replies.Fate.{Fate};
 ghost use Rattle.service_profile.specs.declared.replies.Reply.TheVariants as reply;
 ghost use Rattle.service_profile.specs.declared.states.State.{State};
 ghost use Rattle.service_profile.specs.Events.{EntryData, EventData, Opening, Rolled, History, installs, rolled_to};
-ghost use Rattle.service_profile.specs.Histories.{Stage, past_of, situation_of, programs_of, issued, open_of, ended, notes_of, is_listed, note_by, Follows, IsLegal};
+ghost use Rattle.service_profile.specs.Histories.{Stage, past_of, next_line, situation_of, programs_of, issued, open_of, ended, notes_of, is_listed, note_by, Follows, IsLegal};
 ghost use Rattle.book.specs.Interleavings.{World, Given, Act, AreSteps, IsCourse, lacks_memory, HaveMemory, IsWorld, begun};
 ghost use Rattle.book.specs.Laws.{IsService, HasMeantNote};
-ghost use Rattle.book.specs.Rolling.{IsFurther, with_rolled, rolled_whole, versions_needed, endless_answer, Ask, heard, history_after, without_rolls, NeverFull, PagesAreHeld, pieces};
+ghost use Rattle.book.specs.Rolling.{IsFurther, with_rolled, versions_needed, endless_answer, Ask, heard, history_after, without_rolls, NeverFull, PagesAreHeld, pieces};
 ghost use Rattle.service_profile.specs.Limits.{most_versions};
 ghost use Rattle.service_profile.specs.Machine.{Judging, carried, meant, refused, is_open, permissions_held};
-ghost use Rattle.service_profile.specs.Answers.{answer, held_lines, cut, rolled_up_to};
+ghost use Rattle.service_profile.specs.Answers.{answer, held_lines, cut, rolled_up_to, IsRolled};
 ghost use Rattle.book.specs.Safe.{IsVerifiedProgram, AreSafePrograms};
 ghost use Rattle.service_profile.specs.Openings.{IsOpening};
 ghost use Rattle.service_profile.specs.MeantVerdicts.{IsMeantLine};
@@ -170,9 +170,10 @@ pub fn pieces_are_the_journal()
     ensures { (history : History) (asked : List Ask) → history.rolled.lines ≤ length history.lines → pieces history asked ++ held_lines (history_after history asked) ≡ drop history.rolled.lines (history_after history asked).lines }
 {}
 
-/// Once all entries are handed out, no event is answered `JournalFull`, however many tickets are open.
+/// Behind a roll that handed out all entries up to the last one, no event is answered `JournalFull`, however many tickets
+/// are open. `IsRolled` is what the clause of `Book::roll` says of the history that it leaves.
 pub fn rolled_journals_have_room()
-    ensures { (history : History) (moment : ℕ) (event : EventData) → IsLegal history → IsSound (past_of history) → history.rolled.lines ≤ length history.lines → (answer (rolled_whole history) moment event).reply ≢ reply.Refused refusal.JournalFull }
+    ensures { (history after : History) (last moment : ℕ) (lines : List EntryData) (event : EventData) → IsLegal history → IsSound (past_of history) → history.rolled.lines ≤ length history.lines → next_line (past_of history) ≤ suc last → IsRolled history last (Ok lines) after → (answer after moment event).reply ≢ reply.Refused refusal.JournalFull }
 {}
 
 /// After a roll an install is not answered `VersionsFull`, however many programs were installed before, unless

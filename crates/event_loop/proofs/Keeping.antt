@@ -1,7 +1,8 @@
 -- What a hub keeps while its sessions are served, and as they come and leave.
 use Rattle.std.proofs.Common.{◌≡◌, ◌≢◌, ◌⊎◌, inl, inr, ◌<◌, ◌≤◌, ℕ, suc, List, [], ◌∷◌, ◌++◌, Option, Some, None, true, false, ap, sym, ◌∙◌, refl, subst, append_assoc, arith, is_some, slice_index_or}
 use Rattle.std.proofs.lemmas.List.{append-nil}
-use Rattle.slab.specs.Slab.{Slab, Updates, get}
+use Rattle.std.proofs.lemmas.Grind.{common_steps}
+use Rattle.slab.specs.Slab.{Slab, Updates, get, slab_len}
 use Rattle.http_messages.specs.declared.front.Fault.{Fault}
 use Rattle.http_serving.specs.Requests.{HttpRequestData}
 use Rattle.http_turns.specs.declared.stage.Stage.TheVariants as stage
@@ -61,6 +62,9 @@ is_or_was old new key other x y updates is = is_by (either other key) where
 
 no_slot_in : {A : Type 0} (slots : List (Option A)) (key : ℕ) (x : A) → slots ≡ [] → slice_index_or slots key None ≡ Some x → ⊥
 no_slot_in slots key x none is = no_value x (sym is ∙ ap (λ z. slice_index_or z key None) none)
+
+nobody_there : {A : Type 0} (slab : Slab A) (key : ℕ) (x : A) → slab_len slab ≡ 0 → get slab key ≡ Some x → ⊥
+nobody_there slab key x none is = grind (arith, common_steps)
 
 -- ---- numbers
 
@@ -282,20 +286,21 @@ module _ {T : Type 0} (remaining contents : T → Option (List ℕ)) (is_new : T
 
   module _ {S C : Type 0} (refusal : Fault → List ℕ) (responds : S → ℕ → HttpRequestData → List ℕ → S → Type 0) (ticks : C → ℕ → C → Type 0) where
     pub turned_none : (old : Hub T) (slab : Slab (Opened T)) (s : S) (c : C) (was : Option (List (Departed T))) → slab ≡ old.connections → HasTurned remaining contents is_new refusal responds ticks old s c was (record { connections = slab; next = old.next }) s c was
-    turned_none old slab s c was same = (0, [], [], (refl, refl), records_none was, λ log left hub. rw (same, append-nil log) hub)
+    turned_none old slab s c was same = (0, [], [], (refl, refl), records_none was, tt, λ log left hub. rw (same, append-nil log) hub)
 
     pub turned_put : (old new : Hub T) (slab : Slab (Opened T)) (key : ℕ) (one other : Opened T) (own : List Step) (s : S) (c : C) (t : S) (d : C) (was is : Option (List (Departed T)))
         → Updates old.connections slab key None → get old.connections key ≡ Some one → other.number ≡ one.number
         → ((steps : List Step) → IsLife remaining contents is_new refusal steps one.session → IsLife remaining contents is_new refusal (steps ++ own) other.session)
         → AreSteps responds ticks s c own t d → IsPutBack other (record { connections = slab; next = old.next }) was new is
         → HasTurned remaining contents is_new refusal responds ticks old s c was new t d is
-    turned_put old new slab key one other own s c t d was is updates here number lives steps (next, inl (cause, leaves, same, records)) = (
+    turned_put old new slab key one other own s c t d was is updates here number lives steps (next, inl (end, leaves, same, records)) = (
       one.number,
       own,
-      record { number = other.number; session = other.session; cause = cause } ∷ [],
+      record { number = other.number; session = other.session; cause = cause.Ended end } ∷ [],
       steps,
       records,
-      λ log left hub. rw (same, next, number) (closed refusal (log ++ tag one.number own) left slab old.next one.number other.session cause
+      ((end, refl), tt),
+      λ log left hub. rw (same, next, number) (closed refusal (log ++ tag one.number own) left slab old.next one.number other.session (cause.Ended end)
           (out_steps refusal log left slab old.next one.number own (out refusal log left old.connections slab old.next key one updates here hub))
           (rw (steps_own log one.number own) (lives (steps_of one.number log) (hub.stands key one here))) leaves),
     )
@@ -305,6 +310,7 @@ module _ {T : Type 0} (remaining contents : T → Option (List ℕ)) (is_new : T
       [],
       steps,
       rw known (records_none was),
+      tt,
       λ log left hub. rw next (back_at refusal (log ++ tag one.number own) left slab new.connections old.next one.number at back returns free (back_number ∙ number)
           (rw (back_session, steps_own log one.number own) (lives (steps_of one.number log) (hub.stands key one here)))
           (out_steps refusal log left slab old.next one.number own (out refusal log left old.connections slab old.next key one updates here hub))),
@@ -335,7 +341,7 @@ module _ {T : Type 0} (remaining contents : T → Option (List ℕ)) (is_new : T
 
     pub keeps_turned : (first : S) (begun : C) (from : Option (List (Departed T))) (old new : Hub T) (s : S) (c : C) (t : S) (d : C) (was is : Option (List (Departed T)))
         → Keeps remaining contents is_new refusal responds ticks first begun from old s c was → HasTurned remaining contents is_new refusal responds ticks old s c was new t d is → Keeps remaining contents is_new refusal responds ticks first begun from new t d is
-    keeps_turned first begun from old new s c t d was is (log, left, are, records, hub) (number, own, more, steps, again, goes) = (
+    keeps_turned first begun from old new s c t d was is (log, left, are, records, hub) (number, own, more, steps, again, ended, goes) = (
       log ++ tag number own,
       more ++ left,
       rw (all_both log number own) (steps_behind responds ticks (all_steps log) own first begun s c t d are steps),
@@ -343,12 +349,20 @@ module _ {T : Type 0} (remaining contents : T → Option (List ℕ)) (is_new : T
       goes log left hub,
     )
 
+    -- where none is open, all that were served have left
+    pub lived_at_end : (first : S) (begun : C) (from : Option (List (Departed T))) (hub : Hub T) (s : S) (c : C) (is : Option (List (Departed T)))
+        → Keeps remaining contents is_new refusal responds ticks first begun from hub s c is → slab_len hub.connections ≡ 0 → HaveLived remaining contents is_new refusal responds ticks first begun from s c is
+    lived_at_end first begun from hub s c is (log, left, are, records, keeps) none = (log, left, are, records, keeps.lives, keeps.distinct, λ number. by_owned number (keeps.owned number)) where
+      by_owned : (number : ℕ) → (steps_of number log ≡ []) ⊎ (IsAt hub.connections number ⊎ IsIn number left) → (steps_of number log ≡ []) ⊎ IsIn number left
+      by_owned number (inl bare) = inl bare
+      by_owned number (inr (inl (key, one, is, own))) = absurd (nobody_there hub.connections key one none is)
+      by_owned number (inr (inr there)) = inr there
+
   -- ---- what is left of it where nothing is known of streams
 
   connection_by : (refusal : Fault → List ℕ) (steps : List Step) (session : SessionData T) (cause : Cause) → IsLife remaining contents is_new refusal steps session → LeavesSo cause session.connection → IsConnection refusal steps
   connection_by refusal steps session (cause.Ended end) life leaves = (life.bytes, life.text, session.connection.stage, session.connection.unread, life.sent, session.connection.pending, Some end, life.answered, life.split, leaves)
   connection_by refusal steps session (cause.Closed phase) life leaves = (life.bytes, life.text, session.connection.stage, session.connection.unread, life.sent, session.connection.pending, None, life.answered, life.split, tt)
-  connection_by refusal steps session cause.NoMemory life leaves = (life.bytes, life.text, session.connection.stage, session.connection.unread, life.sent, session.connection.pending, None, life.answered, life.split, tt)
 
   connection_of : (refusal : Fault → List ℕ) (log : List LoggedStep) (left : List (Departed T)) (number : ℕ) → AreLives remaining contents is_new refusal log left → IsIn number left → IsConnection refusal (steps_of number log)
   connection_of refusal log [] number lives is = absurd is

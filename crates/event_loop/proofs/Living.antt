@@ -7,9 +7,9 @@ use Rattle.polled_io.specs.Counts.{PolledData}
 use Rattle.http_messages.specs.declared.front.Fault.{Fault}
 use Rattle.http_serving.proofs.Pieces.{consumes_more}
 use Rattle.http_serving.specs.Requests.{HttpRequestData}
+use Rattle.http_serving.specs.declared.ended.Ended.{Ended}
 use Rattle.http_serving.specs.declared.ended.Ended.TheVariants as end
 use Rattle.http_turns.specs.declared.stage.Stage.TheVariants as stage
-use Rattle.http_turns.specs.declared.turned.Turned.{Turned}
 use Rattle.http_turns.specs.declared.turned.Turned.TheVariants as turned
 use Rattle.http_turns.specs.Connections.{ConnectionData, new_connection}
 use Rattle.http_turns.specs.Ends.{IsTurned}
@@ -18,7 +18,10 @@ use Rattle.http_turns.specs.Sessions.{SessionData, IsFinished}
 use Rattle.http_turns.specs.Steps.{Step}
 use Rattle.http_turns.specs.Turns.{Goes}
 use Rattle.http_turns.proofs.Chains.{consumes_none, goes_on, second_none}
-use Rattle.event_loop.specs.Departures.{LeavesSo, cause_of}
+use Rattle.event_loop.specs.declared.departing.Cause.TheVariants as cause
+use Rattle.event_loop.specs.declared.opened.Served.{Served}
+use Rattle.event_loop.specs.declared.opened.Served.TheVariants as served
+use Rattle.event_loop.specs.Departures.{LeavesSo, ClosesAs}
 use Rattle.event_loop.specs.Lives.{IsLife, Lingers}
 
 -- ---- lists of bytes
@@ -121,14 +124,18 @@ module _ {T : Type 0} (remaining contents : T → Option (List ℕ)) where
 
 -- ---- causes
 
--- why it leaves is how its turn ended
-pub leaves_by : {R W : Type 0} (result : Turned) (connection : ConnectionData) (has : Option (List ℕ)) (reader reader_after : PolledData R) (writer writer_after : PolledData W)
-    → IsTurned result connection has reader reader_after writer writer_after → LeavesSo (cause_of result) connection
-leaves_by turned.GoesOn connection has reader reader_after writer writer_after is = tt
-leaves_by (turned.Waits want) connection has reader reader_after writer writer_after is = tt
-leaves_by (turned.Ended end.Closed) connection has reader reader_after writer writer_after (((opened, none), empty, ended, counts), nothing) = (opened, empty, none)
-leaves_by (turned.Ended end.Truncated) connection has reader reader_after writer writer_after (((opened, none), part, ended, counts), nothing) = (opened, part, none)
-leaves_by (turned.Ended end.Finished) connection has reader reader_after writer writer_after (last, none, still, nothing) = (last, none)
-leaves_by (turned.Ended end.ReadFailed) connection has reader reader_after writer writer_after (((opened, none), part, counts), nothing) = (opened, part, none)
-leaves_by (turned.Ended end.WriteFailed) connection has reader reader_after writer writer_after (some, still, counts) = some
-leaves_by (turned.Ended end.OutOfMemory) connection has reader reader_after writer writer_after ((apart, none, still), nothing) = (apart, none)
+-- how its turn ended is why it may leave
+pub leaves_by : {R W : Type 0} (end : Ended) (connection : ConnectionData) (has : Option (List ℕ)) (reader reader_after : PolledData R) (writer writer_after : PolledData W)
+    → IsTurned (turned.Ended end) connection has reader reader_after writer writer_after → LeavesSo (cause.Ended end) connection
+leaves_by end.Closed connection has reader reader_after writer writer_after (((opened, none), empty, ended, counts), nothing) = (opened, empty, none)
+leaves_by end.Truncated connection has reader reader_after writer writer_after (((opened, none), part, ended, counts), nothing) = (opened, part, none)
+leaves_by end.Finished connection has reader reader_after writer writer_after (last, none, still, nothing) = (last, none)
+leaves_by end.ReadFailed connection has reader reader_after writer writer_after (((opened, none), part, counts), nothing) = (opened, part, none)
+leaves_by end.WriteFailed connection has reader reader_after writer writer_after (some, still, counts) = some
+leaves_by end.OutOfMemory connection has reader reader_after writer writer_after ((apart, none, still), nothing) = (apart, none)
+
+-- what closes for one end closes for another one where that follows
+pub closes_on : (served : Served) (P Q : Ended → Type 0) → ((end : Ended) → P end → Q end) → ClosesAs served P → ClosesAs served Q
+closes_on (served.Closed end) P Q follows is = follows end is
+closes_on served.Waits P Q follows is = tt
+closes_on served.GoesOn P Q follows is = tt

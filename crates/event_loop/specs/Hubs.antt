@@ -4,10 +4,11 @@ use Rattle.slab.specs.Slab.{Slab, Updates, get}
 use Rattle.http_messages.specs.declared.front.Fault.{Fault}
 use Rattle.http_serving.specs.Requests.{HttpRequestData}
 use Rattle.http_turns.specs.Steps.{Step, AreSteps}
-use Rattle.event_loop.specs.declared.departing.Cause.{Cause}
+use Rattle.http_serving.specs.declared.ended.Ended.{Ended}
+use Rattle.event_loop.specs.declared.departing.Cause.TheVariants as cause
 use Rattle.event_loop.specs.declared.opened.Opened.{Opened}
 use Rattle.event_loop.specs.declared.hub.Hub.{Hub}
-use Rattle.event_loop.specs.Departures.{Departed, LeavesSo, Records}
+use Rattle.event_loop.specs.Departures.{Departed, LeavesSo, Records, AreEnded}
 use Rattle.event_loop.specs.Lives.{IsLife, AreLives, Differs, AreDistinct, AreBelow, IsIn}
 use Rattle.event_loop.specs.Log.{LoggedStep, all_steps, steps_of, tag}
 
@@ -15,11 +16,11 @@ use Rattle.event_loop.specs.Log.{LoggedStep, all_steps, steps_of, tag}
 abbrev pub IsAt : {T : Type 0} → Slab (Opened T) → ℕ → Type 0
 IsAt slab number = (key : ℕ) × (one : Opened _) × (get slab key ≡ Some one) × (one.number ≡ number)
 
--- a session that was out is put back under a key that was free, or it left
+-- a session that was out is put back under a key that was free, or it left as its turn ended it
 abbrev pub IsPutBack : {T : Type 0} → Opened T → Hub T → Option (List (Departed T)) → Hub T → Option (List (Departed T)) → Type 0
 IsPutBack one old was new is =
     (new.next ≡ old.next)
-    × (((cause : Cause) × LeavesSo cause one.session.connection × (new.connections ≡ old.connections) × Records was is (record { number = one.number; session = one.session; cause = cause } ∷ []))
+    × (((end : Ended) × LeavesSo (cause.Ended end) one.session.connection × (new.connections ≡ old.connections) × Records was is (record { number = one.number; session = one.session; cause = cause.Ended end } ∷ []))
     ⊎ ((at : ℕ) × (back : Opened _) × Updates old.connections new.connections at (Some back) × (get old.connections at ≡ None) × (back.number ≡ one.number) × (back.session ≡ one.session) × (is ≡ was)))
 
 module _ {T : Type 0} (remaining contents : T → Option (List ℕ)) (is_new : T → Type 0) where
@@ -43,10 +44,10 @@ module _ {T : Type 0} (remaining contents : T → Option (List ℕ)) (is_new : T
 
   -- refusal is the text of the answer to a message that is refused; responds relates a state, a moment and a request to the text of the answer and the state after it; ticks relates a clock's state to the moment that it reads and the state after it
   module _ {S C : Type 0} (refusal : Fault → List ℕ) (responds : S → ℕ → HttpRequestData → List ℕ → S → Type 0) (ticks : C → ℕ → C → Type 0) where
-    -- steps were made for the messages of one session, and it may have left
+    -- steps were made for the messages of one session, and it may have left, as its turn ended it and for nothing else
     abbrev pub HasTurned : Hub T → S → C → Option (List (Departed T)) → Hub T → S → C → Option (List (Departed T)) → Type 0
     HasTurned old state clock was new after later is =
-        (number : ℕ) × (own : List Step) × (more : List (Departed T)) × AreSteps responds ticks state clock own after later × Records was is more
+        (number : ℕ) × (own : List Step) × (more : List (Departed T)) × AreSteps responds ticks state clock own after later × Records was is more × AreEnded more
         × ((log : List LoggedStep) (left : List (Departed T)) → IsHub refusal log left old.connections old.next → IsHub refusal (log ++ tag number own) (more ++ left) new.connections new.next)
 
     -- from a state, a clock and those who had left on, sessions were served up to these

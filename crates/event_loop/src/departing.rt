@@ -2,10 +2,10 @@
 ghost use Rattle.std.specs.Prelude.{◌≡◌, List, Option, [], ◌∷◌, None};
 ghost use Rattle.http_turns.specs.Connections.{new_connection};
 ghost use Rattle.http_turns.specs.Sessions.{SessionData};
-ghost use Rattle.event_loop.specs.Departures.{Departed, LeavesSo, Records, cause_of};
+ghost use Rattle.event_loop.specs.Departures.{Departed, LeavesSo, Records};
 
 use http_serving::Ended;
-use http_turns::{Phase, Session, Turned};
+use http_turns::{Phase, Session};
 
 /// Why a session leaves.
 #[derive(Clone, Copy, Debug, PartialEq, Eq)]
@@ -15,8 +15,6 @@ pub enum Cause {
     /// The worker closed it, since its time was over or for another one: it was idle, or in the middle of a message with all
     /// answers sent, or an answer wasn't taken.
     Closed(Phase),
-    /// There is no memory to go on with it.
-    NoMemory,
 }
 
 /// Takes the sessions that leave. Streams of which nothing else is known can't be let go in any other way: so none leaves
@@ -51,15 +49,5 @@ impl<T: Drop> Departures<T> for Closing {
         ensures { self.new ≡ self.old }
     {
         drop(session);
-    }
-}
-
-/// Why a session leaves behind a turn, if it does: where the turn didn't end it, only for want of memory.
-pub(crate) fn cause_of(turned: Turned) -> Cause
-    ensures { result ≡ cause_of turned }
-{
-    match turned {
-        Turned::Ended(ended) => Cause::Ended(ended),
-        _ => Cause::NoMemory,
     }
 }

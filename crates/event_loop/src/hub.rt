@@ -2,10 +2,11 @@
 ghost use Rattle.std.specs.Prelude.{◌≡◌};
 ghost use Rattle.slab.specs.Slab.{HasRoomFor};
 ghost use Rattle.http_turns.specs.Connections.{new_connection};
-ghost use Rattle.event_loop.specs.Departures.{LeavesSo};
+ghost use Rattle.event_loop.specs.Departures.{LeavesSo, ClosesAs};
 ghost use Rattle.event_loop.specs.Hubs.{HasTended, HasTurned, IsPutBack};
 
-use crate::departing::{Cause, Departures, cause_of};
+use crate::departing::{Cause, Departures};
+use crate::due::Due;
 use crate::limits::SharedCounts;
 use crate::listening::Accepted;
 use crate::opened::{Opened, Served};
@@ -48,45 +49,43 @@ impl<T> Hub<T> {
     }
 }
 
-/// Puts a session back behind its turn. One that has more to do at once comes into a list; without memory for that it
-/// leaves, and so does one that ended.
+/// Puts a session back behind its turn, or lets it leave as the turn ended it. One that has more to do at once is due.
 fn put_back<T: Accepted, D: Departures<T>>(
     hub: &mut Hub<T>,
     shared: &SharedCounts,
     departures: &mut D,
-    again: &mut Vec<usize>,
+    due: &mut Due,
     key: usize,
     mut one: Opened<T>,
     served: Served,
-    cause: Cause,
 )
     requires room { HasRoomFor hub.old.connections 1 }
-    requires cause { LeavesSo cause one.session.connection }
+    requires ended { ClosesAs served (λ end. LeavesSo (Cause.Ended end) one.session.connection) }
     ensures { IsPutBack one hub.old (D.departed departures.old) hub.new (D.departed departures.new) }
 {
-    let stays = match served {
-        Served::Closed => false,
-        Served::Waits => true,
-        Served::GoesOn => again.push(key).is_ok(),
+    one.goes_on = match served {
+        Served::Closed(end) => {
+            shared.leave();
+            departures.take(one.number, one.session, Cause::Ended(end));
+            return;
+        }
+        Served::Waits => false,
+        Served::GoesOn => {
+            due.add(key);
+            true
+        }
     };
-    if !stays {
-        shared.leave();
-        departures.take(one.number, one.session, cause);
-        return;
-    }
-    one.goes_on = served == Served::GoesOn;
     hub.connections.insert_reserved(one);
 }
 
 /// Gives the session under a key a turn, at a moment in milliseconds of the system's clock, or reads on behind its last
-/// answer. One that has more to do at once comes into a list; without memory for that it leaves, and so does one that
-/// ended.
+/// answer. One that has more to do at once is due, and one that ended leaves.
 pub(crate) fn serve_key<T: Accepted, D: Departures<T>, S, P: Responder<S>, C: Clock>(
     hub: &mut Hub<T>,
     shared: &SharedCounts,
     departures: &mut D,
     key: usize,
-    again: &mut Vec<usize>,
+    due: &mut Due,
     intake: &mut Intake,
     responder: &P,
     state: &mut S,
@@ -98,16 +97,39 @@ pub(crate) fn serve_key<T: Accepted, D: Departures<T>, S, P: Responder<S>, C: Cl
     let Some(mut one) = hub.connections.try_remove(key) else {
         return;
     };
-    if let Some(pieces) = one.lingering {
+    if let Some(pieces) = one.lingering
+        && one.session.is_finished()
+    {
         let served = one.linger(pieces);
-        let cause = one.cause();
-        put_back(hub, shared, departures, again, key, one, served, cause);
+        put_back(hub, shared, departures, due, key, one, served);
         return;
     }
     let turned = one.session.turn(intake, responder, state, clock);
     let served = one.settle(turned, now);
-    let cause = cause_of(turned);
-    put_back(hub, shared, departures, again, key, one, served, cause);
+    put_back(hub, shared, departures, due, key, one, served);
+}
+
+/// Gives the session under a key a turn that is due, if it still is.
+pub(crate) fn serve_due<T: Accepted, D: Departures<T>, S, P: Responder<S>, C: Clock>(
+    hub: &mut Hub<T>,
+    shared: &SharedCounts,
+    departures: &mut D,
+    key: usize,
+    due: &mut Due,
+    intake: &mut Intake,
+    responder: &P,
+    state: &mut S,
+    clock: &mut C,
+    now: u64,
+)
+    ensures { HasTurned T.remaining T.contents T.is_new P.refusal P.responds C.ticks hub.old state.old clock.old (D.departed departures.old) hub.new state.new clock.new (D.departed departures.new) }
+{
+    if !hub.goes_on(key) {
+        return;
+    }
+    serve_key(
+        hub, shared, departures, key, due, intake, responder, state, clock, now,
+    );
 }
 
 /// Takes a session in, under the key that is free next. The place that it took among those of all workers is given back

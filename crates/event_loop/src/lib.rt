@@ -3,6 +3,7 @@
 
 mod accepting;
 mod departing;
+mod due;
 mod failure;
 mod hub;
 mod limits;

@@ -1,6 +1,6 @@
 //! A connection that is open.
 ghost use Rattle.std.specs.Prelude.{◌≡◌};
-ghost use Rattle.event_loop.specs.Departures.{LeavesSo};
+ghost use Rattle.event_loop.specs.Departures.{LeavesSo, ClosesAs};
 ghost use Rattle.event_loop.specs.Lives.{Lingers};
 
 use crate::departing::Cause;
@@ -37,8 +37,8 @@ pub(crate) enum Served {
     Waits,
     /// It has more to do at once.
     GoesOn,
-    /// It is closed.
-    Closed,
+    /// It is closed, since its last turn ended it so.
+    Closed(Ended),
 }
 
 impl<T> Opened<T> {
@@ -129,9 +129,10 @@ impl<T: Stream> Opened<T> {
     pub(crate) fn linger(&mut self, pieces: u32) -> Served
         ensures number { self.new.number ≡ self.old.number }
         ensures session { Lingers T.remaining T.contents self.old.session self.new.session }
+        ensures closed { ClosesAs result (λ end. end ≡ Ended.Finished) }
     {
         match read_on(&mut self.session, pieces) {
-            Lingering::Over => Served::Closed,
+            Lingering::Over => Served::Closed(Ended::Finished),
             Lingering::Waits(left) => {
                 self.lingering = Some(left);
                 Served::Waits
@@ -147,18 +148,21 @@ impl<T: Stream> Opened<T> {
     fn begin_to_linger(&mut self, now: u64) -> Served
         ensures number { self.new.number ≡ self.old.number }
         ensures session { Lingers T.remaining T.contents self.old.session self.new.session }
+        ensures closed { ClosesAs result (λ end. end ≡ Ended.Finished) }
     {
         if !self.session.end_sending() {
-            return Served::Closed;
+            return Served::Closed(Ended::Finished);
         }
         self.deadline = now.saturating_add(MOST_LINGERING);
         self.linger(MOST_PIECES)
     }
 
-    /// What becomes of the connection behind a turn that ended so, at a moment in milliseconds of the system's clock.
+    /// What becomes of the connection behind a turn that ended so, at a moment in milliseconds of the system's clock: it is
+    /// closed only where the turn says that the connection ended, and as it says.
     pub(crate) fn settle(&mut self, turned: Turned, now: u64) -> Served
         ensures number { self.new.number ≡ self.old.number }
         ensures session { Lingers T.remaining T.contents self.old.session self.new.session }
+        ensures closed { ClosesAs result (λ end. turned ≡ Turned.Ended end) }
     {
         self.is_new = false;
         match turned {
@@ -171,7 +175,7 @@ impl<T: Stream> Opened<T> {
                 Served::Waits
             }
             Turned::Ended(Ended::Finished) => self.begin_to_linger(now),
-            Turned::Ended(_) => Served::Closed,
+            Turned::Ended(end) => Served::Closed(end),
         }
     }
 }

@@ -7,8 +7,9 @@ ghost use Rattle.event_loop.specs.Numbers.{is_left};
 
 use crate::accepting::{Accepting, LISTENER, accept_next};
 use crate::departing::Departures;
+use crate::due::Due;
 use crate::failure::ListenerFailed;
-use crate::hub::{Hub, serve_key, sweep};
+use crate::hub::{Hub, serve_due, serve_key, sweep};
 use crate::limits::{Limits, SharedCounts};
 use crate::listening::{Accepted, Listener};
 use http_serving::{Clock, Responder};
@@ -156,8 +157,8 @@ fn serve_all<
     let mut tools = Tools::wait_for(rt, alloc, listener);
     let number = shared.draw();
     let mut accepting = Accepting::new(shared.begin(rt), number);
-    let mut keys = Vec::new(alloc);
-    let mut again = Vec::new(alloc);
+    let mut due = Due::new(alloc);
+    let mut further = Due::new(alloc);
     let mut now = moment_after(rt, 0);
     let mut swept = 0;
     'rounds: for _ in rt.forever() {
@@ -167,7 +168,7 @@ fn serve_all<
             shared.end();
             return ended;
         }
-        let wait = if again.is_empty() {
+        let wait = if further.is_empty() {
             accepting.wait(limits, now)
         } else {
             0
@@ -180,8 +181,8 @@ fn serve_all<
             thread::sleep(rt, Duration::from_millis(1));
         }
         now = moment_after(rt, now);
-        mem::swap(&mut keys, &mut again);
-        again.clear();
+        mem::swap(&mut due, &mut further);
+        further.clear();
         'events: for event in &tools.events {
             let Token(key) = event.token();
             if event.token() == LISTENER {
@@ -192,7 +193,7 @@ fn serve_all<
                     shared,
                     departures,
                     key,
-                    &mut again,
+                    &mut further,
                     &mut tools.intake,
                     responder,
                     state,
@@ -201,13 +202,13 @@ fn serve_all<
                 );
             }
         }
-        'keys: for key in &keys {
-            serve_key(
+        'keys: for behind in 0..due.count(hub.connections.capacity()) {
+            serve_due(
                 hub,
                 shared,
                 departures,
-                *key,
-                &mut again,
+                due.key(behind),
+                &mut further,
                 &mut tools.intake,
                 responder,
                 state,

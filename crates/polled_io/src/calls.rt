@@ -2,7 +2,7 @@
 ghost use Rattle.std.specs.Prelude.{◌≡◌};
 ghost use Rattle.std.specs.Io.{ReadsAtMost, WritesAtMost};
 ghost use Rattle.std.specs.Io.KnownBytes.{ReadConsumes, WriteAppends};
-ghost use Rattle.polled_io.specs.Calls.{read_polling, write_polling};
+ghost use Rattle.polled_io.specs.Calls.{IsTried, read_polling, write_polling};
 
 use crate::polling::Polling;
 use crate::streams::Stream;
@@ -12,13 +12,15 @@ use std::io::ErrorKind;
 /// How often a call is tried that is interrupted. The last try is the call that counts.
 const MOST_TRIES: u32 = 16;
 
-/// Reads a stream once, and again where the read was interrupted.
+/// Reads a stream once, and again where the read was interrupted, sixteen times at most.
 pub(crate) fn receive_again<T: Stream>(stream: &mut T, buf: &mut [u8]) -> io::Result<usize>
     ensures bound { ReadsAtMost result buf.new }
     ensures bytes { ReadConsumes (T.remaining stream.old) (T.remaining stream.new) result buf.new }
     ensures apart { T.contents stream.new ≡ T.contents stream.old }
+    ensures tried { IsTried 16 (T.read_answers stream.old) (T.read_answers stream.new) result }
+    ensures unwritten { T.write_answers stream.new ≡ T.write_answers stream.old }
 {
-    'tries: for _ in 1..MOST_TRIES {
+    'tries: for tried in 1..MOST_TRIES {
         match stream.receive(buf) {
             Err(error) if error.kind() == ErrorKind::Interrupted => {}
             result => return result,
@@ -27,13 +29,15 @@ pub(crate) fn receive_again<T: Stream>(stream: &mut T, buf: &mut [u8]) -> io::Re
     stream.receive(buf)
 }
 
-/// Writes a stream once, and again where the write was interrupted.
+/// Writes a stream once, and again where the write was interrupted, sixteen times at most.
 pub(crate) fn send_again<T: Stream>(stream: &mut T, buf: &[u8]) -> io::Result<usize>
     ensures bound { WritesAtMost result buf.now }
     ensures bytes { WriteAppends (T.contents stream.old) (T.contents stream.new) result buf.now }
     ensures apart { T.remaining stream.new ≡ T.remaining stream.old }
+    ensures tried { IsTried 16 (T.write_answers stream.old) (T.write_answers stream.new) result }
+    ensures unread { T.read_answers stream.new ≡ T.read_answers stream.old }
 {
-    'tries: for _ in 1..MOST_TRIES {
+    'tries: for tried in 1..MOST_TRIES {
         match stream.send(buf) {
             Err(error) if error.kind() == ErrorKind::Interrupted => {}
             result => return result,

@@ -1,6 +1,7 @@
 //! Streams that answer at once, with counts of how their calls ended.
 ghost use Rattle.std.specs.Prelude.{◌≡◌, length};
 ghost use Rattle.counted_io.specs.Counting.{counted};
+ghost use Rattle.polled_io.specs.Calls.{IsPolled, read_polling, write_polling};
 ghost use Rattle.polled_io.specs.Polling.{is_failed, is_wait, is_end, IsTaken, IsPut};
 ghost use Rattle.polled_io.specs.Wires.{CountsOf, new_counts};
 
@@ -124,6 +125,9 @@ impl<T: Stream> Wire<T> {
     pub fn take(&mut self, buf: &mut [u8]) -> Polling
         ensures bytes { IsTaken result (T.remaining self.old.inner) (T.remaining self.new.inner) buf.new }
         ensures apart { T.contents self.new.inner ≡ T.contents self.old.inner }
+        // It is what the stream's own last read for it answered, and no read is made behind that.
+        ensures polled { IsPolled (T.read_answers self.old.inner) (T.read_answers self.new.inner) read_polling result }
+        ensures unwritten { T.write_answers self.new.inner ≡ T.write_answers self.old.inner }
         // A failed read counts, and no other.
         ensures failures { self.new.reads.failures ≡ counted (is_failed result) self.old.reads.failures }
         // A read that would have had to wait counts so, and not as a failure.
@@ -147,6 +151,9 @@ impl<T: Stream> Wire<T> {
     pub fn put(&mut self, buf: &[u8]) -> Polling
         ensures bytes { IsPut result (T.contents self.old.inner) (T.contents self.new.inner) buf.now }
         ensures apart { T.remaining self.new.inner ≡ T.remaining self.old.inner }
+        // It is what the stream's own last write for it answered, and no write is made behind that.
+        ensures polled { IsPolled (T.write_answers self.old.inner) (T.write_answers self.new.inner) (λ answer. write_polling answer (length buf.now)) result }
+        ensures unread { T.read_answers self.new.inner ≡ T.read_answers self.old.inner }
         // A failed write counts, and no other.
         ensures failures { self.new.writes.failures ≡ counted (is_failed result) self.old.writes.failures }
         // A write that would have had to wait counts so, and not as a failure.
@@ -163,6 +170,7 @@ impl<T: Stream> Wire<T> {
     pub fn end_sending(&mut self) -> bool
         ensures read { T.remaining self.new.inner ≡ T.remaining self.old.inner }
         ensures written { T.contents self.new.inner ≡ T.contents self.old.inner }
+        ensures unheard { (T.read_answers self.new.inner ≡ T.read_answers self.old.inner) × (T.write_answers self.new.inner ≡ T.write_answers self.old.inner) }
     {
         self.inner.end_sending().is_ok()
     }
