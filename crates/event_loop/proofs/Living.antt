@@ -3,12 +3,12 @@ use Rattle.std.proofs.Common.{◌≡◌, ◌⊎◌, inl, inr, ℕ, List, [], ◌
 use Rattle.std.proofs.lemmas.List.{append-nil}
 use Rattle.std.specs.Io.KnownBytes.{Appends, Consumes}
 use Rattle.counted_io.proofs.Pieces.{appends_more, appends_none}
-use Rattle.polled_io.specs.Counts.{PolledData}
+use Rattle.polled_io.specs.Wires.{CountsOf}
 use Rattle.http_messages.specs.declared.front.Fault.{Fault}
-use Rattle.http_serving.proofs.Pieces.{consumes_more}
-use Rattle.http_serving.specs.Requests.{HttpRequestData}
-use Rattle.http_serving.specs.declared.ended.Ended.{Ended}
-use Rattle.http_serving.specs.declared.ended.Ended.TheVariants as end
+use Rattle.http_turns.proofs.Chains.{consumes_more}
+use Rattle.http_turns.specs.Requests.{HttpRequestData}
+use Rattle.http_turns.specs.declared.ended.Ended.{Ended}
+use Rattle.http_turns.specs.declared.ended.Ended.TheVariants as end
 use Rattle.http_turns.specs.declared.stage.Stage.TheVariants as stage
 use Rattle.http_turns.specs.declared.turned.Turned.TheVariants as turned
 use Rattle.http_turns.specs.Connections.{ConnectionData, new_connection}
@@ -125,7 +125,7 @@ module _ {T : Type 0} (remaining contents : T → Option (List ℕ)) where
 -- ---- causes
 
 -- how its turn ended is why it may leave
-pub leaves_by : {R W : Type 0} (end : Ended) (connection : ConnectionData) (has : Option (List ℕ)) (reader reader_after : PolledData R) (writer writer_after : PolledData W)
+pub leaves_by : (end : Ended) (connection : ConnectionData) (has : Option (List ℕ)) (reader reader_after writer writer_after : CountsOf)
     → IsTurned (turned.Ended end) connection has reader reader_after writer writer_after → LeavesSo (cause.Ended end) connection
 leaves_by end.Closed connection has reader reader_after writer writer_after (((opened, none), empty, ended, counts), nothing) = (opened, empty, none)
 leaves_by end.Truncated connection has reader reader_after writer writer_after (((opened, none), part, ended, counts), nothing) = (opened, part, none)

@@ -1,6 +1,6 @@
 -- Sessions that left.
 use Rattle.std.specs.Prelude.{◌≡◌, ℕ, List, [], ◌∷◌, ◌++◌, Option, Some, None, ⊤}
-use Rattle.http_serving.specs.declared.ended.Ended.{Ended}
+use Rattle.http_turns.specs.declared.ended.Ended.{Ended}
 use Rattle.http_turns.specs.Connections.{ConnectionData}
 use Rattle.http_turns.specs.Phases.{IsPhase}
 use Rattle.http_turns.specs.Sessions.{SessionData}

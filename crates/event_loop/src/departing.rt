@@ -4,8 +4,7 @@ ghost use Rattle.http_turns.specs.Connections.{new_connection};
 ghost use Rattle.http_turns.specs.Sessions.{SessionData};
 ghost use Rattle.event_loop.specs.Departures.{Departed, LeavesSo, Records};
 
-use http_serving::Ended;
-use http_turns::{Phase, Session};
+use http_turns::{Ended, Phase, Session};
 
 /// Why a session leaves.
 #[derive(Clone, Copy, Debug, PartialEq, Eq)]

@@ -10,8 +10,7 @@ use crate::due::Due;
 use crate::limits::SharedCounts;
 use crate::listening::Accepted;
 use crate::opened::{Opened, Served};
-use http_serving::{Clock, Responder};
-use http_turns::{Intake, Session};
+use http_turns::{Clock, Intake, Responder, Session};
 use slab::Slab;
 use std::alloc::Global;
 

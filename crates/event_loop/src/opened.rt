@@ -6,8 +6,7 @@ ghost use Rattle.event_loop.specs.Lives.{Lingers};
 use crate::departing::Cause;
 use crate::linger::{Lingering, MOST_PIECES, read_on};
 use crate::patience::{MOST_LINGERING, idle_deadline, patience};
-use http_serving::Ended;
-use http_turns::{Phase, Session, Turned};
+use http_turns::{Ended, Phase, Session, Turned};
 use polled_io::Stream;
 use std::alloc::Global;
 

@@ -8,7 +8,7 @@ use crate::asking::{Asking, asked};
 use book::Reply;
 use http_messages::Fault;
 use http_routes::Routes;
-use http_serving::{HttpRequest, Responder};
+use http_turns::{HttpRequest, Responder};
 use service::Response;
 use std::alloc::{AllocError, Global};
 use std::cell::Cell;

@@ -1,8 +1,8 @@
 -- What the clauses of turns come to in the end.
 use Rattle.std.proofs.Common.{ℕ, List, [], ◌∷◌, Option, refl, arith}
 use Rattle.http_messages.specs.declared.front.Fault.{Fault}
-use Rattle.http_serving.specs.Requests.{HttpRequestData}
-use Rattle.http_serving.specs.Serving.{AreAnswered}
+use Rattle.http_turns.specs.Requests.{HttpRequestData}
+use Rattle.http_turns.specs.Serving.{AreAnswered}
 use Rattle.http_turns.specs.Connections.{ConnectionData, new_connection}
 use Rattle.http_turns.specs.Exchanges.{HasGone}
 use Rattle.http_turns.specs.Lives.{HasLived}

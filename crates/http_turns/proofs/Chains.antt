@@ -7,8 +7,7 @@ use Rattle.counted_io.proofs.Pieces.{appends_more}
 use Rattle.http_messages.specs.declared.front.Fault.{Fault}
 use Rattle.http_messages.specs.Messages.{Message, AreMessages, Ending, refused, final, closed, truncated}
 use Rattle.http_messages.proofs.Longer.{messages_stay}
-use Rattle.http_serving.specs.Requests.{HttpRequestData}
-use Rattle.http_serving.proofs.Pieces.{consumes_more}
+use Rattle.http_turns.specs.Requests.{HttpRequestData}
 use Rattle.http_turns.specs.declared.stage.Stage.{Stage}
 use Rattle.http_turns.specs.declared.stage.Stage.TheVariants as stage
 use Rattle.http_turns.specs.Connections.{ConnectionData}
@@ -19,6 +18,12 @@ use Rattle.http_turns.specs.Turns.{AreToEnd, Reaches, Goes}
 pub consumes_none : (v : Option (List ℕ)) → Consumes v v []
 consumes_none None = tt
 consumes_none (Some xs) = refl
+
+pub consumes_more : (a b c : Option (List ℕ)) (x y : List ℕ) → Consumes a b x → Consumes b c y → Consumes a c (x ++ y)
+consumes_more None b c x y h k = tt
+consumes_more (Some p) None c x y h k = absurd h
+consumes_more (Some p) (Some q) None x y h k = absurd k
+consumes_more (Some p) (Some q) (Some r) x y h k = h ∙ ap (λ z. x ++ z) k ∙ sym (append_assoc x y r)
 
 -- ---- lists of steps
 

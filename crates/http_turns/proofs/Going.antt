@@ -10,10 +10,10 @@ use Rattle.http_messages.specs.Fields.{ends_connection}
 use Rattle.http_messages.specs.Fronts.{IsHeadAt}
 use Rattle.http_messages.specs.Heads.{IsPartOfHead}
 use Rattle.http_messages.specs.Messages.{Message, BeginsWith, HasFault, refused, final}
-use Rattle.http_serving.specs.Reading.{message_of}
-use Rattle.http_serving.specs.Requests.{HttpRequestData, request_of}
-use Rattle.http_serving.specs.Serving.{IsUnfinished}
-use Rattle.http_serving.proofs.Messages.{begins_with}
+use Rattle.http_turns.specs.Reading.{message_of}
+use Rattle.http_turns.specs.Requests.{HttpRequestData, request_of}
+use Rattle.http_turns.specs.Serving.{IsUnfinished}
+use Rattle.http_turns.proofs.Messages.{begins_with}
 use Rattle.http_turns.specs.declared.answering.Answered.TheVariants as answered
 use Rattle.http_turns.specs.declared.stage.Stage.{Stage}
 use Rattle.http_turns.specs.declared.stage.Stage.TheVariants as stage

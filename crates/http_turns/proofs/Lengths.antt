@@ -7,7 +7,7 @@ use Rattle.refusals.specs.declared.RefusalNumber.{RefusalNumber}
 use Rattle.refusals.specs.declared.RefusalNumber.TheVariants as refusal
 use Rattle.http_messages.specs.Fields.{body_of, field_limit, fields_of, is_transfer_coding, size_of, within_limit}
 use Rattle.http_messages.specs.Lengths.{length_from}
-use Rattle.http_serving.specs.Serving.{IsUnfinished}
+use Rattle.http_turns.specs.Serving.{IsUnfinished}
 
 -- what is left where neither reason to refuse holds
 neither : (one two : Bool) (x y : RefusalNumber) (rest : Result ℕ RefusalNumber) (size : ℕ) → (if one then Err x else (if two then Err y else rest)) ≡ Ok size → rest ≡ Ok size

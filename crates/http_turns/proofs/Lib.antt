@@ -1,3 +1,4 @@
+pub mod Messages
 pub mod Writing
 pub mod Going
 pub mod Chains
@@ -8,3 +9,4 @@ pub mod Counting
 pub mod Alone
 pub mod Served
 pub mod Lingering
+pub mod Ending

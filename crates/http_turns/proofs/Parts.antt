@@ -3,9 +3,9 @@ use Rattle.std.proofs.Common.{◌≡◌, ◌≢◌, ◌≤◌, ◌<◌, ◌+◌,
 use Rattle.std.proofs.lemmas.List.{append-nil, length-append}
 use Rattle.counted_io.proofs.Pieces.{appends_none}
 use Rattle.http_messages.specs.declared.front.Fault.{Fault}
-use Rattle.http_serving.specs.Reading.{ReadsMore}
-use Rattle.http_serving.specs.Requests.{HttpRequestData}
-use Rattle.http_serving.specs.Serving.{IsUnfinished}
+use Rattle.http_turns.specs.Reading.{ReadsMore}
+use Rattle.http_turns.specs.Requests.{HttpRequestData}
+use Rattle.http_turns.specs.Serving.{IsUnfinished}
 use Rattle.http_turns.specs.declared.answering.Answered.{Answered}
 use Rattle.http_turns.specs.declared.answering.Answered.TheVariants as answered
 use Rattle.http_turns.specs.declared.stage.Stage.TheVariants as stage

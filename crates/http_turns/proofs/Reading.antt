@@ -1,10 +1,11 @@
 -- How a turn goes on behind a read.
 use Rattle.std.proofs.Common.{eqb-true, ◌≡◌, ◌≢◌, ◌<◌, ℕ, List, [], ◌∷◌, length, ◌==◌, Bool, true, false, Option, refl, sym, ap, ◌∙◌, arith, inl, inr}
-use Rattle.polled_io.specs.Counts.{PolledData, CountsNothing}
+use Rattle.polled_io.specs.Counts.{CountsNothing}
+use Rattle.polled_io.specs.Wires.{CountsOf}
 use Rattle.http_messages.specs.Messages.{IsPartOfMessage}
-use Rattle.http_serving.specs.Serving.{IsUnfinished}
-use Rattle.http_serving.specs.declared.ended.Ended.{Ended}
-use Rattle.http_serving.specs.declared.ended.Ended.TheVariants as end
+use Rattle.http_turns.specs.Serving.{IsUnfinished}
+use Rattle.http_turns.specs.declared.ended.Ended.{Ended}
+use Rattle.http_turns.specs.declared.ended.Ended.TheVariants as end
 use Rattle.http_turns.specs.declared.input.Filled.{Filled}
 use Rattle.http_turns.specs.declared.input.Filled.TheVariants as filled
 use Rattle.http_turns.specs.declared.stage.Stage.TheVariants as stage
@@ -43,7 +44,7 @@ none_or_some empty unread is = (
 not_last : (connection : ConnectionData) → connection.stage ≡ stage.Open → connection.stage ≢ stage.Last
 not_last connection opened last = absurd (let e : stage.Open ≡ stage.Last = sym opened ∙ last in cc)
 
-pub read_by : {R : Type 0} (found : Filled) (empty : Bool) (unread : List ℕ) (connection : ConnectionData) (has : Option (List ℕ)) (before after : PolledData R)
+pub read_by : (found : Filled) (empty : Bool) (unread : List ℕ) (connection : ConnectionData) (has : Option (List ℕ)) (before after : CountsOf)
     → connection.stage ≡ stage.Open → connection.pending ≡ [] → IsUnfinished unread → (empty ≡ true → connection.unread ≡ []) × (empty ≡ false → connection.unread ≢ [])
     → IsFilled found unread connection.unread has before after → IsRead (turned_by found empty) connection has before after
 read_by filled.More empty unread connection has before after opened none part either is = is.1
@@ -54,7 +55,7 @@ read_by filled.Failed empty unread connection has before after opened none part 
 read_by filled.NoMemory empty unread connection has before after opened none part either is = (not_last connection opened, none, is.1)
 
 -- it goes on only where more was read
-pub longer_by : {R : Type 0} (found : Filled) (empty : Bool) (result : Turned) (unread new : List ℕ) (has : Option (List ℕ)) (before after : PolledData R)
+pub longer_by : (found : Filled) (empty : Bool) (result : Turned) (unread new : List ℕ) (has : Option (List ℕ)) (before after : CountsOf)
     → result ≡ turned_by found empty → IsFilled found unread new has before after → result ≡ turned.GoesOn → length unread < length new
 longer_by filled.More empty result unread new has before after by is goes = is.0
 longer_by filled.End true result unread new has before after by is goes = absurd (ended_apart (sym by ∙ goes))
@@ -64,7 +65,7 @@ longer_by filled.Failed empty result unread new has before after by is goes = ab
 longer_by filled.NoMemory empty result unread new has before after by is goes = absurd (ended_apart (sym by ∙ goes))
 
 -- a round ends as its read does, behind a writer that took all
-pub turned_by_read : {R W : Type 0} (result : Turned) (connection : ConnectionData) (has : Option (List ℕ)) (reader reader_after : PolledData R) (writer writer_after : PolledData W)
+pub turned_by_read : (result : Turned) (connection : ConnectionData) (has : Option (List ℕ)) (reader reader_after writer writer_after : CountsOf)
     → IsRead result connection has reader reader_after → CountsNothing writer writer_after → IsTurned result connection has reader reader_after writer writer_after
 turned_by_read turned.GoesOn connection has reader reader_after writer writer_after read nothing = (read, nothing)
 turned_by_read (turned.Waits want.Bytes) connection has reader reader_after writer writer_after read nothing = (read, nothing)

@@ -2,13 +2,13 @@
 use Rattle.std.proofs.Common.{◌≡◌, ◌≢◌, ℕ, List, [], ◌∷◌, ◌++◌, Option, None, refl, ap, sym, ◌∙◌, subst, inl, inr}
 use Rattle.std.proofs.lemmas.List.{append-nil}
 use Rattle.std.specs.Io.KnownBytes.{Appends, Consumes}
-use Rattle.polled_io.specs.Counts.{PolledData}
+use Rattle.polled_io.specs.Wires.{CountsOf}
 use Rattle.http_messages.specs.declared.front.Fault.{Fault}
 use Rattle.http_messages.specs.Messages.{Message, BeginsWith, Ending, refused, final, closed, truncated}
-use Rattle.http_serving.specs.declared.ended.Ended.{Ended}
-use Rattle.http_serving.specs.declared.ended.Ended.TheVariants as end
-use Rattle.http_serving.specs.Requests.{HttpRequestData}
-use Rattle.http_serving.specs.Serving.{AreAnswered, AreAnsweredToEnd, IsLost, IsOutOfMemory, IsServed, IsText}
+use Rattle.http_turns.specs.declared.ended.Ended.{Ended}
+use Rattle.http_turns.specs.declared.ended.Ended.TheVariants as end
+use Rattle.http_turns.specs.Requests.{HttpRequestData}
+use Rattle.http_turns.specs.Serving.{AreAnswered, AreAnsweredToEnd, IsLost, IsOutOfMemory, IsServed, IsText}
 use Rattle.http_turns.specs.declared.stage.Stage.{Stage}
 use Rattle.http_turns.specs.declared.stage.Stage.TheVariants as stage
 use Rattle.http_turns.specs.declared.turned.Turned.TheVariants as turned
@@ -60,7 +60,7 @@ module _ {S C : Type 0} (refusal : Fault → List ℕ) (responds : S → ℕ →
       let parts = split_steps earlier (lost ∷ []) s t c d (subst (λ z. AreSteps responds ticks s c z t d) split are) in
       (messages_of earlier, rest, texts_of earlier, parts.0, parts.1, messages, answered_alone refusal responds ticks earlier s parts.0 c parts.1 all parts.2, rw is at puts, lost_by lost rest behind parts.0 t parts.1 d parts.3 none begins)
 
-  pub served : {R W : Type 0} (ended : Ended) (b : ConnectionData) (i j : Option (List ℕ)) (s t : S) (c d : C) (f g : Option (List ℕ)) (r q : PolledData R) (w v : PolledData W)
+  pub served : (ended : Ended) (b : ConnectionData) (i j : Option (List ℕ)) (s t : S) (c d : C) (f g : Option (List ℕ)) (r q w v : CountsOf)
       → HasLived refusal responds ticks b i s c f j t d g → IsTurned (turned.Ended ended) b j r q w v → (bytes : List ℕ) × Consumes i j bytes × IsServed refusal responds ticks ended bytes s c t d f g
   served end.Closed b i j s t c d f g r q w v (bytes, steps, text, sent, takes, are, puts, reaches, is, count, kept) by =
       let here : Reaches refusal bytes steps text stage.Open b.unread = rw by.0.0.0 at reaches in

@@ -1,8 +1,8 @@
 -- What answering one message does.
 use Rattle.std.specs.Prelude.{◌≡◌, ◌≢◌, ◌⊎◌, ◌≤◌, ℕ, List, [], length}
 use Rattle.http_messages.specs.declared.front.Fault.{Fault}
-use Rattle.http_serving.specs.Requests.{HttpRequestData}
-use Rattle.http_serving.specs.Serving.{IsUnfinished}
+use Rattle.http_turns.specs.Requests.{HttpRequestData}
+use Rattle.http_turns.specs.Serving.{IsUnfinished}
 use Rattle.http_turns.specs.declared.answering.Answered.{Answered}
 use Rattle.http_turns.specs.declared.answering.Answered.TheVariants as answered
 use Rattle.http_turns.specs.declared.stage.Stage.TheVariants as stage

@@ -1,8 +1,9 @@
--- How the parts of a turn end, with the reader or the writer before and after.
+-- How the parts of a turn end, with the counts of the reads or of the writes before and after.
 use Rattle.std.specs.Prelude.{◌≡◌, ◌≢◌, ◌<◌, ℕ, List, [], length, Option, Bool, true, false}
 use Rattle.std.specs.Io.KnownBytes.{IsAtEnd}
-use Rattle.polled_io.specs.Counts.{PolledData, CountsNothing, CountsFailure, CountsWait, CountsEnd}
-use Rattle.http_serving.specs.declared.ended.Ended.TheVariants as end
+use Rattle.polled_io.specs.Counts.{CountsNothing, CountsFailure, CountsWait, CountsEnd}
+use Rattle.polled_io.specs.Wires.{CountsOf}
+use Rattle.http_turns.specs.declared.ended.Ended.TheVariants as end
 use Rattle.http_turns.specs.declared.output.Written.{Written}
 use Rattle.http_turns.specs.declared.output.Written.TheVariants as written
 use Rattle.http_turns.specs.declared.input.Filled.{Filled}
@@ -12,13 +13,13 @@ use Rattle.http_turns.specs.declared.turned.Turned.TheVariants as turned
 use Rattle.http_turns.specs.declared.turned.Want.TheVariants as want
 
 -- how writing ended, with what is left to write
-abbrev pub IsWritten : {W : Type 0} → Written → List ℕ → PolledData W → PolledData W → Type 0
+abbrev pub IsWritten : Written → List ℕ → CountsOf → CountsOf → Type 0
 IsWritten written.All left before after = (left ≡ []) × CountsNothing before after
 IsWritten written.Part left before after = (left ≢ []) × CountsWait before after
 IsWritten written.Failed left before after = (left ≢ []) × CountsFailure before after
 
 -- how a read ended, with what was unread before and is after it, and what the reader has left
-abbrev pub IsFilled : {R : Type 0} → Filled → List ℕ → List ℕ → Option (List ℕ) → PolledData R → PolledData R → Type 0
+abbrev pub IsFilled : Filled → List ℕ → List ℕ → Option (List ℕ) → CountsOf → CountsOf → Type 0
 IsFilled filled.More unread new has before after = (length unread < length new) × CountsNothing before after
 IsFilled filled.End unread new has before after = (new ≡ unread) × IsAtEnd has × CountsEnd before after
 IsFilled filled.Nothing unread new has before after = (new ≡ unread) × CountsWait before after

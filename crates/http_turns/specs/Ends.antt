@@ -1,10 +1,11 @@
--- How a turn ended, with the reader and the writer before and after.
+-- How a turn ended, with the counts of the reads and of the writes before and after.
 use Rattle.std.specs.Prelude.{◌≡◌, ◌≢◌, List, [], ℕ, Option}
 use Rattle.std.specs.Io.KnownBytes.{IsAtEnd}
-use Rattle.polled_io.specs.Counts.{PolledData, CountsNothing, CountsFailure, CountsWait, CountsEnd}
+use Rattle.polled_io.specs.Counts.{CountsNothing, CountsFailure, CountsWait, CountsEnd}
+use Rattle.polled_io.specs.Wires.{CountsOf}
 use Rattle.http_messages.specs.Messages.{IsPartOfMessage}
-use Rattle.http_serving.specs.Serving.{IsUnfinished}
-use Rattle.http_serving.specs.declared.ended.Ended.TheVariants as end
+use Rattle.http_turns.specs.Serving.{IsUnfinished}
+use Rattle.http_turns.specs.declared.ended.Ended.TheVariants as end
 use Rattle.http_turns.specs.declared.stage.Stage.TheVariants as stage
 use Rattle.http_turns.specs.declared.turned.Turned.{Turned}
 use Rattle.http_turns.specs.declared.turned.Turned.TheVariants as turned
@@ -16,7 +17,7 @@ abbrev pub IsReadFrom : ConnectionData → Type 0
 IsReadFrom connection = (connection.stage ≡ stage.Open) × (connection.pending ≡ [])
 
 -- how answering a message or reading ended, with what the reader has left
-abbrev pub IsRead : {R : Type 0} → Turned → ConnectionData → Option (List ℕ) → PolledData R → PolledData R → Type 0
+abbrev pub IsRead : Turned → ConnectionData → Option (List ℕ) → CountsOf → CountsOf → Type 0
 IsRead turned.GoesOn connection has before after = CountsNothing before after
 IsRead (turned.Waits want.Bytes) connection has before after = IsReadFrom connection × IsUnfinished connection.unread × CountsWait before after
 IsRead (turned.Waits want.Room) connection has before after = ⊥
@@ -28,12 +29,12 @@ IsRead (turned.Ended end.Finished) connection has before after = ⊥
 IsRead (turned.Ended end.WriteFailed) connection has before after = ⊥
 
 -- how a turn ended, with what the reader has left: why it waits or ended is what the last call came to, and no other call failed, would have had to wait or met the end
-abbrev pub IsTurned : {R W : Type 0} → Turned → ConnectionData → Option (List ℕ) → PolledData R → PolledData R → PolledData W → PolledData W → Type 0
-IsTurned (turned.Waits want.Room) connection has reader reader_after writer writer_after =
-    (connection.pending ≢ []) × CountsNothing reader reader_after × CountsWait writer writer_after
-IsTurned (turned.Ended end.WriteFailed) connection has reader reader_after writer writer_after =
-    (connection.pending ≢ []) × CountsNothing reader reader_after × CountsFailure writer writer_after
-IsTurned (turned.Ended end.Finished) connection has reader reader_after writer writer_after =
-    (connection.stage ≡ stage.Last) × (connection.pending ≡ []) × CountsNothing reader reader_after × CountsNothing writer writer_after
-IsTurned other connection has reader reader_after writer writer_after =
-    IsRead other connection has reader reader_after × CountsNothing writer writer_after
+abbrev pub IsTurned : Turned → ConnectionData → Option (List ℕ) → CountsOf → CountsOf → CountsOf → CountsOf → Type 0
+IsTurned (turned.Waits want.Room) connection has reads reads_after writes writes_after =
+    (connection.pending ≢ []) × CountsNothing reads reads_after × CountsWait writes writes_after
+IsTurned (turned.Ended end.WriteFailed) connection has reads reads_after writes writes_after =
+    (connection.pending ≢ []) × CountsNothing reads reads_after × CountsFailure writes writes_after
+IsTurned (turned.Ended end.Finished) connection has reads reads_after writes writes_after =
+    (connection.stage ≡ stage.Last) × (connection.pending ≡ []) × CountsNothing reads reads_after × CountsNothing writes writes_after
+IsTurned other connection has reads reads_after writes writes_after =
+    IsRead other connection has reads reads_after × CountsNothing writes writes_after

@@ -3,7 +3,7 @@ use Rattle.std.specs.Prelude.{◌≡◌, ◌≢◌, ◌⊎◌, ◌≤◌, ℕ, L
 use Rattle.std.specs.Io.KnownBytes.{Appends, Consumes}
 use Rattle.counted_io.specs.Counting.{IsBeginning}
 use Rattle.http_messages.specs.declared.front.Fault.{Fault}
-use Rattle.http_serving.specs.Requests.{HttpRequestData}
+use Rattle.http_turns.specs.Requests.{HttpRequestData}
 use Rattle.http_turns.specs.declared.stage.Stage.TheVariants as stage
 use Rattle.http_turns.specs.Connections.{ConnectionData, IsKept}
 use Rattle.http_turns.specs.Steps.{Step, AreSteps, counted_steps, text_of}

@@ -1,3 +1,8 @@
+pub mod Requests
+pub mod Serving
+pub mod Causes
+pub mod Reading
+pub mod Blocking
 pub mod Connections
 pub mod Phases
 pub mod Steps

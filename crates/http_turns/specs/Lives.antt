@@ -2,7 +2,7 @@
 use Rattle.std.specs.Prelude.{◌≡◌, ℕ, List, ◌++◌, Option}
 use Rattle.std.specs.Io.KnownBytes.{Appends, Consumes}
 use Rattle.http_messages.specs.declared.front.Fault.{Fault}
-use Rattle.http_serving.specs.Requests.{HttpRequestData}
+use Rattle.http_turns.specs.Requests.{HttpRequestData}
 use Rattle.http_turns.specs.Connections.{ConnectionData, IsKept}
 use Rattle.http_turns.specs.Steps.{Step, AreSteps, counted_steps}
 use Rattle.http_turns.specs.Turns.{Reaches}

@@ -2,7 +2,7 @@
 use Rattle.std.specs.Prelude.{◌≡◌, ◌⊎◌, ℕ, List, [], ◌∷◌, ◌++◌, Option, Some, None, ⊤}
 use Rattle.counted_io.specs.Counting.{one_more}
 use Rattle.http_messages.specs.Messages.{Message}
-use Rattle.http_serving.specs.Requests.{HttpRequestData, request_of}
+use Rattle.http_turns.specs.Requests.{HttpRequestData, request_of}
 
 -- a message, the moment at which it was answered, and the text of its answer; None where there was no memory for the text
 pub record Step : Type 0 where

@@ -3,10 +3,12 @@ ghost use Rattle.std.specs.Prelude.{◌≡◌, []};
 ghost use Rattle.http_messages.specs.Messages.{HasFault};
 ghost use Rattle.http_turns.specs.Answering.{HasAnswered};
 
+use crate::clock::Clock;
 use crate::connection::Connection;
+use crate::requests::{drop_front, request_at};
+use crate::responder::Responder;
 use crate::stage::Stage;
 use http_messages::{Fault, Front, HeadParser};
-use http_serving::{Clock, Responder, drop_front, request_at};
 
 /// What became of the next message.
 #[derive(Clone, Copy)]

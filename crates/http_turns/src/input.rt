@@ -1,13 +1,12 @@
 //! Reading what there is.
 ghost use Rattle.std.specs.Prelude.{◌≡◌, ◌≤◌, ◌+◌, length};
-ghost use Rattle.http_serving.specs.Reading.{ReadsMore};
-ghost use Rattle.polled_io.specs.Wires.{reader_of};
+ghost use Rattle.http_turns.specs.Reading.{ReadsMore};
 ghost use Rattle.http_turns.specs.Calls.{IsFilled, turned_by};
 
+use crate::ended::Ended;
 use crate::intake::PIECE;
 use crate::turned::{Turned, Want};
-use http_serving::Ended;
-use polled_io::{Polling, Stream, Wire};
+use polled_io::{Polling, Transport};
 
 /// What a read brought.
 #[derive(Clone, Copy)]
@@ -25,21 +24,22 @@ pub(crate) enum Filled {
 }
 
 /// Reads some more bytes, as far as they are there, by way of a piece of memory.
-pub(crate) fn fill<T: Stream>(
-    wire: &mut Wire<T>,
+pub(crate) fn fill<T: Transport>(
+    transport: &mut T,
     piece: &mut [u8; PIECE],
     unread: &mut Vec<u8>,
 ) -> Filled
-    ensures read { ReadsMore (T.remaining wire.old.inner) (T.remaining wire.new.inner) unread.old.items unread.new.items }
+    ensures read { ReadsMore (T.remaining transport.old) (T.remaining transport.new) unread.old.items unread.new.items }
     ensures most { length unread.new.items ≤ length unread.old.items + 2048 }
-    ensures filled { IsFilled result unread.old.items unread.new.items (T.remaining wire.new.inner) (reader_of wire.old) (reader_of wire.new) }
-    ensures apart { T.contents wire.new.inner ≡ T.contents wire.old.inner }
-    ensures writes { wire.new.writes ≡ wire.old.writes }
+    ensures filled { IsFilled result unread.old.items unread.new.items (T.remaining transport.new) (T.reads transport.old) (T.reads transport.new) }
+    ensures apart { T.contents transport.new ≡ T.contents transport.old }
+    ensures writes { T.writes transport.new ≡ T.writes transport.old }
+    ensures lenders { T.lenders transport.new ≡ T.lenders transport.old }
 {
     if unread.reserve(PIECE).is_err() {
         return Filled::NoMemory;
     }
-    match wire.take(piece) {
+    match transport.take(piece) {
         Polling::Done(0) => Filled::End,
         Polling::Done(taken) => {
             if unread.extend_from_slice(&piece[..taken]).is_err() {

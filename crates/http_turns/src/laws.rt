@@ -1,10 +1,10 @@
 //! What follows from the definitions alone.
 ghost use Rattle.std.specs.Prelude.{◌≡◌, ◌++◌, ℕ, List, Option};
 ghost use Rattle.std.specs.Io.KnownBytes.{Consumes};
-ghost use Rattle.polled_io.specs.Wires.{WireData, reader_of, writer_of};
+ghost use Rattle.polled_io.specs.Wires.{CountsOf};
 ghost use Rattle.http_messages.specs.declared.front.Fault.{Fault};
-ghost use Rattle.http_serving.specs.Serving.{AreAnswered, IsServed};
-ghost use Rattle.http_serving.specs.declared.ended.Ended.{Ended};
+ghost use Rattle.http_turns.specs.Serving.{AreAnswered, IsServed};
+ghost use Rattle.http_turns.specs.declared.ended.Ended.{Ended};
 ghost use Rattle.http_turns.specs.Connections.{ConnectionData, new_connection};
 ghost use Rattle.http_turns.specs.Ends.{IsTurned};
 ghost use Rattle.http_turns.specs.Exchanges.{HasGone};
@@ -12,9 +12,9 @@ ghost use Rattle.http_turns.specs.Lives.{HasLived};
 ghost use Rattle.http_turns.specs.Steps.{Step, AreAllAnswered, AreSteps, messages_of, texts_of};
 ghost use Rattle.http_turns.specs.Turns.{Goes};
 
+use crate::clock::Clock;
+use crate::responder::Responder;
 use crate::turned::Turned;
-use http_serving::{Clock, Responder};
-use polled_io::Stream;
 
 /// Turns of one connection, one after another, come to one exchange: what the first read, answered and wrote, and then
 /// what the next one did.
@@ -39,19 +39,17 @@ pub fn exchanges_of_a_new_connection_are_its_life<S, P: Responder<S>, C: Clock>(
         → HasLived P.refusal P.responds C.ticks to had state clock held has after later holds }
 {}
 
-/// Steps of one connection, with no other's between them, are what `http_serving::serve` says of the messages that it
-/// answers.
+/// Steps of one connection, with no other's between them, are what `serve` says of the messages that it answers.
 pub fn steps_alone_are_answers<S, P: Responder<S>, C: Clock>()
     ensures { (steps : List Step) (state after : S) (clock later : C) → AreAllAnswered steps → AreSteps P.responds C.ticks state clock steps after later
         → AreAnswered P.refusal P.responds C.ticks state clock (messages_of steps) (texts_of steps) after later }
 {}
 
 /// A connection of which all turns find the state and the clock as its turn before left them, so that no other's steps
-/// stand between its own, is served as `http_serving::serve` serves it: where its last turn ended it, this says what
-/// `serve` says.
-pub fn turns_alone_are_served<S, P: Responder<S>, T: Stream, C: Clock>()
-    ensures { (ended : Ended) (connection : ConnectionData) (had has : Option (List ℕ)) (state after : S) (clock later : C) (held holds : Option (List ℕ)) (wire wire_after : WireData T)
+/// stand between its own, is served as `serve` serves it: where its last turn ended it, this says what `serve` says.
+pub fn turns_alone_are_served<S, P: Responder<S>, C: Clock>()
+    ensures { (ended : Ended) (connection : ConnectionData) (had has : Option (List ℕ)) (state after : S) (clock later : C) (held holds : Option (List ℕ)) (reads reads_after writes writes_after : CountsOf)
         → HasLived P.refusal P.responds C.ticks connection had state clock held has after later holds
-        → IsTurned (Turned.Ended ended) connection has (reader_of wire) (reader_of wire_after) (writer_of wire) (writer_of wire_after)
+        → IsTurned (Turned.Ended ended) connection has reads reads_after writes writes_after
         → (bytes : List ℕ) × Consumes had has bytes × IsServed P.refusal P.responds C.ticks ended bytes state clock after later held holds }
 {}

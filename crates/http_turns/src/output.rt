@@ -1,11 +1,10 @@
 //! Writing what is pending.
 ghost use Rattle.std.specs.Prelude.{◌≡◌, ◌++◌, List, ℕ};
 ghost use Rattle.std.specs.Io.KnownBytes.{Appends};
-ghost use Rattle.polled_io.specs.Wires.{writer_of};
 ghost use Rattle.http_turns.specs.Calls.{IsWritten};
 
 use crate::connection::Connection;
-use polled_io::{Polling, Stream, Wire};
+use polled_io::{Polling, Transport};
 
 /// How writing ended.
 #[derive(Clone, Copy)]
@@ -19,17 +18,18 @@ pub(crate) enum Written {
 }
 
 /// Writes what is pending, as far as the writer takes it at once.
-pub(crate) fn write_pending<T: Stream>(connection: &mut Connection, wire: &mut Wire<T>) -> Written
-    ensures sent { (sent : List ℕ) × Appends (T.contents wire.old.inner) (T.contents wire.new.inner) sent × (connection.old.pending ≡ sent ++ connection.new.pending) }
+pub(crate) fn write_pending<T: Transport>(connection: &mut Connection, transport: &mut T) -> Written
+    ensures sent { (sent : List ℕ) × Appends (T.contents transport.old) (T.contents transport.new) sent × (connection.old.pending ≡ sent ++ connection.new.pending) }
     ensures stage { connection.new.stage ≡ connection.old.stage }
     ensures unread { connection.new.unread ≡ connection.old.unread }
     ensures answers { connection.new.answers ≡ connection.old.answers }
-    ensures written { IsWritten result connection.new.pending (writer_of wire.old) (writer_of wire.new) }
-    ensures apart { T.remaining wire.new.inner ≡ T.remaining wire.old.inner }
-    ensures reads { wire.new.reads ≡ wire.old.reads }
+    ensures written { IsWritten result connection.new.pending (T.writes transport.old) (T.writes transport.new) }
+    ensures apart { T.remaining transport.new ≡ T.remaining transport.old }
+    ensures reads { T.reads transport.new ≡ T.reads transport.old }
+    ensures lenders { T.lenders transport.new ≡ T.lenders transport.old }
 {
     'pieces: while connection.sent < connection.text.len() {
-        match wire.put(&connection.text[connection.sent..]) {
+        match transport.put(&connection.text[connection.sent..]) {
             Polling::Done(taken) => connection.sent += taken,
             Polling::Waits => return Written::Part,
             Polling::Failed => return Written::Failed,

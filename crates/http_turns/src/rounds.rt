@@ -1,32 +1,34 @@
 //! One round of a turn.
 ghost use Rattle.std.specs.Prelude.{◌≡◌};
-ghost use Rattle.polled_io.specs.Wires.{reader_of, writer_of};
 ghost use Rattle.http_turns.specs.Exchanges.{HasRounds};
 ghost use Rattle.http_turns.specs.Ends.{IsTurned};
 
 use crate::answering::{Answered, answer_next};
+use crate::clock::Clock;
 use crate::connection::Connection;
+use crate::ended::Ended;
 use crate::input::{fill, turned_by};
 use crate::intake::Intake;
 use crate::output::{Written, write_pending};
+use crate::responder::Responder;
 use crate::stage::Stage;
 use crate::turned::{Turned, Want};
-use http_serving::{Clock, Ended, Responder};
-use polled_io::{Stream, Wire};
+use polled_io::Transport;
 
 /// Writes what is pending, and where that is all, answers the next message, or reads where it isn't whole.
-pub(crate) fn round<S, P: Responder<S>, T: Stream, C: Clock>(
+pub(crate) fn round<S, P: Responder<S>, T: Transport, C: Clock>(
     connection: &mut Connection,
     intake: &mut Intake,
-    wire: &mut Wire<T>,
+    transport: &mut T,
     responder: &P,
     state: &mut S,
     clock: &mut C,
 ) -> Turned
-    ensures gone { HasRounds P.refusal P.responds C.ticks 1 2048 (result ≡ Turned.GoesOn) connection.old (T.remaining wire.old.inner) state.old clock.old (T.contents wire.old.inner) connection.new (T.remaining wire.new.inner) state.new clock.new (T.contents wire.new.inner) }
-    ensures turned { IsTurned result connection.new (T.remaining wire.new.inner) (reader_of wire.old) (reader_of wire.new) (writer_of wire.old) (writer_of wire.new) }
+    ensures gone { HasRounds P.refusal P.responds C.ticks 1 2048 (result ≡ Turned.GoesOn) connection.old (T.remaining transport.old) state.old clock.old (T.contents transport.old) connection.new (T.remaining transport.new) state.new clock.new (T.contents transport.new) }
+    ensures turned { IsTurned result connection.new (T.remaining transport.new) (T.reads transport.old) (T.reads transport.new) (T.writes transport.old) (T.writes transport.new) }
+    ensures lenders { T.lenders transport.new ≡ T.lenders transport.old }
 {
-    match write_pending(connection, wire) {
+    match write_pending(connection, transport) {
         Written::All => {}
         Written::Part => return Turned::Waits(Want::Room),
         Written::Failed => return Turned::Ended(Ended::WriteFailed),
@@ -41,6 +43,6 @@ pub(crate) fn round<S, P: Responder<S>, T: Stream, C: Clock>(
         Answered::Incomplete => {}
         Answered::NoMemory => return Turned::Ended(Ended::OutOfMemory),
     }
-    let filled = fill(wire, &mut intake.piece, &mut connection.unread);
+    let filled = fill(transport, &mut intake.piece, &mut connection.unread);
     turned_by(filled, connection.unread.is_empty())
 }

@@ -1,19 +1,20 @@
 //! A stream with the connection that is served over it.
 ghost use Rattle.std.specs.Prelude.{◌≡◌, ◌↔◌, IsTrue};
-ghost use Rattle.polled_io.specs.Wires.{reader_of, writer_of, new_counts};
+ghost use Rattle.polled_io.specs.Wires.{new_counts};
 ghost use Rattle.http_turns.specs.Exchanges.{HasGone, HasGoneWithin, HasProgressed};
 ghost use Rattle.http_turns.specs.Ends.{IsTurned};
 ghost use Rattle.http_turns.specs.Connections.{new_connection};
 ghost use Rattle.http_turns.specs.Phases.{IsPhase};
 ghost use Rattle.http_turns.specs.Sessions.{IsFinished, ReadsOn};
 
+use crate::clock::Clock;
 use crate::connection::Connection;
 use crate::intake::Intake;
 use crate::phase::Phase;
+use crate::responder::Responder;
 use crate::stage::Stage;
 use crate::turned::Turned;
 use crate::turning::turn;
-use http_serving::{Clock, Responder};
 use polled_io::{Polling, Stream, Wire};
 use std::alloc::Global;
 use std::marker::Model;
@@ -96,7 +97,7 @@ impl<T: Stream> Session<T> {
         ensures gone { HasGone P.refusal P.responds C.ticks self.old.connection (T.remaining self.old.wire.inner) state.old clock.old (T.contents self.old.wire.inner) self.new.connection (T.remaining self.new.wire.inner) state.new clock.new (T.contents self.new.wire.inner) }
         ensures share { HasGoneWithin P.refusal P.responds C.ticks 64 131072 self.old.connection (T.remaining self.old.wire.inner) state.old clock.old (T.contents self.old.wire.inner) self.new.connection (T.remaining self.new.wire.inner) state.new clock.new (T.contents self.new.wire.inner) }
         ensures progress { result ≡ Turned.GoesOn → HasProgressed P.refusal P.responds C.ticks self.old.connection (T.remaining self.old.wire.inner) state.old clock.old (T.contents self.old.wire.inner) self.new.connection (T.remaining self.new.wire.inner) state.new clock.new (T.contents self.new.wire.inner) }
-        ensures turned { IsTurned result self.new.connection (T.remaining self.new.wire.inner) (reader_of self.old.wire) (reader_of self.new.wire) (writer_of self.old.wire) (writer_of self.new.wire) }
+        ensures turned { IsTurned result self.new.connection (T.remaining self.new.wire.inner) self.old.wire.reads self.new.wire.reads self.old.wire.writes self.new.wire.writes }
     {
         turn(
             &mut self.connection,

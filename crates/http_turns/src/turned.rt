@@ -1,5 +1,5 @@
 //! How a turn ends.
-use http_serving::Ended;
+use crate::ended::Ended;
 
 /// What a connection waits for.
 #[derive(Clone, Copy, Debug, PartialEq, Eq)]

@@ -1,4 +1,4 @@
-pub mod Counts
-pub mod Polling
 pub mod Calls
 pub mod Wires
+pub mod Counts
+pub mod Polling

@@ -4,8 +4,10 @@
 mod calls;
 mod polling;
 mod streams;
+mod transports;
 mod wires;
 
 pub use polling::Polling;
 pub use streams::{Halves, Stream};
+pub use transports::Transport;
 pub use wires::Wire;

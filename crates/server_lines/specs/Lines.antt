@@ -1,6 +1,7 @@
 -- What a server prints, and how it ended.
-use Rattle.std.specs.Prelude.{◌≡◌, ◌⊎◌, ℕ, List, ◌∷◌, [], ◌++◌, codes, decimal, Option, Result, Ok, Err, ⊤}
+use Rattle.std.specs.Prelude.{◌≡◌, ◌≢◌, ◌⊎◌, ℕ, List, ◌∷◌, [], ◌++◌, codes, decimal, Option, Result, Ok, Err, ⊤}
 use Rattle.std.specs.Io.KnownBytes.{Appends}
+use Rattle.std.specs.Net.Socket.{socket_ip, socket_port, socket_scope_id}
 use Rattle.std.specs.Net.Text.{socket_text}
 use Rattle.std.specs.declared.net.socket_addr.SocketAddr.{SocketAddr}
 use Rattle.counted_io.specs.Counting.{one_more, AppendsPart, AppendsProperPart}
@@ -73,6 +74,16 @@ IsServerCause other before after = after ≡ before
 -- the server listens: the line of the address that was bound was printed
 abbrev pub IsListening : Option (List ℕ) → Option (List ℕ) → Type 0
 IsListening before after = (address : SocketAddr) × Appends before after (listening_line address)
+
+-- the address that is printed where this one is to be listened on: the same, but that a port of 0 lets the system choose one
+pub record IsAddressFor (wanted printed : SocketAddr) : Type 0 where
+  pub ip : socket_ip printed ≡ socket_ip wanted
+  pub scope : socket_scope_id printed ≡ socket_scope_id wanted
+  pub port : socket_port wanted ≢ 0 → socket_port printed ≡ socket_port wanted
+
+-- the server listens as it was to: the line of this address was printed, with the port that the system chose where it has none
+abbrev pub IsListeningAt : SocketAddr → Option (List ℕ) → Option (List ℕ) → Type 0
+IsListeningAt wanted before after = (printed : SocketAddr) × IsAddressFor wanted printed × Appends before after (listening_line printed)
 
 -- what a server has written that was cut short. Usable says that its file can be used, and Refused which refusals it may print
 module _ (Usable : Type 0) (Refused : RefusalNumber → Type 0) where

@@ -1,7 +1,7 @@
 //! Listening on an address.
 ghost use Rattle.std.specs.Prelude.{◌≡◌, IfErr, OnOk};
 ghost use Rattle.refusals.specs.declared.RefusalNumber.TheVariants.{Listen};
-ghost use Rattle.server_lines.specs.Lines.{IsListening, IsUnheard, IsRefused, IsQuiet, IsServerCause, status_of};
+ghost use Rattle.server_lines.specs.Lines.{IsAddressFor, IsListening, IsListeningAt, IsUnheard, IsRefused, IsQuiet, IsServerCause, status_of};
 
 use crate::lines::{print, refuse, refuse_for};
 use crate::status::ServerStatus;
@@ -13,15 +13,26 @@ use std::io;
 use std::io::Write;
 use std::net::{Net, SocketAddr, TcpListener, TcpStream};
 
-/// Listens on an address, where as many connections may wait to be accepted as the system allows. Answers the address that
-/// is bound, with its port where the system chose it.
-fn bound<R>(rt: &R, address: SocketAddr) -> io::Result<(TcpListener, SocketAddr)>
+/// Listens on an address, where as many connections may wait to be accepted as the system allows. Answers the port that
+/// is bound, which the system chose where the address has port 0.
+fn bound<R>(rt: &R, address: SocketAddr) -> io::Result<(TcpListener, u16)>
 where
     R: Net<Listener = TcpListener, Stream = TcpStream>,
 {
     let listener = TcpListener::from(net::TcpListener::bind(rt, address)?);
-    let address = listener.local_addr()?;
-    Ok((listener, address))
+    let port = listener.local_addr()?.port();
+    Ok((listener, port))
+}
+
+/// The address to print: the one that was to be bound, and in place of a port of 0 the one that is bound.
+fn with_bound_port(address: SocketAddr, port: u16) -> SocketAddr
+    ensures { IsAddressFor address result }
+{
+    let mut printed = address;
+    if address.port() == 0 {
+        printed.set_port(port);
+    }
+    printed
 }
 
 /// Prints that an address can't be bound, and then why on `err`.
@@ -57,6 +68,8 @@ where
     R: Net<Listener = TcpListener, Stream = TcpStream>,
     // Where it listens, the line of some address was printed, and nothing on `err`.
     ensures listening { OnOk result (IsListening (O.contents out.old.inner) (O.contents out.new.inner)) }
+    // It is that of the address that was given, with the port that the system chose where that has port 0.
+    ensures address { OnOk result (IsListeningAt address (O.contents out.old.inner) (O.contents out.new.inner)) }
     ensures heard { OnOk result (err.new ≡ err.old) }
     // Where it doesn't, the refusal of the address was printed, or a part of its line or of the other one, or nothing.
     ensures unheard { IfErr result (λ status. IsUnheard status (O.contents out.old.inner) (O.contents out.new.inner)) }
@@ -64,10 +77,11 @@ where
     // A failed write and a failed flush are answered where that count went up by one, and in no other case.
     ensures cause { IsServerCause (status_of result) out.old.failures out.new.failures }
 {
-    let (listener, address) = match bound(rt, address) {
+    let (listener, port) = match bound(rt, address) {
         Ok(bound) => bound,
         Err(error) => return Err(refuse_address(alloc, address, &error, out, err)),
     };
+    let address = with_bound_port(address, port);
     let Ok(line) = format!(in alloc; "listening {address}\n") else {
         return Err(ServerStatus::OutOfMemory);
     };

@@ -3,7 +3,7 @@ use crate::checks::{same, same_at};
 use crate::fixtures::FailsAt;
 use counted_io::Counted;
 use http_messages::Fault;
-use http_serving::{Clock, Ended, HttpRequest, Responder, serve};
+use http_turns::{Clock, Ended, HttpRequest, Responder, serve};
 use std::alloc::{AllocError, Global};
 use std::process::Abort;
 use std::sync::Wait;

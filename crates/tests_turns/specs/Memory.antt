@@ -1,7 +1,7 @@
 -- A turn over a stream in memory, whose bytes are known.
 use Rattle.std.specs.Prelude.{◌≡◌, ℕ, List, ◌++◌}
 use Rattle.http_messages.specs.declared.front.Fault.{Fault}
-use Rattle.http_serving.specs.Requests.{HttpRequestData}
+use Rattle.http_turns.specs.Requests.{HttpRequestData}
 use Rattle.http_turns.specs.Connections.{ConnectionData}
 use Rattle.http_turns.specs.Steps.{Step, AreSteps}
 use Rattle.http_turns.specs.Turns.{Goes}

@@ -1,8 +1,7 @@
-//! A responder, a clock, and the two ways to serve an input.
+//! A responder, a clock, and serving an input turn by turn or by `serve`.
 use counted_io::Counted;
 use http_messages::Fault;
-use http_serving::{Clock, Ended, HttpRequest, Responder, serve};
-use http_turns::{Connection, Intake, Turned, turn};
+use http_turns::{Clock, Connection, Ended, HttpRequest, Intake, Responder, Turned, serve, turn};
 use polled_io::{Stream, Wire};
 use std::alloc::{AllocError, Global};
 use std::process::Abort;

@@ -2,8 +2,7 @@
 use crate::checks::same;
 use crate::echo::{Asked, Echo, Readings};
 use crate::streams::Slow;
-use http_serving::Ended;
-use http_turns::{Connection, Intake, Phase, Turned, Want, turn};
+use http_turns::{Connection, Ended, Intake, Phase, Turned, Want, turn};
 use polled_io::{Halves, Stream, Wire};
 use std::alloc::Global;
 use std::process::Abort;

@@ -1,8 +1,7 @@
 //! A turn of a session over a stream in memory, whose bytes are known.
 ghost use Rattle.tests_turns.specs.Memory.{HasTakenTurn};
 
-use http_serving::{Clock, Responder};
-use http_turns::{Intake, Session, Turned};
+use http_turns::{Clock, Intake, Responder, Session, Turned};
 use polled_io::Halves;
 
 /// Gives a session over bytes in memory a turn. Here the clause of `Session::turn` speaks of known bytes.

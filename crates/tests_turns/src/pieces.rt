@@ -2,62 +2,114 @@
 use crate::checks::same_at;
 use crate::echo::{by_serve, play};
 use crate::streams::Slow;
-use http_serving::Ended;
+use http_turns::Ended;
 use polled_io::{Halves, Wire};
 use std::alloc::Global;
 use std::process::Abort;
 use std::sync::Wait;
 
-/// Serves an input in turns over streams that would have to wait before each piece, and compares what comes of it with
-/// what `serve` makes of the whole.
-fn is_served_alike(rt: &(impl Wait + Abort), alloc: Global, input: &str, piece: usize) {
-    let bytes = input.as_bytes();
-    let wanted = by_serve(rt, alloc, bytes);
+/// An input, what is written for it, how serving ends, and how often the responder is asked and the clock read.
+type Served<'a> = (&'a str, &'a str, Ended, u64);
+
+/// Serves an input in turns over streams that would have to wait before each piece, and compares what comes of it.
+fn is_served_in_pieces(rt: &impl Abort, alloc: Global, row: Served<'_>, piece: usize) {
+    let (input, text, end, times) = row;
     let mut wire = Wire::new(Halves {
-        reader: Slow::new(bytes, piece),
+        reader: Slow::new(input.as_bytes(), piece),
         writer: Slow::new(Vec::new(alloc), piece),
     });
     let (ended, asked, readings) = play(rt, alloc, &mut wire);
     same_at(
         rt,
         wire.inner().writer.inner.as_slice(),
-        wanted.text.as_slice(),
+        text.as_bytes(),
         input,
     );
     same_at(
         rt,
         (ended, asked, readings),
-        (wanted.ended, wanted.asked, wanted.readings),
+        (Some(end), times, times),
         input,
     );
     same_at(rt, wire.failures(), (0, 0), input);
 }
 
-/// Serves each input so.
-fn are_served_alike(rt: &(impl Wait + Abort), alloc: Global, piece: usize, inputs: &[&str]) {
-    for input in inputs {
-        is_served_alike(rt, alloc, input, piece);
+/// Serves an input whole, by `serve`, and compares what comes of it.
+fn is_served_whole(rt: &(impl Wait + Abort), alloc: Global, row: Served<'_>) {
+    let (input, text, end, times) = row;
+    let outcome = by_serve(rt, alloc, input.as_bytes());
+    same_at(rt, outcome.text.as_slice(), text.as_bytes(), input);
+    same_at(
+        rt,
+        (outcome.ended, outcome.asked, outcome.readings),
+        (Some(end), times, times),
+        input,
+    );
+}
+
+/// Serves each input in such pieces.
+fn are_served_in_pieces(rt: &impl Abort, alloc: Global, piece: usize, rows: &[Served<'_>]) {
+    for row in rows {
+        is_served_in_pieces(rt, alloc, *row, piece);
     }
 }
 
-const INPUTS: &[&str] = &[
-    "",
-    "GET /a HTTP/1.1\r\n\r\n",
-    "\r\n",
-    "GET /a HTTP/1.1\r\n\r",
-    "GET /a HTTP/1.1\r\n\r\nPUT /b HTTP/1.1\r\nContent-Length: 4\r\n\r\nxyz",
-    "GET /a HTTP/1.1\r\n\r\nPUT /b HTTP/1.1\r\nContent-Length: 4\r\n\r\nwxyz",
-    "GET /a HTTP/1.0\r\n\r\nGET /b HTTP/1.1\r\n\r\n",
-    "GET /a HTTP/1.1\r\n\r\nGET /b HTTP/1.1\r\nConnection: Close\r\n\r\nGET /c HTTP/1.1\r\n\r\n",
-    "GET /a HTTP/1.1\r\n\r\nGET\r\n\r\nGET /c HTTP/1.1\r\n\r\n",
-    "GET /a HTTP/1.1\r\nTransfer-Encoding: chunked\r\n\r\n",
+/// Serves each input whole.
+fn are_served_whole(rt: &(impl Wait + Abort), alloc: Global, rows: &[Served<'_>]) {
+    for row in rows {
+        is_served_whole(rt, alloc, *row);
+    }
+}
+
+const INPUTS: &[Served<'static>] = &[
+    ("", "", Ended::Closed, 0),
+    ("GET /a HTTP/1.1\r\n\r\n", "/a\n", Ended::Closed, 1),
+    ("\r\n", "", Ended::Truncated, 0),
+    ("GET /a HTTP/1.1\r\n\r", "", Ended::Truncated, 0),
+    (
+        "GET /a HTTP/1.1\r\n\r\nPUT /b HTTP/1.1\r\nContent-Length: 4\r\n\r\nxyz",
+        "/a\n",
+        Ended::Truncated,
+        1,
+    ),
+    (
+        "GET /a HTTP/1.1\r\n\r\nPUT /b HTTP/1.1\r\nContent-Length: 4\r\n\r\nwxyz",
+        "/a\n/bwxyz\n",
+        Ended::Closed,
+        2,
+    ),
+    (
+        "GET /a HTTP/1.0\r\n\r\nGET /b HTTP/1.1\r\n\r\n",
+        "/a\n",
+        Ended::Finished,
+        1,
+    ),
+    (
+        "GET /a HTTP/1.1\r\n\r\nGET /b HTTP/1.1\r\nConnection: Close\r\n\r\nGET /c HTTP/1.1\r\n\r\n",
+        "/a\n/b\n",
+        Ended::Finished,
+        2,
+    ),
+    (
+        "GET /a HTTP/1.1\r\n\r\nGET\r\n\r\nGET /c HTTP/1.1\r\n\r\n",
+        "/a\nrefused\n",
+        Ended::Finished,
+        1,
+    ),
+    (
+        "GET /a HTTP/1.1\r\nTransfer-Encoding: chunked\r\n\r\n",
+        "refused\n",
+        Ended::Finished,
+        0,
+    ),
 ];
 
 #[test]
 fn inputs_are_served_alike(rt: HostRuntime) {
-    are_served_alike(&rt, rt.alloc(), 1, INPUTS);
-    are_served_alike(&rt, rt.alloc(), 7, INPUTS);
-    are_served_alike(&rt, rt.alloc(), 100_000, INPUTS);
+    are_served_whole(&rt, rt.alloc(), INPUTS);
+    are_served_in_pieces(&rt, rt.alloc(), 1, INPUTS);
+    are_served_in_pieces(&rt, rt.alloc(), 7, INPUTS);
+    are_served_in_pieces(&rt, rt.alloc(), 100_000, INPUTS);
 }
 
 /// Two messages, the second with a body.

@@ -2,6 +2,7 @@
 use crate::checks::same_at;
 use crate::echo::{Outcome, by_serve, play};
 use crate::streams::Cut;
+use http_turns::Ended;
 use polled_io::{Halves, Wire};
 use std::alloc::Global;
 use std::process::Abort;
@@ -22,6 +23,44 @@ fn messages(rt: &impl Abort, alloc: Global, count: u64) -> Vec<u8> {
             .expect(rt, "ample memory");
     }
     bytes
+}
+
+/// Their answers, one after another: the target and the body of each.
+fn answers(rt: &impl Abort, alloc: Global, count: u64) -> Vec<u8> {
+    let mut text = Vec::new(alloc);
+    for number in 0..count {
+        let answer = if number % 7 == 3 {
+            format!(in alloc; "/{number}xyz\n")
+        } else {
+            format!(in alloc; "/{number}\n")
+        };
+        let answer = answer.expect(rt, "ample memory");
+        text.extend_from_slice(answer.as_bytes())
+            .expect(rt, "ample memory");
+    }
+    text
+}
+
+/// What serving so many messages comes to.
+fn wanted(rt: &impl Abort, alloc: Global, count: u64) -> Outcome {
+    Outcome {
+        text: answers(rt, alloc, count),
+        ended: Some(Ended::Closed),
+        asked: count,
+        readings: count,
+    }
+}
+
+/// Serves the bytes whole, by `serve`.
+fn is_served_whole(rt: &(impl Wait + Abort), alloc: Global, bytes: &[u8], wanted: &Outcome) {
+    let outcome = by_serve(rt, alloc, bytes);
+    same_at(rt, outcome.text.as_slice(), wanted.text.as_slice(), 0);
+    same_at(
+        rt,
+        (outcome.ended, outcome.asked, outcome.readings),
+        (wanted.ended, wanted.asked, wanted.readings),
+        0,
+    );
 }
 
 /// Serves the bytes in turns, where the reader would have to wait behind the first of them.
@@ -59,7 +98,8 @@ fn is_cut(rt: &impl Abort, alloc: Global, bytes: &[u8], at: usize, wanted: &Outc
 /// Cuts so many messages at each place that is a multiple of a number.
 fn are_cut(rt: &(impl Wait + Abort), alloc: Global, count: u64, every: usize) {
     let bytes = messages(rt, alloc, count);
-    let wanted = by_serve(rt, alloc, &bytes);
+    let wanted = wanted(rt, alloc, count);
+    is_served_whole(rt, alloc, &bytes, &wanted);
     let mut at = 0;
     for _ in 0..bytes.len() {
         if at < bytes.len() {

@@ -1,8 +1,7 @@
 //! Two sessions side by side.
 use crate::memory::turn_in_memory;
 use http_messages::Fault;
-use http_serving::{Clock, HttpRequest, Responder};
-use http_turns::{Intake, Session};
+use http_turns::{Clock, HttpRequest, Intake, Responder, Session};
 use polled_io::Halves;
 use std::alloc::{AllocError, Global};
 use std::process::Abort;

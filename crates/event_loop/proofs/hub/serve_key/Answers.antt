@@ -1,7 +1,6 @@
 use Rattle.std.proofs.Common.{[], ◌++◌, ◌≡◌, refl, rules, sym, subst}
 use Rattle.std.proofs.lemmas.List.{append-nil}
-use Rattle.polled_io.specs.Wires.{reader_of, writer_of}
-use Rattle.http_serving.specs.declared.ended.Ended.TheVariants as ended
+use Rattle.http_turns.specs.declared.ended.Ended.TheVariants as ended
 use Rattle.http_turns.specs.declared.turned.Turned.TheVariants as turned
 use Rattle.http_turns.specs.Ends.{IsTurned}
 use Rattle.event_loop.specs.declared.departing.Cause.TheVariants as cause
@@ -21,8 +20,8 @@ pub put_back-requires-2-clause-ended : goal.put_back-requires-2-clause-ended
 put_back-requires-2-clause-ended g c =
     closes_on c.settle-served.result (λ end. c.turn-turned.result ≡ turned.Ended end) (λ end. LeavesSo (cause.Ended end) c.settle-served.new.self.session.connection)
     (λ end is. subst (λ k. LeavesSo (cause.Ended end) k) (sym c.settle-served.ensures.session.0)
-    (leaves_by end c.turn-turned.new.self.connection (g.T.Stream.remaining c.turn-turned.new.self.wire.inner) (reader_of c.in-Some.one.session.wire) (reader_of c.turn-turned.new.self.wire) (writer_of c.in-Some.one.session.wire) (writer_of c.turn-turned.new.self.wire)
-    (subst (λ t. IsTurned t c.turn-turned.new.self.connection (g.T.Stream.remaining c.turn-turned.new.self.wire.inner) (reader_of c.in-Some.one.session.wire) (reader_of c.turn-turned.new.self.wire) (writer_of c.in-Some.one.session.wire) (writer_of c.turn-turned.new.self.wire)) is c.turn-turned.ensures.turned)))
+    (leaves_by end c.turn-turned.new.self.connection (g.T.Stream.remaining c.turn-turned.new.self.wire.inner) c.in-Some.one.session.wire.reads c.turn-turned.new.self.wire.reads c.in-Some.one.session.wire.writes c.turn-turned.new.self.wire.writes
+    (subst (λ t. IsTurned t c.turn-turned.new.self.connection (g.T.Stream.remaining c.turn-turned.new.self.wire.inner) c.in-Some.one.session.wire.reads c.turn-turned.new.self.wire.reads c.in-Some.one.session.wire.writes c.turn-turned.new.self.wire.writes) is c.turn-turned.ensures.turned)))
     c.settle-served.ensures.closed
 
 pub returns : goal.returns

@@ -1,7 +1,7 @@
 use Rattle.std.proofs.Common.{◌≡◌, ◌≤◌, ◌+◌, ◌%◌, ℕ, List, length, inl, refl, rules}
 use Rattle.http_messages.specs.Fronts.{IsHeadAt}
-use Rattle.http_serving.specs.Reading.{message_of}
-use Rattle.http_serving.specs.Requests.{http_request_data, request_of}
+use Rattle.http_turns.specs.Reading.{message_of}
+use Rattle.http_turns.specs.Requests.{http_request_data, request_of}
 use Rattle.http_turns.specs.declared.stage.Stage.TheVariants as stage
 use Rattle.http_turns.proofs.Going.{is_answered, is_final, is_lost, is_unfinished, part_is_unfinished, body_is_unfinished}
 use Rattle.http_turns.proofs.Reading.{none_or_some}

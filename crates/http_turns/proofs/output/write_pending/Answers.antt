@@ -4,12 +4,13 @@ use Rattle.http_turns.proofs.output.write_pending.Goals as goal
 
 pub pieces-preserved : goal.pieces-preserved
 pieces-preserved g c = record {
-  sent = sent_more (g.T.Stream.contents c.args.wire.now.inner) (g.T.Stream.contents c.pieces.wire.inner) (g.T.Stream.contents c.put.new.self.inner) c.args.connection.now.pending c.pieces.connection-inside.text.items c.pieces.connection-inside.sent c.in-Done.taken c.pieces.invariant.sent (search rules);
+  sent = sent_more (g.T.Transport.contents c.args.transport.now) (g.T.Transport.contents c.pieces.transport) (g.T.Transport.contents c.put.new.self) c.args.connection.now.pending c.pieces.connection-inside.text.items c.pieces.connection-inside.sent c.in-Done.taken c.pieces.invariant.sent (search rules);
   within = search rules;
   unread = search rules;
   stage = search rules;
   answers = search rules;
   apart = search rules;
   reads = search rules;
+  lenders = search rules;
   quiet = search rules;
 }

@@ -1,7 +1,7 @@
 //! Who answers messages.
 ghost use Rattle.std.specs.Prelude.{◌≡◌, ◌⊎◌, ℕ, List, OnOk, OnErr};
 ghost use Rattle.http_messages.specs.declared.front.Fault.{Fault};
-ghost use Rattle.http_serving.specs.Requests.{HttpRequestData, http_request_data};
+ghost use Rattle.http_turns.specs.Requests.{HttpRequestData, http_request_data};
 
 use http_messages::Fault;
 use std::alloc::AllocError;

@@ -2,7 +2,7 @@
 use Rattle.std.specs.Prelude.{ℕ, List, Bool}
 use Rattle.http_messages.specs.Fields.{ends_connection}
 use Rattle.http_messages.specs.Messages.{Message}
-use Rattle.http_serving.specs.declared.responder.HttpRequest.{HttpRequest}
+use Rattle.http_turns.specs.declared.responder.HttpRequest.{HttpRequest}
 
 -- the method, the target, the body, and whether the connection ends behind the answer
 pub record HttpRequestData : Type 0 where

@@ -1,12 +1,12 @@
 -- What is written for the messages of an input, by any responder and any clock.
-use Rattle.std.specs.Prelude.{◌≡◌, ◌⊎◌, ℕ, List, [], ◌∷◌, ◌++◌, Option, Result, Ok, Err}
-use Rattle.std.specs.Io.KnownBytes.{Appends, Consumes}
+use Rattle.std.specs.Prelude.{◌≡◌, ◌⊎◌, ℕ, List, [], ◌∷◌, ◌++◌, Option}
+use Rattle.std.specs.Io.KnownBytes.{Appends}
 use Rattle.counted_io.specs.Counting.{AppendsPart}
 use Rattle.http_messages.specs.declared.front.Fault.{Fault}
 use Rattle.http_messages.specs.Messages.{Message, BeginsWith, AreMessages, IsInput, IsPartOfMessage, Ending, closed, truncated, refused, final}
-use Rattle.http_serving.specs.declared.ended.Ended.{Ended}
-use Rattle.http_serving.specs.declared.ended.Ended.TheVariants as ended
-use Rattle.http_serving.specs.Requests.{HttpRequestData, request_of}
+use Rattle.http_turns.specs.declared.ended.Ended.{Ended}
+use Rattle.http_turns.specs.declared.ended.Ended.TheVariants as ended
+use Rattle.http_turns.specs.Requests.{HttpRequestData, request_of}
 
 -- no whole message stands in the bytes, nor one that is refused: nothing, or a part of a message
 abbrev pub IsUnfinished : List ℕ → Type 0
@@ -39,8 +39,8 @@ module _ {S C : Type 0} (refusal : Fault → List ℕ) (responds : S → ℕ →
       × IsInput bytes messages ending × AreAnswered state clock messages text after later × Appends before written text
 
   -- each message was answered, up to one behind which no further read is made
-  abbrev pub IsFinished : List ℕ → S → C → S → C → Option (List ℕ) → Option (List ℕ) → Type 0
-  IsFinished bytes state clock after later before written =
+  abbrev pub HasFinished : List ℕ → S → C → S → C → Option (List ℕ) → Option (List ℕ) → Type 0
+  HasFinished bytes state clock after later before written =
       (messages : List Message) × (ending : Ending) × (text : List ℕ)
       × IsInput bytes messages ending × AreAnsweredToEnd state clock messages ending text after later × Appends before written text
 
@@ -79,26 +79,7 @@ module _ {S C : Type 0} (refusal : Fault → List ℕ) (responds : S → ℕ →
   abbrev pub IsServed : Ended → List ℕ → S → C → S → C → Option (List ℕ) → Option (List ℕ) → Type 0
   IsServed ended.Closed bytes state clock after later before written = IsWhole closed bytes state clock after later before written
   IsServed ended.Truncated bytes state clock after later before written = IsWhole truncated bytes state clock after later before written
-  IsServed ended.Finished bytes state clock after later before written = IsFinished bytes state clock after later before written
+  IsServed ended.Finished bytes state clock after later before written = HasFinished bytes state clock after later before written
   IsServed ended.ReadFailed bytes state clock after later before written = IsInterrupted bytes state clock after later before written
   IsServed ended.WriteFailed bytes state clock after later before written = IsWrittenInPart bytes state clock after later before written
   IsServed ended.OutOfMemory bytes state clock after later before written = IsOutOfMemory bytes state clock after later before written
-
-  -- ---- on the way
-
-  -- the messages up to the bytes that are unread were answered, with what a reader had left and has left
-  abbrev pub IsUnderway : Option (List ℕ) → Option (List ℕ) → List ℕ → S → C → S → C → Option (List ℕ) → Option (List ℕ) → Type 0
-  IsUnderway had has unread state clock after later before written =
-      (bytes : List ℕ) × (messages : List Message) × (text : List ℕ)
-      × Consumes had has bytes × AreMessages bytes messages unread
-      × AreAnswered state clock messages text after later × Appends before written text
-
-  -- a request was answered; an error says how serving ends behind it
-  abbrev pub IsTurn : {X : Type 0} → HttpRequestData → S → C → Result X Ended → S → C → Option (List ℕ) → Option (List ℕ) → Type 0
-  IsTurn request state clock (Ok x) after later before written =
-      (moment : ℕ) × (text : List ℕ) × ticks clock moment later × responds state moment request text after × Appends before written text
-  IsTurn request state clock (Err ended.WriteFailed) after later before written =
-      (moment : ℕ) × (text : List ℕ) × ticks clock moment later × responds state moment request text after × AppendsPart before written text
-  IsTurn request state clock (Err ended.OutOfMemory) after later before written =
-      (moment : ℕ) × ticks clock moment later × ((after ≡ state) ⊎ ((lost : List ℕ) × responds state moment request lost after)) × Appends before written []
-  IsTurn request state clock (Err other) after later before written = ⊥

@@ -1,4 +1,0 @@
-pub mod Reading
-pub mod Requests
-pub mod Writing
-pub mod Serving
