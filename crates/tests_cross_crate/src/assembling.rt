@@ -1,7 +1,6 @@
 //! Programs from their text and back, and the faults of texts that are no program.
 use crate::checks::{is_printed, same, same_at};
-use crate::instruction_table::INSTRUCTIONS;
-use crate::told::{assembled, bytes_of};
+use crate::told::assembled;
 use bpf_asm::*;
 use bpf_decode::Program;
 use refusals::RefusalNumber;
@@ -59,25 +58,6 @@ fn the_default_classifier(rt: HostRuntime) {
     same(rt, bytes.as_slice(), CLASSIFIER.as_slice());
 }
 
-/// Checks that a line is assembled to these bytes, and comes back from them.
-fn comes_back(rt: &impl Abort, alloc: Global, hexadecimal: &str, line: &str) {
-    let encoded = assembled(rt, alloc, line);
-    same_at(rt, &encoded, &bytes_of(rt, alloc, hexadecimal), &line);
-    let text = disassembled(rt, alloc, &encoded);
-    same(rt, text.as_str().trim_end(), line);
-}
-
-#[test]
-fn each_instruction_comes_back(rt: HostRuntime) {
-    let mut count = 0u32;
-    for row in INSTRUCTIONS.lines() {
-        let (bytes, line) = row.split_once(' ').expect(&rt, "a blank");
-        comes_back(&rt, rt.alloc(), bytes, line);
-        count = count.saturating_add(1);
-    }
-    same(&rt, count, 141);
-}
-
 /// The lines that a text is written as, once it is read.
 fn rewritten(rt: &impl Abort, alloc: Global, text: &str) -> String {
     let program = assemble(alloc, text).expect(rt, "the text of a program");
@@ -132,111 +112,6 @@ fn are_faulty(rt: &impl Abort, alloc: Global, kind: RefusalNumber, rows: &[(&str
         let (text, line) = *row;
         same_at(rt, fault(alloc, text), Some((line, kind)), &text);
     }
-}
-
-#[test]
-fn unknown_words(rt: HostRuntime) {
-    are_faulty(
-        &rt,
-        rt.alloc(),
-        RefusalNumber::UnknownWord,
-        &[
-            ("mvo r0, 1", 1),
-            ("exit\n\n; \nexits", 4),
-            ("movsw32 r1, r2", 1),
-            ("movsdw r1, r2", 1),
-            ("ldxsdw r1, [r2+0]", 1),
-            ("le8 r1", 1),
-            ("call32 1", 1),
-            ("movsb32movsb32 r1, r2", 1),
-            ("r10r10r10", 1),
-            ("r0", 1),
-            ("1 mov r0", 1),
-            (", mov r0, 1", 1),
-            ("exit\rexit", 1),
-            ("é", 1),
-        ],
-    );
-}
-
-#[test]
-fn wrong_operands(rt: HostRuntime) {
-    are_faulty(
-        &rt,
-        rt.alloc(),
-        RefusalNumber::BadOperand,
-        &[
-            ("mov r11, 1", 1),
-            ("exit\nmov r01, 1", 2),
-            ("mov r10, 1", 1),
-            ("neg r10", 1),
-            ("be16 r10", 1),
-            ("movsb r10, r1", 1),
-            ("lddw r10, 1", 1),
-            ("ldxw r10, [r1+0]", 1),
-            ("mov r0", 1),
-            ("mov r0,", 1),
-            ("mov r0, 1, 2", 1),
-            ("mov r0 1", 1),
-            ("mov r0, 1 2", 1),
-            ("mov r0, 1x", 1),
-            ("mov r0, 0x", 1),
-            ("mov r0, 0xg", 1),
-            ("mov r0, +1", 1),
-            ("mov r0, --1", 1),
-            ("mov 1, r0", 1),
-            ("mov r0, exit", 1),
-            ("exit r0", 1),
-            ("exit exit", 1),
-            ("lddw r1, +1", 1),
-            ("lddw r1, r2", 1),
-            ("call", 1),
-            ("call r1", 1),
-            ("call +1", 1),
-            ("ja", 1),
-            ("ja r1", 1),
-            ("jeq r1, 2", 1),
-            ("jeq r1, 2, r3", 1),
-            ("jeq r1, 2, 3, 4", 1),
-            ("ldxw r1, [r2]", 1),
-            ("ldxw r1, [r2+1", 1),
-            ("ldxw r1, r2", 1),
-            ("ldxw [r1+0], r2", 1),
-            ("stw [r1+0], r2", 1),
-            ("stxw [r1+0], 2", 1),
-            ("stxw r1, r2", 1),
-            ("jeq [r1+1], [r2+2], [r3+3], 4", 1),
-            ("exit 1 2 3 4 5 6 7 8 9 10 11 12 13 14 15 16 17 18 19 20", 1),
-            ("ja +3 , , , , , , , , , , , , , , , , , , , , , , ,", 1),
-        ],
-    );
-}
-
-#[test]
-fn numbers_out_of_range(rt: HostRuntime) {
-    are_faulty(
-        &rt,
-        rt.alloc(),
-        RefusalNumber::BadNumber,
-        &[
-            ("exit\nmov r0, 4294967296", 2),
-            ("mov r0, -2147483649", 1),
-            ("mov r0, 99999999999999999999999999", 1),
-            ("stw [r1+0], 0x100000000", 1),
-            ("ja +32768", 1),
-            ("ja -32769", 1),
-            ("ja32 +2147483648", 1),
-            ("ja32 -2147483649", 1),
-            ("jeq r1, 0, +32768", 1),
-            ("jeq r1, 4294967296, +1", 1),
-            ("ldxw r1, [r2+32768]", 1),
-            ("stxw [r2-32769], r1", 1),
-            ("call -1", 1),
-            ("call 4294967296", 1),
-            ("lddw r1, 18446744073709551616", 1),
-            ("lddw r1, -9223372036854775809", 1),
-        ],
-    );
 }
 
 /// So many lines with an exit each, and what comes behind them.

@@ -3,8 +3,6 @@
 #![tactic(auto)]
 
 #[cfg(test)]
-mod analysed;
-#[cfg(test)]
 mod arithmetic;
 #[cfg(test)]
 mod assembling;
@@ -28,8 +26,6 @@ mod edges;
 mod encoding;
 #[cfg(test)]
 mod flows;
-#[cfg(test)]
-mod instruction_table;
 #[cfg(test)]
 mod instructions;
 #[cfg(test)]

@@ -64,14 +64,6 @@ pub(crate) fn is_verified(rt: &impl Abort, alloc: Global, program: &[u8], printe
     same_at(rt, line.as_str(), printed, &program);
 }
 
-/// Checks with which line programs in hexadecimal are verified. Each row is a program and its line.
-pub(crate) fn bytes_are_verified(rt: &impl Abort, alloc: Global, rows: &[(&str, &str)]) {
-    for row in rows {
-        let (program, printed) = *row;
-        is_verified(rt, alloc, &bytes_of(rt, alloc, program), printed);
-    }
-}
-
 fn word(verdict: Verdict) -> &'static str {
     match verdict {
         Verdict::Success => "success",

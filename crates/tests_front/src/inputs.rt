@@ -11,15 +11,6 @@ pub(crate) fn joined(rt: &impl Abort, alloc: Global, pieces: &[&[u8]]) -> Vec<u8
     all
 }
 
-/// These texts, one piece behind the other.
-pub(crate) fn joined_text(rt: &impl Abort, alloc: Global, pieces: &[&str]) -> String {
-    let mut all = String::new(alloc);
-    for piece in pieces {
-        all.push_str(*piece).expect(rt, "ample memory");
-    }
-    all
-}
-
 /// The same bytes, so many times.
 pub(crate) fn repeated(rt: &impl Abort, alloc: Global, bytes: &[u8], times: usize) -> Vec<u8> {
     let mut all = Vec::new(alloc);

@@ -9,6 +9,8 @@ mod asking;
 #[cfg(test)]
 mod checks;
 #[cfg(test)]
+mod failing_replays;
+#[cfg(test)]
 mod inputs;
 #[cfg(test)]
 mod json_layouts;
@@ -17,14 +19,6 @@ mod json_requests;
 #[cfg(test)]
 mod kept_readers;
 #[cfg(test)]
-mod longest_stays;
-#[cfg(test)]
-mod replayed_events;
-#[cfg(test)]
-mod replayed_layouts;
-#[cfg(test)]
 mod replayed_reads;
-#[cfg(test)]
-mod replayed_services;
 #[cfg(test)]
 mod replays;

@@ -1,4 +1,4 @@
-//! The lines that commands print, and the statuses that they end with.
+//! Commands whose input is long or is read once, and those whose readers or writers fail.
 use crate::checks::{is_printed, same_at};
 use classifier_commands::CommandError;
 use counted_io::Counted;
@@ -9,11 +9,6 @@ use std::io::{Read, Write};
 use std::process::Abort;
 
 const FAILURE: &str = "b7000000010000009500000000000000";
-
-const BY_STATUS: &str =
-    "6112000000000000550204000000000061120400000000003502 0200f4010000 B700000000000000 9500000000000000 b700000001000000 9500000000000000";
-
-const USAGE: &str = "usage: sidecar judge|asm|dis|verify|replay|serve\n";
 
 /// The status with which the program ends.
 pub(crate) fn command<R: Read, O: Write, E: Write>(
@@ -30,16 +25,10 @@ pub(crate) fn command<R: Read, O: Write, E: Write>(
 }
 
 /// The status with which a command ends, what it prints, and what it says on standard error.
-pub(crate) type Ending<'a> = (u8, &'a str, &'a str);
+type Ending<'a> = (u8, &'a str, &'a str);
 
 /// That the words end so on this input.
-pub(crate) fn ends_telling(
-    rt: &impl Abort,
-    alloc: Global,
-    words: &[&str],
-    input: &[u8],
-    ending: Ending<'_>,
-) {
+fn ends_telling(rt: &impl Abort, alloc: Global, words: &[&str], input: &[u8], ending: Ending<'_>) {
     let (status, printed, told) = ending;
     let mut reader = input;
     let mut out = Vec::new(alloc);
@@ -50,7 +39,7 @@ pub(crate) fn ends_telling(
     same_at(rt, found, status, &words);
 }
 
-/// That the words end so on this input, and say nothing on standard error but the usage.
+/// That the words end so on this input, and say nothing on standard error.
 pub(crate) fn ends(
     rt: &impl Abort,
     alloc: Global,
@@ -59,26 +48,7 @@ pub(crate) fn ends(
     status: u8,
     printed: &str,
 ) {
-    let usage = if status == 2 { USAGE } else { "" };
-    ends_telling(rt, alloc, words, input, (status, printed, usage));
-}
-
-/// A command with a program and its input, the status, and what is printed.
-type Run<'a> = (&'a str, &'a str, &'a [u8], u8, &'a str);
-
-/// Commands with a program end so.
-fn are_run(rt: &impl Abort, alloc: Global, rows: &[Run<'_>]) {
-    for row in rows {
-        let (name, program, input, status, printed) = *row;
-        ends(rt, alloc, &[name, program], input, status, printed);
-    }
-}
-
-/// That each of these words is answered with the usage.
-pub(crate) fn are_wrong(rt: &impl Abort, alloc: Global, input: &[u8], rows: &[&[&str]]) {
-    for words in rows {
-        ends(rt, alloc, words, input, 2, "");
-    }
+    ends_telling(rt, alloc, words, input, (status, printed, ""));
 }
 
 /// A reader that always fails.
@@ -103,68 +73,6 @@ impl Write for Full {
     fn flush(&mut self) -> io::Result<()> {
         Ok(())
     }
-}
-
-#[test]
-fn programs_are_verified(rt: HostRuntime) {
-    are_run(
-        &rt,
-        rt.alloc(),
-        &[
-            ("verify", BY_STATUS, b"", 0, "accepted budget=6 slots=8\n"),
-            ("verify", "9g", b"", 1, "refused 46 BadHex\n"),
-            ("verify", "9", b"", 1, "refused 46 BadHex\n"),
-        ],
-    );
-}
-
-#[test]
-fn outcomes_are_judged(rt: HostRuntime) {
-    are_run(
-        &rt,
-        rt.alloc(),
-        &[
-            ("judge", FAILURE, b"{}", 0, "failure steps=2 budget=2\n"),
-            ("judge", FAILURE, b"", 1, "refused 58 BadJson\n"),
-            ("judge", FAILURE, b"[]", 1, "refused 59 BadField\n"),
-            (
-                "judge",
-                FAILURE,
-                b"{\"status\":null}",
-                1,
-                "refused 59 BadField\n",
-            ),
-            ("judge", FAILURE, b"\xff", 1, "refused 58 BadJson\n"),
-        ],
-    );
-}
-
-#[test]
-fn wrong_words_are_answered_with_the_usage(rt: HostRuntime) {
-    are_wrong(
-        &rt,
-        rt.alloc(),
-        b"{}",
-        &[
-            &[],
-            &["judge"],
-            &["judge", FAILURE, FAILURE],
-            &["frob", "x"],
-        ],
-    );
-}
-
-/// Replays, whose answers are tested in the crate below.
-#[test]
-fn events_are_replayed(rt: HostRuntime) {
-    let alloc = rt.alloc();
-    let events = b"{}\n{\"at\":1000,\"do\":\"acquire\"}\n";
-    let acquired = "200 {\"state\":\"CLOSED\",\"ticket\":1,\"version\":1}\n";
-    ends(&rt, alloc, &["replay"], events, 0, acquired);
-    let refused = "refused 47 BadConfig\n";
-    let why = "the configuration: an array is not an object\n";
-    ends_telling(&rt, alloc, &["replay"], b"[]\n", (1, refused, why));
-    are_wrong(&rt, alloc, b"{}", &[&["replay", "x"]]);
 }
 
 #[test]
@@ -213,13 +121,7 @@ fn ends_unwritten(rt: &impl Abort, alloc: Global, words: &[&str], input: &[u8], 
 }
 
 /// A command ends with this status where its errors can't be written, and this is printed.
-pub(crate) fn ends_untold(
-    rt: &impl Abort,
-    alloc: Global,
-    words: &[&str],
-    input: &[u8],
-    ending: (u8, &str),
-) {
+fn ends_untold(rt: &impl Abort, alloc: Global, words: &[&str], input: &[u8], ending: (u8, &str)) {
     let (status, printed) = ending;
     let mut reader = input;
     let mut out = Vec::new(alloc);
@@ -234,6 +136,19 @@ fn failures_of_readers_and_writers_print_nothing(rt: HostRuntime) {
     ends_unread(&rt, alloc, &["judge", FAILURE], 1, "");
     ends_unwritten(&rt, alloc, &["judge", FAILURE], b"{}", 1);
     ends_untold(&rt, alloc, &["judge"], b"", (2, ""));
+}
+
+/// Where nothing can be written on standard error, nothing else changes.
+#[test]
+fn reasons_that_cannot_be_written_change_nothing(rt: HostRuntime) {
+    let refused = "refused 12 UnsetRegister slot 0\n";
+    ends_untold(
+        &rt,
+        rt.alloc(),
+        &["verify", "9500000000000000"],
+        b"",
+        (1, refused),
+    );
 }
 
 /// How the words end with a reader and writers that fail, and how many calls of each did.

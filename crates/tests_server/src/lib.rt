@@ -7,13 +7,9 @@ mod answer_messages;
 #[cfg(test)]
 mod answerers;
 #[cfg(test)]
-mod assembler_commands;
-#[cfg(test)]
 mod checks;
 #[cfg(test)]
 mod commands;
-#[cfg(test)]
-mod explained_refusals;
 #[cfg(test)]
 mod failing_connections;
 #[cfg(test)]
@@ -24,8 +20,6 @@ mod fixtures;
 mod heads;
 #[cfg(test)]
 mod hostile_messages;
-#[cfg(test)]
-mod layout_words;
 #[cfg(test)]
 mod longest_stays;
 #[cfg(test)]

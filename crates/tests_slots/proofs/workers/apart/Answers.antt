@@ -2,9 +2,14 @@ use Rattle.std.proofs.Common.{rules, ◌≡◌, ◌∙◌, ◌++◌, ◌∷◌, 
 use Rattle.std.specs.List.{AllByRecursion}
 use Rattle.atomic_table.specs.Seated.{TableId}
 use Rattle.slot_desk.specs.Seats.{SeatData, IsSeatOf}
-use Rattle.slot_desk.proofs.Counting.{all_last, all_snoc}
+use Rattle.slot_desk.proofs.Counting.{all_snoc}
 use Rattle.tests_slots.specs.Crews.{IsAtDesk}
 use Rattle.tests_slots.proofs.workers.apart.Goals as goal
+
+-- what is true of all is true of those before the last, and of the last
+all_last : {A : Type 0} (P : A → Type 0) (xs : List A) (x : A) → AllByRecursion P (xs ++ x ∷ []) → AllByRecursion P xs × P x
+all_last P [] x h = (tt, h.0)
+all_last P (y ∷ ys) x h = let r = all_last P ys x h.1 in ((h.0, r.0), r.1)
 
 -- the worker that is taken was one of the desk's, and so is its seat
 pub loop-worker-preserved : goal.loop-worker-preserved
