@@ -1,7 +1,7 @@
 //! The configuration of a service's breaker and bulkhead, with the names, defaults and ranges that
 //! the Resilience4j documentation and this product give.
 ghost use Rattle.std.specs.Prelude.{◌≡◌, None};
-ghost use Rattle.service_profile.specs.Configuration.{bad_field, bad_limit, configured, is_within, is_count_based, most_size};
+ghost use Rattle.service_profile.specs.Configuration.{bad_field, bad_limit, configured, is_count_based, is_in, is_within, most_size, range_of};
 
 use refusals::RefusalNumber;
 use std::marker::Model;
@@ -89,6 +89,22 @@ pub enum ConfigField {
     MaxWaitDuration,
 }
 
+/// The numbers that a field may have, both ends included.
+#[derive(Clone, Copy)]
+pub struct Range {
+    pub least: u64,
+    pub most: u64,
+}
+
+impl Range {
+    /// Whether a number lies in the range.
+    pub fn contains(self, number: u64) -> bool
+        ensures { result ≡ is_within self.least self.most number }
+    {
+        self.least <= number && number <= self.most
+    }
+}
+
 /// A field of a configuration is out of its range. Its text names the field behind the refusal, as
 /// `refused 47 BadConfig SlidingWindowSize`.
 #[derive(Clone, Copy, Debug, PartialEq, Eq, Error)]
@@ -121,13 +137,6 @@ impl Model for Config {
     ghost inverse = { λ parts. record { parts = parts } };
 }
 
-/// Whether a number lies in a range, both ends included.
-fn is_within(least: u64, most: u64, number: u64) -> bool
-    ensures { result ≡ is_within least most number }
-{
-    least <= number && number <= most
-}
-
 /// The greatest size of a window, in calls or in seconds.
 fn most_size(window: SlidingWindowType) -> u64
     ensures { result ≡ most_size window }
@@ -138,24 +147,55 @@ fn most_size(window: SlidingWindowType) -> u64
     }
 }
 
+impl ConfigField {
+    /// The range of a number beside a window of this type; None for the type itself.
+    pub fn range(self, window: SlidingWindowType) -> Option<Range>
+        ensures { result ≡ range_of self window }
+    {
+        let (least, most) = match self {
+            ConfigField::FailureRateThreshold | ConfigField::SlowCallRateThreshold => (1, 100),
+            ConfigField::SlowCallDurationThreshold => (1, 1 << 32),
+            ConfigField::PermittedNumberOfCallsInHalfOpenState | ConfigField::MaxConcurrentCalls =>
+                (1, 10_000),
+            ConfigField::MaxWaitDurationInHalfOpenState => (0, 1 << 40),
+            ConfigField::SlidingWindowType => return None,
+            ConfigField::SlidingWindowSize => (1, most_size(window)),
+            ConfigField::MinimumNumberOfCalls => (1, 1_000_000),
+            ConfigField::WaitDurationInOpenState => (1, 1 << 40),
+            ConfigField::MaxWaitDuration => (0, 0),
+        };
+        Some(Range { least, most })
+    }
+
+    /// Whether the field may have this value beside a window of this type.
+    fn takes(self, window: SlidingWindowType, number: u64) -> bool
+        ensures { result ≡ is_in (range_of self window) number }
+    {
+        match self.range(window) {
+            Some(range) => range.contains(number),
+            None => true,
+        }
+    }
+}
+
 /// The first field of a window or of what limits calls that is out of its range.
 fn bad_limit(parts: &ConfigParts) -> Option<ConfigField>
     ensures { result ≡ bad_limit parts.now }
 {
-    let most = most_size(parts.sliding_window_type);
-    if !is_within(1, most, parts.sliding_window_size) {
+    let window = parts.sliding_window_type;
+    if !ConfigField::SlidingWindowSize.takes(window, parts.sliding_window_size) {
         return Some(ConfigField::SlidingWindowSize);
     }
-    if !is_within(1, 1_000_000, parts.minimum_number_of_calls) {
+    if !ConfigField::MinimumNumberOfCalls.takes(window, parts.minimum_number_of_calls) {
         return Some(ConfigField::MinimumNumberOfCalls);
     }
-    if !is_within(1, 1 << 40, parts.wait_duration_in_open_state) {
+    if !ConfigField::WaitDurationInOpenState.takes(window, parts.wait_duration_in_open_state) {
         return Some(ConfigField::WaitDurationInOpenState);
     }
-    if !is_within(1, 10_000, parts.max_concurrent_calls) {
+    if !ConfigField::MaxConcurrentCalls.takes(window, parts.max_concurrent_calls) {
         return Some(ConfigField::MaxConcurrentCalls);
     }
-    if parts.max_wait_duration != 0 {
+    if !ConfigField::MaxWaitDuration.takes(window, parts.max_wait_duration) {
         return Some(ConfigField::MaxWaitDuration);
     }
     None
@@ -165,23 +205,26 @@ fn bad_limit(parts: &ConfigParts) -> Option<ConfigField>
 fn bad_field(parts: &ConfigParts) -> Option<ConfigField>
     ensures { result ≡ bad_field parts.now }
 {
-    if !is_within(1, 100, parts.failure_rate_threshold) {
+    let window = parts.sliding_window_type;
+    if !ConfigField::FailureRateThreshold.takes(window, parts.failure_rate_threshold) {
         return Some(ConfigField::FailureRateThreshold);
     }
-    if !is_within(1, 100, parts.slow_call_rate_threshold) {
+    if !ConfigField::SlowCallRateThreshold.takes(window, parts.slow_call_rate_threshold) {
         return Some(ConfigField::SlowCallRateThreshold);
     }
-    if !is_within(1, 1 << 32, parts.slow_call_duration_threshold) {
+    if !ConfigField::SlowCallDurationThreshold.takes(window, parts.slow_call_duration_threshold) {
         return Some(ConfigField::SlowCallDurationThreshold);
     }
-    if !is_within(
-        1,
-        10_000,
+    if !ConfigField::PermittedNumberOfCallsInHalfOpenState.takes(
+        window,
         parts.permitted_number_of_calls_in_half_open_state,
     ) {
         return Some(ConfigField::PermittedNumberOfCallsInHalfOpenState);
     }
-    if !is_within(0, 1 << 40, parts.max_wait_duration_in_half_open_state) {
+    if !ConfigField::MaxWaitDurationInHalfOpenState.takes(
+        window,
+        parts.max_wait_duration_in_half_open_state,
+    ) {
         return Some(ConfigField::MaxWaitDurationInHalfOpenState);
     }
     bad_limit(parts)

@@ -14,7 +14,7 @@ mod standings;
 mod states;
 mod tickets;
 
-pub use configuration::{BadConfig, Config, ConfigField, ConfigParts, SlidingWindowType};
+pub use configuration::{BadConfig, Config, ConfigField, ConfigParts, Range, SlidingWindowType};
 pub use decisions::{Decision, Judgement, Permission};
 pub use limits::{GREATEST_NUMBER, MOST_ENTRIES, MOST_NOTES, MOST_PAGE_ENTRIES, MOST_VERSIONS};
 pub use notes::{Note, Totals};
