@@ -1,126 +1,76 @@
 //! Mistakes of the file of `sidecar serve`.
-use crate::services::services_mistake;
-use crate::values::{Place, missing, number_mistake, parsed, unknown, wrong};
-use serde_json::{Map, Value};
+use crate::services::service_words;
+use crate::values::{Object, bad_keys, bad_number, parsed, wrong};
+use serde_json::Value;
+use service_file::{COUNTS, FILE_KEYS, FileMistake, OPEN_LIMITS};
+use service_profile::Range;
 use std::alloc::{AllocError, Global};
-use std::net::SocketAddr;
 
-/// How many workers a file has at most.
-const MOST_WORKERS: u64 = 64;
+/// The numbers of connections after which serving may end.
+const CONNECTIONS: Range = Range {
+    least: 0,
+    most: u64::MAX,
+};
 
-/// How many open connections a file allows at most.
-const MOST_OPEN: u64 = 65_536;
-
-/// Returns the first key of an object that no file has.
-fn unknown_key(alloc: Global, members: &Map<String, Value>) -> Result<Option<String>, AllocError> {
-    for key in members.keys() {
-        let key = key.as_str();
-        if !matches!(
-            key,
-            "listen" | "workers" | "keeper" | "connections" | "open" | "services"
-        ) {
-            let place = Place { path: "", key };
-            return unknown(
-                alloc,
-                place,
-                "listen, workers, keeper, connections, open and services",
-            );
+/// Returns the mistake of the number of services, or that they are none.
+fn services_words(alloc: Global, file: Object<'_>) -> Result<String, AllocError> {
+    let Range { least, most } = COUNTS;
+    match file.value.get("services") {
+        Some(Value::Array(services)) => {
+            let count = services.len();
+            format!(in alloc; "services: the array has {count} services, and not {least} to {most}")
+        }
+        _ => {
+            let wanted = format!(in alloc; "an array of {least} to {most} services")?;
+            wrong(alloc, file, "services", &wanted)
         }
     }
-    Ok(None)
 }
 
-/// Returns what is wrong with the address.
-fn address_mistake(alloc: Global, value: &Value) -> Result<Option<String>, AllocError> {
-    let place = Place {
-        path: "",
-        key: "listen",
-    };
-    let Some(found) = value.get("listen") else {
-        return missing(alloc, place);
-    };
-    match found.as_str() {
-        Some(text) if SocketAddr::parse_ascii(text.as_bytes()).is_ok() => Ok(None),
-        _ => wrong(
+/// Returns the mistake of a file in words.
+fn file_words(alloc: Global, file: Object<'_>, mistake: FileMistake) -> Result<String, AllocError> {
+    match mistake {
+        FileMistake::NoJson | FileMistake::Keys => bad_keys(
             alloc,
-            place,
-            found,
+            file,
+            "the file",
+            FILE_KEYS,
+            "listen, workers, keeper, connections, open and services",
+        ),
+        FileMistake::Listen => wrong(
+            alloc,
+            file,
+            "listen",
             "an IP address with a port, as \"127.0.0.1:8080\"",
         ),
+        FileMistake::Workers => bad_number(alloc, file, "workers", COUNTS),
+        FileMistake::Keeper => wrong(alloc, file, "keeper", "\"lock\" or \"slot\""),
+        FileMistake::Connections => bad_number(alloc, file, "connections", CONNECTIONS),
+        FileMistake::Open => bad_number(alloc, file, "open", OPEN_LIMITS),
+        FileMistake::Services => services_words(alloc, file),
+        FileMistake::Service(number, mistake) => service_words(alloc, file.value, number, mistake),
     }
 }
 
-/// Returns what is wrong with the keeper, where the file has one.
-fn keeper_mistake(alloc: Global, value: &Value) -> Result<Option<String>, AllocError> {
-    let place = Place {
-        path: "",
-        key: "keeper",
-    };
-    let Some(found) = value.get("keeper") else {
-        return Ok(None);
-    };
-    match found.as_str() {
-        Some("lock" | "slot") => Ok(None),
-        _ => wrong(alloc, place, found, "\"lock\" or \"slot\""),
-    }
-}
-
-/// Returns what is wrong with a number that has to be there.
-fn count_mistake(
+/// Returns the mistake in a file's text in words, as `services[1].config.failureRateThreshold: 101 is not from 1 to
+/// 100`. The error is want of memory.
+pub fn file_mistake(
     alloc: Global,
-    value: &Value,
-    key: &str,
-    least: u64,
-    most: u64,
-) -> Result<Option<String>, AllocError> {
-    let place = Place { path: "", key };
-    match value.get(key) {
-        Some(found) => number_mistake(alloc, place, found, least, most),
-        None => missing(alloc, place),
-    }
-}
-
-/// Returns what is wrong with a file.
-fn mistake_in(alloc: Global, value: &Value) -> Result<Option<String>, AllocError> {
-    let Some(members) = value.as_object() else {
-        return wrong(
-            alloc,
-            Place {
-                path: "",
-                key: "the file",
-            },
-            value,
-            "an object",
-        );
-    };
-    if let Some(mistake) = unknown_key(alloc, members)? {
-        return Ok(Some(mistake));
-    }
-    if let Some(mistake) = address_mistake(alloc, value)? {
-        return Ok(Some(mistake));
-    }
-    if let Some(mistake) = count_mistake(alloc, value, "workers", 1, MOST_WORKERS)? {
-        return Ok(Some(mistake));
-    }
-    if let Some(mistake) = keeper_mistake(alloc, value)? {
-        return Ok(Some(mistake));
-    }
-    if let Some(mistake) = count_mistake(alloc, value, "connections", 0, u64::MAX)? {
-        return Ok(Some(mistake));
-    }
-    if value.get("open").is_some()
-        && let Some(mistake) = count_mistake(alloc, value, "open", 1, MOST_OPEN)?
-    {
-        return Ok(Some(mistake));
-    }
-    services_mistake(alloc, value)
-}
-
-/// Returns what is wrong with a file's text, as `services[1].config.failureRateThreshold: 101 is not from 1 to 100`, or
-/// nothing where it can be used. The error is want of memory.
-pub fn file_mistake(alloc: Global, text: &[u8]) -> Result<Option<String>, AllocError> {
+    text: &[u8],
+    mistake: FileMistake,
+) -> Result<String, AllocError> {
     match parsed(alloc, text)? {
-        Ok(value) => mistake_in(alloc, &value),
-        Err(mistake) => Ok(Some(mistake)),
+        Ok(value) => {
+            let path = "";
+            file_words(
+                alloc,
+                Object {
+                    path,
+                    value: &value,
+                },
+                mistake,
+            )
+        }
+        Err(mistake) => Ok(mistake),
     }
 }

@@ -1,7 +1,7 @@
 //! What is wrong with a configuration, or with the file of `sidecar serve`, in words for people.
 //!
-//! What can be used is decided by `requests` and `service_file`. Where these answer that it can't, this says why: which
-//! key of which service, what stands there, and what is allowed. Nothing is decided by it.
+//! What can be used is decided by `requests` and `service_file`. The mistake that these answer gets its words here: which
+//! key of which service, what stands there, and what is allowed. Nothing is decided here.
 #![tactic(auto)]
 
 mod configurations;

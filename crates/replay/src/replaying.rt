@@ -34,7 +34,7 @@ fn config_in(alloc: Global, line: &[u8]) -> Result<Option<Config>, AllocError>
     ensures { IfOk result (λ found. found ≡ config_in line.now) }
 {
     match json(alloc, line)? {
-        Some(value) => Ok(config(&value)),
+        Some(value) => Ok(config(&value).ok()),
         None => Ok(None),
     }
 }

@@ -1,4 +1,5 @@
 pub mod Values
+pub mod Keys
 pub mod Configurations
 pub mod Reports
 pub mod Programs

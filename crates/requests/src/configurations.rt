@@ -1,51 +1,56 @@
 //! Configurations, as JSON objects.
-ghost use Rattle.std.specs.Prelude.{◌≡◌, string_bytes};
-ghost use Rattle.std.specs.List.{list_all};
-ghost use Rattle.std.specs.Map.{keys_of};
+ghost use Rattle.std.specs.Prelude.{◌≡◌};
 ghost use Rattle.serde_json.specs.View.{view};
-ghost use Rattle.requests.specs.Configurations.{is_known, has_known_keys, window_named, window_at, parts_of, config_of};
+ghost use Rattle.requests.specs.Configurations.{key_of, window_named, window_at, number_of, parts_of, read_config};
 
+use crate::keys::has_known_keys;
 use crate::values::number_or;
-use book::{Config, ConfigParts, SlidingWindowType};
-use serde_json::{Map, Value};
+use book::{Config, ConfigField, ConfigParts, SlidingWindowType};
+use serde_json::Value;
 
-/// Whether a configuration has this key.
-#[tactic(auto, unfolding(crate::specs::Configurations::is_known))]
-fn is_known(key: &str) -> bool
-    ensures { result ≡ is_known key.now }
-{
-    matches!(
-        key,
-        "failureRateThreshold"
-            | "slowCallRateThreshold"
-            | "slowCallDurationThreshold"
-            | "permittedNumberOfCallsInHalfOpenState"
-            | "maxWaitDurationInHalfOpenState"
-            | "slidingWindowType"
-            | "slidingWindowSize"
-            | "minimumNumberOfCalls"
-            | "waitDurationInOpenState"
-            | "maxConcurrentCalls"
-            | "maxWaitDuration"
-    )
+/// What is wrong with a configuration.
+#[derive(Clone, Copy, Debug, PartialEq, Eq)]
+pub enum ConfigMistake {
+    /// It is no object, or has a key that no configuration has.
+    Keys,
+    /// The value of this field is of the wrong kind, or out of its range.
+    BadValue(ConfigField),
 }
 
-fn are_known(members: &Map<String, Value>) -> bool
-    ensures { result ≡ list_all (λ key. is_known (string_bytes key)) (keys_of members.now.entries) }
+/// The key of a field.
+pub fn config_key(field: ConfigField) -> &'static str
+    ensures { result.now ≡ key_of field }
 {
-    members.keys().all(|key| is_known(key.as_str()))
-}
-
-/// Whether the value is an object, and a configuration has each of its keys.
-#[tactic(auto, using(crate::proofs::Keys::known_of_entries))]
-fn has_known_keys(value: &Value) -> bool
-    ensures { result ≡ has_known_keys (view value.now) }
-{
-    match value.as_object() {
-        Some(members) => are_known(members),
-        None => false,
+    match field {
+        ConfigField::FailureRateThreshold => "failureRateThreshold",
+        ConfigField::SlowCallRateThreshold => "slowCallRateThreshold",
+        ConfigField::SlowCallDurationThreshold => "slowCallDurationThreshold",
+        ConfigField::PermittedNumberOfCallsInHalfOpenState =>
+            "permittedNumberOfCallsInHalfOpenState",
+        ConfigField::MaxWaitDurationInHalfOpenState => "maxWaitDurationInHalfOpenState",
+        ConfigField::SlidingWindowType => "slidingWindowType",
+        ConfigField::SlidingWindowSize => "slidingWindowSize",
+        ConfigField::MinimumNumberOfCalls => "minimumNumberOfCalls",
+        ConfigField::WaitDurationInOpenState => "waitDurationInOpenState",
+        ConfigField::MaxConcurrentCalls => "maxConcurrentCalls",
+        ConfigField::MaxWaitDuration => "maxWaitDuration",
     }
 }
+
+/// The keys of a configuration.
+pub const CONFIG_KEYS: &[&str] = &[
+    "failureRateThreshold",
+    "slowCallRateThreshold",
+    "slowCallDurationThreshold",
+    "permittedNumberOfCallsInHalfOpenState",
+    "maxWaitDurationInHalfOpenState",
+    "slidingWindowType",
+    "slidingWindowSize",
+    "minimumNumberOfCalls",
+    "waitDurationInOpenState",
+    "maxConcurrentCalls",
+    "maxWaitDuration",
+];
 
 fn window_named(name: &str) -> Option<SlidingWindowType>
     ensures { result ≡ window_named name.now }
@@ -57,77 +62,98 @@ fn window_named(name: &str) -> Option<SlidingWindowType>
     }
 }
 
-fn window(value: &Value) -> Option<SlidingWindowType>
+/// The type of the window, count-based where the key is missing; None where it is another value than a type's name.
+pub fn window(value: &Value) -> Option<SlidingWindowType>
     ensures { result ≡ window_at (view value.now) }
 {
-    match value.get("slidingWindowType") {
+    match value.get(config_key(ConfigField::SlidingWindowType)) {
         None => Some(ConfigParts::DEFAULT.sliding_window_type),
         Some(found) => window_named(found.as_str()?),
     }
 }
 
+fn number(value: &Value, field: ConfigField, default: u64) -> Result<u64, ConfigMistake>
+    ensures { result ≡ number_of field default (view value.now) }
+{
+    number_or(value, config_key(field), default).ok_or(ConfigMistake::BadValue(field))
+}
+
 /// The values, whatever their ranges are. A key that is missing has its default.
 #[tactic(auto, unfolding(crate::specs::Configurations::parts_of))]
-fn parts(value: &Value) -> Option<ConfigParts>
+fn parts(value: &Value) -> Result<ConfigParts, ConfigMistake>
     ensures { result ≡ parts_of (view value.now) }
 {
     let default = ConfigParts::DEFAULT;
-    Some(ConfigParts {
-        failure_rate_threshold: number_or(
+    Ok(ConfigParts {
+        failure_rate_threshold: number(
             value,
-            "failureRateThreshold",
+            ConfigField::FailureRateThreshold,
             default.failure_rate_threshold,
         )?,
-        slow_call_rate_threshold: number_or(
+        slow_call_rate_threshold: number(
             value,
-            "slowCallRateThreshold",
+            ConfigField::SlowCallRateThreshold,
             default.slow_call_rate_threshold,
         )?,
-        slow_call_duration_threshold: number_or(
+        slow_call_duration_threshold: number(
             value,
-            "slowCallDurationThreshold",
+            ConfigField::SlowCallDurationThreshold,
             default.slow_call_duration_threshold,
         )?,
-        permitted_number_of_calls_in_half_open_state: number_or(
+        permitted_number_of_calls_in_half_open_state: number(
             value,
-            "permittedNumberOfCallsInHalfOpenState",
+            ConfigField::PermittedNumberOfCallsInHalfOpenState,
             default.permitted_number_of_calls_in_half_open_state,
         )?,
-        max_wait_duration_in_half_open_state: number_or(
+        max_wait_duration_in_half_open_state: number(
             value,
-            "maxWaitDurationInHalfOpenState",
+            ConfigField::MaxWaitDurationInHalfOpenState,
             default.max_wait_duration_in_half_open_state,
         )?,
-        sliding_window_type: window(value)?,
-        sliding_window_size: number_or(value, "slidingWindowSize", default.sliding_window_size)?,
-        minimum_number_of_calls: number_or(
+        sliding_window_type: window(value).ok_or(ConfigMistake::BadValue(
+            ConfigField::SlidingWindowType,
+        ))?,
+        sliding_window_size: number(
             value,
-            "minimumNumberOfCalls",
+            ConfigField::SlidingWindowSize,
+            default.sliding_window_size,
+        )?,
+        minimum_number_of_calls: number(
+            value,
+            ConfigField::MinimumNumberOfCalls,
             default.minimum_number_of_calls,
         )?,
-        wait_duration_in_open_state: number_or(
+        wait_duration_in_open_state: number(
             value,
-            "waitDurationInOpenState",
+            ConfigField::WaitDurationInOpenState,
             default.wait_duration_in_open_state,
         )?,
-        max_concurrent_calls: number_or(value, "maxConcurrentCalls", default.max_concurrent_calls)?,
-        max_wait_duration: number_or(value, "maxWaitDuration", default.max_wait_duration)?,
+        max_concurrent_calls: number(
+            value,
+            ConfigField::MaxConcurrentCalls,
+            default.max_concurrent_calls,
+        )?,
+        max_wait_duration: number(
+            value,
+            ConfigField::MaxWaitDuration,
+            default.max_wait_duration,
+        )?,
     })
 }
 
 /// The configuration that a JSON object describes. The keys are the names of the configuration
-/// properties in the Resilience4j documentation, in camel case, and each may be missing. None where
-/// the value is no object, has a key of another name, or has a value of the wrong kind or out of its
-/// range: the refusal `BadConfig`.
-#[tactic(auto, unfolding(crate::specs::Configurations::config_of))]
-pub fn config(value: &Value) -> Option<Config>
-    ensures { result ≡ config_of (view value.now) }
+/// properties in the Resilience4j documentation, in camel case, and each may be missing. The error is the first mistake,
+/// which is the refusal `BadConfig`: a value that is no object or has a key of another name, then a value of the
+/// wrong kind, then one out of its range, each in the order of `ConfigParts`.
+#[tactic(auto, unfolding(crate::specs::Configurations::read_config))]
+pub fn config(value: &Value) -> Result<Config, ConfigMistake>
+    ensures { result ≡ read_config (view value.now) }
 {
-    if !has_known_keys(value) {
-        return None;
+    if !has_known_keys(CONFIG_KEYS, value) {
+        return Err(ConfigMistake::Keys);
     }
     match Config::new(parts(value)?) {
-        Ok(config) => Some(config),
-        Err(_) => None,
+        Ok(config) => Ok(config),
+        Err(bad) => Err(ConfigMistake::BadValue(bad.field)),
     }
 }

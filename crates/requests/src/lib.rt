@@ -3,13 +3,15 @@
 #![tactic(auto)]
 
 mod configurations;
+mod keys;
 mod layouts;
 mod programs;
 mod reports;
 mod transitions;
 mod values;
 
-pub use configurations::config;
+pub use configurations::{CONFIG_KEYS, ConfigMistake, config, config_key, window};
+pub use keys::{has_known_keys, is_one_of};
 pub use layouts::layout;
 pub use programs::program;
 pub use reports::report;

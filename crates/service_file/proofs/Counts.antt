@@ -5,10 +5,11 @@ use Rattle.std.specs.List.{list_any}
 use Rattle.serde_json.specs.Data.{Data, Items, no_items, item}
 use Rattle.serde_json.specs.Find.{get, as_array}
 use Rattle.texts.specs.JsonText.{json_of}
+use Rattle.requests.specs.Keys.{has_known_keys}
 use Rattle.requests.specs.Values.{number_at, text_at}
 use Rattle.service_file.specs.declared.settings.ServiceSettings.{ServiceSettings}
 use Rattle.service_file.specs.declared.settings.Settings.{Settings}
-use Rattle.service_file.specs.Files.{ServiceData, is_count, kept_if, is_named, added, service_of, with_service, services_after, items_length, services_of, services_at, workers_at, keeper_at, open_at, file_of, file_in, is_file_key, has_known_keys}
+use Rattle.service_file.specs.Files.{ServiceData, is_count, kept_if, is_named, added, service_of, with_service, services_after, items_length, services_of, services_at, workers_at, keeper_at, open_at, file_of, file_in, is_file_key}
 use Rattle.service_file.specs.Settled.{AreServices, IsRead, HasCounts}
 
 always : {A : Type 0} (o : Option A) → IfSome o (λ a. ⊤)
@@ -42,7 +43,7 @@ with_one : (services : List ServiceData) (d : Data) → IfSome (with_service ser
 unfolding with_service
 with_one services d = then_if (service_of d) (added services) (λ s. ⊤) (λ more. length more ≡ suc (length services)) (always (service_of d)) (λ s any. added_one services s (list_any (is_named s.name) services))
 
-pub if_some_as : {A : Type 0} (o : Option A) (P Q : A → Type 0) → ((a : A) → P a → Q a) → IfSome o P → IfSome o Q
+if_some_as : {A : Type 0} (o : Option A) (P Q : A → Type 0) → ((a : A) → P a → Q a) → IfSome o P → IfSome o Q
 if_some_as None P Q step p = tt
 if_some_as (Some a) P Q step p = step a p
 

@@ -1,4 +1,3 @@
 pub mod Counts
-pub mod KnownKeys
 pub mod Named
 pub mod Settling

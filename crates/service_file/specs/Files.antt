@@ -2,13 +2,14 @@
 use Rattle.std.specs.Prelude.{ℕ, suc, List, [], ◌∷◌, ◌++◌, length, Bool, true, false, ◌&&◌, ◌||◌, nat_le, nat_eq, Option, Some, None, option_and_then, option_map, if◌then◌else◌, codes}
 use Rattle.std.specs.List.{list_all, list_any}
 use Rattle.std.specs.Str.{bytes_eq}
-use Rattle.serde_json.specs.Data.{Data, Items, no_items, item, Members, no_members, member}
-use Rattle.serde_json.specs.Find.{get, as_array, as_object, as_str}
+use Rattle.serde_json.specs.Data.{Data, Items, no_items, item}
+use Rattle.serde_json.specs.Find.{get, as_array, as_str}
 use Rattle.bpf_profile.specs.declared.layout.Layout.{Layout}
 use Rattle.texts.specs.Outcomes.{◌>>=◌, if_there}
 use Rattle.service_profile.specs.declared.configuration.ConfigParts.{ConfigParts}
 use Rattle.service_profile.specs.Configuration.{default_parts}
 use Rattle.requests.specs.Configurations.{config_of}
+use Rattle.requests.specs.Keys.{is_one_of, has_known_keys}
 use Rattle.requests.specs.Layouts.{layout_of}
 use Rattle.requests.specs.Programs.{program_of}
 use Rattle.texts.specs.JsonText.{json_of}
@@ -34,25 +35,11 @@ pub record FileData : Type 0 where
 
 -- ---- keys
 
--- each key of the members is one of these
-abbrev pub are_known : (List ℕ → Bool) → Members → Bool
-are_known is_known no_members = true
-are_known is_known (member key d ms) = is_known key && are_known is_known ms
+abbrev pub is_file_key : List ℕ → Bool
+is_file_key = is_one_of (codes "listen" ∷ codes "workers" ∷ codes "keeper" ∷ codes "connections" ∷ codes "open" ∷ codes "services" ∷ [])
 
-abbrev pub has_known_members : (List ℕ → Bool) → Option Members → Bool
-has_known_members is_known None = false
-has_known_members is_known (Some ms) = are_known is_known ms
-
--- the value is an object, and each of its keys is one of these
-abbrev pub has_known_keys : (List ℕ → Bool) → Data → Bool
-has_known_keys is_known d = has_known_members is_known (as_object d)
-
-unfoldable pub is_file_key : List ℕ → Bool
-is_file_key key =
-    bytes_eq key (codes "listen") || (bytes_eq key (codes "workers") || (bytes_eq key (codes "connections") || (bytes_eq key (codes "services") || (bytes_eq key (codes "keeper") || bytes_eq key (codes "open")))))
-
-unfoldable pub is_service_key : List ℕ → Bool
-is_service_key key = bytes_eq key (codes "name") || (bytes_eq key (codes "config") || (bytes_eq key (codes "program") || bytes_eq key (codes "layout")))
+abbrev pub is_service_key : List ℕ → Bool
+is_service_key = is_one_of (codes "name" ∷ codes "config" ∷ codes "program" ∷ codes "layout" ∷ [])
 
 -- ---- names
 
@@ -91,8 +78,8 @@ service_of d =
     if has_known_keys is_service_key d then (do
       name ← name_at d
       config ← config_at d
-      program ← program_at d
       layout ← layout_of d
+      program ← program_at d
       Some (record { name = name; config = config; program = program; layout = layout }))
     else None
 

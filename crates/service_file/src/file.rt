@@ -1,18 +1,28 @@
 //! The whole file, as the JSON gives it.
 ghost use Rattle.std.specs.Prelude.{◌≡◌, IfOk, option_map};
+ghost use Rattle.std.specs.Result.{result_ok};
 ghost use Rattle.serde_json.specs.View.{view};
-ghost use Rattle.service_file.specs.Files.{workers_at, file_of, file_in};
+ghost use Rattle.service_file.specs.Files.{file_of, file_in};
 ghost use Rattle.service_file.specs.Parts.{file_data};
 
 use crate::keepers::{Keeper, keeper_at};
-use crate::keys::has_file_keys;
-use crate::limits::open_at;
-use crate::names::is_count;
+use crate::limits::{open_at, workers_at};
+use crate::mistakes::{FileMistake, Reading};
 use crate::services::{ServicePart, services_at};
-use requests::{number_at, text_at};
+use requests::{has_known_keys, number_at, text_at};
 use serde_json::Value;
 use std::alloc::{AllocError, Global};
 use texts::json;
+
+/// The keys that the file may have.
+pub const FILE_KEYS: &[&str] = &[
+    "listen",
+    "workers",
+    "keeper",
+    "connections",
+    "open",
+    "services",
+];
 
 /// What the file has.
 #[derive(Drop)]
@@ -26,46 +36,35 @@ pub(crate) struct FilePart {
     pub services: Vec<ServicePart>,
 }
 
-/// How many workers, 1 to 64.
-fn workers_at(value: &Value) -> Option<u64>
-    ensures { result ≡ workers_at (view value.now) }
-{
-    let workers = number_at(value, "workers")?;
-    if is_count(workers) {
-        Some(workers)
-    } else {
-        None
-    }
-}
-
-/// What a JSON value has; None where it can't be used.
+/// What a JSON value has, or what is wrong with it. The outer error is want of memory.
 #[tactic(auto, unfolding(crate::specs::Files::file_of))]
-fn file(alloc: Global, value: &Value) -> Result<Option<FilePart>, AllocError>
-    ensures { IfOk result (λ part. option_map file_data part ≡ file_of (view value.now)) }
+fn file(alloc: Global, value: &Value) -> Reading<FilePart>
+    ensures { IfOk result (λ part. option_map file_data (result_ok part) ≡ file_of (view value.now)) }
 {
-    if !has_file_keys(value) {
-        return Ok(None);
+    if !has_known_keys(FILE_KEYS, value) {
+        return Ok(Err(FileMistake::Keys));
     }
     let Some(listen) = text_at(value, "listen") else {
-        return Ok(None);
+        return Ok(Err(FileMistake::Listen));
     };
     let Some(workers) = workers_at(value) else {
-        return Ok(None);
+        return Ok(Err(FileMistake::Workers));
     };
     let Some(keeper) = keeper_at(value) else {
-        return Ok(None);
+        return Ok(Err(FileMistake::Keeper));
     };
     let Some(connections) = number_at(value, "connections") else {
-        return Ok(None);
+        return Ok(Err(FileMistake::Connections));
     };
     let Some(most_open) = open_at(value) else {
-        return Ok(None);
+        return Ok(Err(FileMistake::Open));
     };
-    let Some(services) = services_at(alloc, value)? else {
-        return Ok(None);
+    let services = match services_at(alloc, value)? {
+        Ok(services) => services,
+        Err(mistake) => return Ok(Err(mistake)),
     };
     let listen = String::from_str(alloc, listen)?;
-    Ok(Some(FilePart {
+    Ok(Ok(FilePart {
         listen,
         workers,
         keeper,
@@ -75,12 +74,12 @@ fn file(alloc: Global, value: &Value) -> Result<Option<FilePart>, AllocError>
     }))
 }
 
-/// What a text has; None where it is no JSON, or can't be used.
-pub(crate) fn file_in(alloc: Global, text: &[u8]) -> Result<Option<FilePart>, AllocError>
-    ensures { IfOk result (λ part. option_map file_data part ≡ file_in text.now) }
+/// What a text has, or what is wrong with it. The outer error is want of memory.
+pub(crate) fn file_in(alloc: Global, text: &[u8]) -> Reading<FilePart>
+    ensures { IfOk result (λ part. option_map file_data (result_ok part) ≡ file_in text.now) }
 {
     match json(alloc, text)? {
         Some(value) => file(alloc, &value),
-        None => Ok(None),
+        None => Ok(Err(FileMistake::NoJson)),
     }
 }

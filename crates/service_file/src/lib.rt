@@ -4,11 +4,16 @@
 
 mod file;
 mod keepers;
-mod keys;
 mod limits;
+mod mistakes;
 mod names;
 mod services;
 mod settings;
 
+pub use file::FILE_KEYS;
 pub use keepers::Keeper;
+pub use limits::OPEN_LIMITS;
+pub use mistakes::{FileMistake, ServiceMistake};
+pub use names::COUNTS;
+pub use services::SERVICE_KEYS;
 pub use settings::{ServiceSettings, Settings, read_settings};

@@ -3,8 +3,10 @@ ghost use Rattle.std.specs.Prelude.{◌≡◌};
 ghost use Rattle.std.specs.List.{list_all};
 ghost use Rattle.service_file.specs.Files.{is_name_byte, is_name, is_count};
 
+use service_profile::Range;
+
 /// How many services a file may have, how many workers, and how many bytes a name.
-const MOST: u64 = 64;
+pub const COUNTS: Range = Range { least: 1, most: 64 };
 
 /// Whether it is a small letter, a digit, a hyphen or an underscore.
 fn is_name_byte(byte: u8) -> bool
@@ -32,5 +34,5 @@ pub(crate) fn is_name(name: &str) -> bool
 pub(crate) fn is_count(count: u64) -> bool
     ensures { result ≡ is_count count }
 {
-    1 <= count && count <= MOST
+    COUNTS.contains(count)
 }

@@ -1,6 +1,8 @@
 //! The services of the file, as the JSON gives them.
-ghost use Rattle.std.specs.Prelude.{◌≡◌, map, [], Some, None, IfOk, option_map, option_and_then, codes, string_bytes, if◌then◌else◌};
+ghost use Rattle.std.specs.Prelude.{◌≡◌, map, [], Ok, Some, None, IfOk, option_map, option_and_then, codes, string_bytes, if◌then◌else◌};
 ghost use Rattle.std.specs.List.{list_any};
+ghost use Rattle.std.specs.Option.{is_none};
+ghost use Rattle.std.specs.Result.{result_ok};
 ghost use Rattle.std.specs.Str.{bytes_eq};
 ghost use Rattle.serde_json.specs.Find.{get, as_array};
 ghost use Rattle.serde_json.specs.View.{view, items_view};
@@ -8,13 +10,16 @@ ghost use Rattle.service_profile.specs.Configuration.{default_parts};
 ghost use Rattle.service_file.specs.Files.{is_named, name_at, config_at, program_at, service_of, with_service, services_after, services_of, services_at};
 ghost use Rattle.service_file.specs.Parts.{service_data};
 
-use crate::keys::has_service_keys;
+use crate::mistakes::{FileMistake, Reading, ServiceMistake};
 use crate::names::{is_count, is_name};
 use book::{Config, ConfigParts};
 use bpf_profile::Layout;
-use requests::{config, layout, program, text_at};
+use requests::{ConfigMistake, config, has_known_keys, layout, program, text_at};
 use serde_json::Value;
 use std::alloc::{AllocError, Global};
+
+/// The keys that a service may have.
+pub const SERVICE_KEYS: &[&str] = &["name", "config", "program", "layout"];
 
 /// A service as the file has it.
 #[derive(Drop)]
@@ -36,18 +41,18 @@ fn name_at(value: &Value) -> Option<&str>
 }
 
 /// The defaults.
-fn default_config() -> Option<Config>
-    ensures { result ≡ Some default_parts }
+fn default_config() -> Result<Config, ConfigMistake>
+    ensures { result ≡ Ok default_parts }
 {
     match Config::new(ConfigParts::DEFAULT) {
-        Ok(config) => Some(config),
-        Err(_) => None,
+        Ok(config) => Ok(config),
+        Err(bad) => Err(ConfigMistake::BadValue(bad.field)),
     }
 }
 
 /// The configuration; the defaults where the key is missing.
-fn config_at(value: &Value) -> Option<Config>
-    ensures { result ≡ config_at (view value.now) }
+fn config_at(value: &Value) -> Result<Config, ConfigMistake>
+    ensures { result_ok result ≡ config_at (view value.now) }
 {
     match value.get("config") {
         None => default_config(),
@@ -68,28 +73,29 @@ fn program_at(alloc: Global, value: &Value) -> Result<Option<Option<Vec<u8>>>, A
     }
 }
 
-/// A service; None where it can't be used.
+/// A service, or what is wrong with it. The outer error is want of memory.
 #[tactic(auto, unfolding(crate::specs::Files::service_of))]
-fn service(alloc: Global, value: &Value) -> Result<Option<ServicePart>, AllocError>
-    ensures { IfOk result (λ part. option_map service_data part ≡ service_of (view value.now)) }
+fn service(alloc: Global, value: &Value) -> Reading<ServicePart, ServiceMistake>
+    ensures { IfOk result (λ part. option_map service_data (result_ok part) ≡ service_of (view value.now)) }
 {
-    if !has_service_keys(value) {
-        return Ok(None);
+    if !has_known_keys(SERVICE_KEYS, value) {
+        return Ok(Err(ServiceMistake::Keys));
     }
     let Some(name) = name_at(value) else {
-        return Ok(None);
+        return Ok(Err(ServiceMistake::Name));
     };
-    let Some(config) = config_at(value) else {
-        return Ok(None);
-    };
-    let Some(program) = program_at(alloc, value)? else {
-        return Ok(None);
+    let config = match config_at(value) {
+        Ok(config) => config,
+        Err(mistake) => return Ok(Err(ServiceMistake::Config(mistake))),
     };
     let Some(layout) = layout(value) else {
-        return Ok(None);
+        return Ok(Err(ServiceMistake::Layout));
+    };
+    let Some(program) = program_at(alloc, value)? else {
+        return Ok(Err(ServiceMistake::NoProgram));
     };
     let name = String::from_str(alloc, name)?;
-    Ok(Some(ServicePart {
+    Ok(Ok(ServicePart {
         name,
         config,
         program,
@@ -112,44 +118,45 @@ fn has_name(services: &[ServicePart], name: &str) -> bool
     is_there(services, name)
 }
 
-/// Adds a service, and answers true; false where it can't be used, or its name is there.
+/// Adds a service, or answers what is wrong with it. The error is want of memory.
 #[tactic(auto, unfolding(crate::specs::Files::with_service))]
 fn add_service(
     alloc: Global,
     services: &mut Vec<ServicePart>,
     value: &Value,
-) -> Result<bool, AllocError>
-    ensures { IfOk result (λ added. with_service (map service_data services.old.items) (view value.now) ≡ (if added then Some (map service_data services.new.items) else None)) }
+) -> Result<Option<ServiceMistake>, AllocError>
+    ensures { IfOk result (λ mistake. with_service (map service_data services.old.items) (view value.now) ≡ (if is_none mistake then Some (map service_data services.new.items) else None)) }
 {
-    let Some(service) = service(alloc, value)? else {
-        return Ok(false);
+    let service = match service(alloc, value)? {
+        Ok(service) => service,
+        Err(mistake) => return Ok(Some(mistake)),
     };
     if has_name(services, &service.name) {
-        return Ok(false);
+        return Ok(Some(ServiceMistake::NameTaken));
     }
     services.push(service)?;
-    Ok(true)
+    Ok(None)
 }
 
-/// The services; None where one can't be used, or two have one name.
-fn services(alloc: Global, values: &[Value]) -> Result<Option<Vec<ServicePart>>, AllocError>
-    ensures { IfOk result (λ found. option_map (λ services. map service_data services.items) found ≡ services_after [] (items_view values.now)) }
+/// The services, or what is wrong with the first that can't be used. The outer error is want of memory.
+fn services(alloc: Global, values: &[Value]) -> Reading<Vec<ServicePart>>
+    ensures { IfOk result (λ found. option_map (λ services. map service_data services.items) (result_ok found) ≡ services_after [] (items_view values.now)) }
 {
     let mut services = Vec::new(alloc);
     for value in values {
-        if !add_service(alloc, &mut services, value)? {
-            return Ok(None);
+        if let Some(mistake) = add_service(alloc, &mut services, value)? {
+            return Ok(Err(FileMistake::Service(services.len(), mistake)));
         }
     }
-    Ok(Some(services))
+    Ok(Ok(services))
 }
 
 /// The services, 1 to 64.
-fn counted_services(alloc: Global, values: &[Value]) -> Result<Option<Vec<ServicePart>>, AllocError>
-    ensures { IfOk result (λ found. option_map (λ services. map service_data services.items) found ≡ services_of (items_view values.now)) }
+fn counted_services(alloc: Global, values: &[Value]) -> Reading<Vec<ServicePart>>
+    ensures { IfOk result (λ found. option_map (λ services. map service_data services.items) (result_ok found) ≡ services_of (items_view values.now)) }
 {
     if !is_count(values.len() as u64) {
-        return Ok(None);
+        return Ok(Err(FileMistake::Services));
     }
     services(alloc, values)
 }
@@ -161,15 +168,12 @@ fn values_at(value: &Value) -> Option<&Vec<Value>>
     value.get("services")?.as_array()
 }
 
-/// The services of the file.
-pub(crate) fn services_at(
-    alloc: Global,
-    value: &Value,
-) -> Result<Option<Vec<ServicePart>>, AllocError>
-    ensures { IfOk result (λ found. option_map (λ services. map service_data services.items) found ≡ services_at (view value.now)) }
+/// The services of the file, or what is wrong with them. The outer error is want of memory.
+pub(crate) fn services_at(alloc: Global, value: &Value) -> Reading<Vec<ServicePart>>
+    ensures { IfOk result (λ found. option_map (λ services. map service_data services.items) (result_ok found) ≡ services_at (view value.now)) }
 {
     match values_at(value) {
         Some(values) => counted_services(alloc, values),
-        None => Ok(None),
+        None => Ok(Err(FileMistake::Services)),
     }
 }

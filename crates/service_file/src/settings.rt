@@ -1,6 +1,6 @@
 //! The settings that the file gives: the address, and services whose programs are verified.
-ghost use Rattle.std.specs.Prelude.{◌≡◌, map, ◌∷◌, [], None, option_map, ◌⊎◌, IfOk, IfErr, IfSome};
-ghost use Rattle.bpf_profile.specs.Spelling.{Fault};
+ghost use Rattle.std.specs.Prelude.{◌≡◌, map, ◌∷◌, [], option_map, ◌⊎◌, IfOk, IfErr};
+ghost use Rattle.std.specs.Result.{result_ok};
 ghost use Rattle.verifier.specs.DefaultClassifier.{default_classifier_bytes};
 ghost use Rattle.verifier.specs.Verifying.{IsVerification, IsRefused, fault_of, out_of_memory};
 ghost use Rattle.service_file.specs.Parts.{service_data, file_data};
@@ -8,6 +8,7 @@ ghost use Rattle.service_file.specs.Settled.{bytes_of, IsService, AreServices, H
 
 use crate::file::{FilePart, file_in};
 use crate::keepers::Keeper;
+use crate::mistakes::{FileMistake, Reading, ServiceMistake};
 use crate::services::ServicePart;
 use book::Config;
 use bpf_profile::Layout;
@@ -68,70 +69,68 @@ fn verified(alloc: Global, bytes: &Option<Vec<u8>>, layout: Layout) -> Result<Ve
     }
 }
 
-/// The same; None where the bytes are refused, and the error is want of memory.
-fn program(
-    alloc: Global,
-    bytes: &Option<Vec<u8>>,
-    layout: Layout,
-) -> Result<Option<Verified>, AllocError>
-    ensures verified { IfOk result (λ found. IfSome found (IsVerification (bytes_of (option_map (λ b. b.items) bytes.now)))) }
-    ensures layout { IfOk result (λ found. IfSome found (λ program. program.layout ≡ layout)) }
-    ensures refused { IfOk result (λ found. found ≡ None → (fault : Fault) × IsRefused layout (bytes_of (option_map (λ b. b.items) bytes.now)) fault) }
+/// The same; the outer error is want of memory.
+fn program(alloc: Global, bytes: &Option<Vec<u8>>, layout: Layout) -> Reading<Verified, Refusal>
+    ensures verified { IfOk result (λ found. IfOk found (IsVerification (bytes_of (option_map (λ b. b.items) bytes.now)))) }
+    ensures layout { IfOk result (λ found. IfOk found (λ program. program.layout ≡ layout)) }
+    ensures refused { IfOk result (λ found. IfErr found (λ refusal. IsRefused layout (bytes_of (option_map (λ b. b.items) bytes.now)) (fault_of refusal))) }
 {
     match verified(alloc, bytes, layout) {
-        Ok(program) => Ok(Some(program)),
+        Ok(program) => Ok(Ok(program)),
         Err(refusal) => match refusal.number {
             RefusalNumber::ProgramOutOfMemory => Err(AllocError),
-            _ => Ok(None),
+            _ => Ok(Err(refusal)),
         },
     }
 }
 
-/// The settings of a service; None where its program is refused.
-fn service(alloc: Global, part: ServicePart) -> Result<Option<ServiceSettings>, AllocError>
-    ensures settled { IfOk result (λ found. IfSome found (λ service. IsService service (service_data part))) }
-    ensures refused { IfOk result (λ found. found ≡ None → HasRefusal (service_data part ∷ [])) }
+/// The settings of a service, or how its program is refused. The outer error is want of memory.
+fn service(alloc: Global, part: ServicePart) -> Reading<ServiceSettings, Refusal>
+    ensures settled { IfOk result (λ found. IfOk found (λ service. IsService service (service_data part))) }
+    ensures refused { IfOk result (λ found. IfErr found (λ refusal. HasRefusal (service_data part ∷ []))) }
 {
-    let Some(program) = program(alloc, &part.program, part.layout)? else {
-        return Ok(None);
+    let program = match program(alloc, &part.program, part.layout)? {
+        Ok(program) => program,
+        Err(refusal) => return Ok(Err(refusal)),
     };
-    Ok(Some(ServiceSettings {
+    Ok(Ok(ServiceSettings {
         name: part.name,
         config: part.config,
         program,
     }))
 }
 
-/// The settings of services; None where a program is refused.
-fn services(
-    alloc: Global,
-    parts: Vec<ServicePart>,
-) -> Result<Option<Vec<ServiceSettings>>, AllocError>
-    ensures settled { IfOk result (λ found. IfSome found (λ services. AreServices services.items (map service_data parts.items))) }
-    ensures refused { IfOk result (λ found. found ≡ None → HasRefusal (map service_data parts.items)) }
+/// The settings of services, or the first program that is refused. The outer error is want of memory.
+fn services(alloc: Global, parts: Vec<ServicePart>) -> Reading<Vec<ServiceSettings>>
+    ensures settled { IfOk result (λ found. IfOk found (λ services. AreServices services.items (map service_data parts.items))) }
+    ensures refused { IfOk result (λ found. IfErr found (λ mistake. HasRefusal (map service_data parts.items))) }
 {
     let mut services = Vec::new(alloc);
     for part in parts {
-        let Some(service) = service(alloc, part)? else {
-            return Ok(None);
-        };
-        services.push(service)?;
+        match service(alloc, part)? {
+            Ok(service) => services.push(service)?,
+            Err(refusal) => {
+                let mistake = ServiceMistake::Refused(refusal);
+                return Ok(Err(FileMistake::Service(services.len(), mistake)));
+            }
+        }
     }
-    Ok(Some(services))
+    Ok(Ok(services))
 }
 
-/// The settings of what the file has; None where the address is none, or a program is refused.
-fn settled(alloc: Global, part: FilePart) -> Result<Option<Settings>, AllocError>
-    ensures settled { IfOk result (λ found. IfSome found (λ settings. AreSettings settings (file_data part))) }
-    ensures refused { IfOk result (λ found. found ≡ None → CannotSettle (file_data part)) }
+/// The settings of what the file has, or what is wrong with it. The outer error is want of memory.
+fn settled(alloc: Global, part: FilePart) -> Reading<Settings>
+    ensures settled { IfOk result (λ found. IfOk found (λ settings. AreSettings settings (file_data part))) }
+    ensures refused { IfOk result (λ found. IfErr found (λ mistake. CannotSettle (file_data part))) }
 {
     let Ok(listen) = SocketAddr::parse_ascii(part.listen.as_bytes()) else {
-        return Ok(None);
+        return Ok(Err(FileMistake::Listen));
     };
-    let Some(services) = services(alloc, part.services)? else {
-        return Ok(None);
+    let services = match services(alloc, part.services)? {
+        Ok(services) => services,
+        Err(mistake) => return Ok(Err(mistake)),
     };
-    Ok(Some(Settings {
+    Ok(Ok(Settings {
         listen,
         workers: part.workers,
         keeper: part.keeper,
@@ -149,18 +148,20 @@ fn settled(alloc: Global, part: FilePart) -> Result<Option<Settings>, AllocError
 /// array of 1 to 64 objects with `name` (1 to 64 small letters, digits, hyphens and underscores, each name
 /// once), `config` (as `requests::config` reads it; the defaults where it is missing), `program`
 /// (hexadecimal, in which blanks don't count; the default classifier where it is missing) and `layout` (the
-/// layout of records that the program is verified for, 1 or 2; layout 1 where it is missing). None where
-/// the text is no such object, has another key, or has a program that is refused: the refusal
-/// `BadConfig`. The error is want of memory.
-pub fn read_settings(alloc: Global, text: &[u8]) -> Result<Option<Settings>, AllocError>
-    // The settings are those of the file that the text is. None comes only where the text is no such file, its address
-    // is none, or a program in it is refused.
-    ensures read { IfOk result (IsRead text.now) }
+/// layout of records that the program is verified for, 1 or 2; layout 1 where it is missing). The inner error is
+/// what is wrong with another text, which is the refusal `BadConfig`; the outer one is want of memory.
+pub fn read_settings(
+    alloc: Global,
+    text: &[u8],
+) -> Result<Result<Settings, FileMistake>, AllocError>
+    // The settings are those of the file that the text is. A mistake comes only where the text is no such file, its
+    // address is none, or a program in it is refused.
+    ensures read { IfOk result (λ found. IsRead text.now (result_ok found)) }
     // There are 1 to 64 workers, and 1 to 64 services.
-    ensures counts { IfOk result (λ found. IfSome found HasCounts) }
+    ensures counts { IfOk result (λ found. IfOk found HasCounts) }
 {
     match file_in(alloc, text)? {
-        Some(part) => settled(alloc, part),
-        None => Ok(None),
+        Ok(part) => settled(alloc, part),
+        Err(mistake) => Ok(Err(mistake)),
     }
 }

@@ -7,14 +7,20 @@ ghost use Rattle.server_lines.specs.Lines.{IsNotice};
 use config_mistakes::file_mistake;
 use counted_io::Counted;
 use http_pool::threads_at_once;
+use service_file::FileMistake;
 use std::alloc::{AllocError, Global};
 use std::io::Write;
 use std::thread::Threads;
 use std::time;
 
 /// Writes what is wrong with a file's text.
-pub(crate) fn notify_mistake<E: Write>(alloc: Global, text: &[u8], err: &mut Counted<E>) {
-    if let Ok(Some(mistake)) = file_mistake(alloc, text)
+pub(crate) fn notify_mistake<E: Write>(
+    alloc: Global,
+    text: &[u8],
+    mistake: FileMistake,
+    err: &mut Counted<E>,
+) {
+    if let Ok(mistake) = file_mistake(alloc, text, mistake)
         && let Ok(line) = format!(in alloc; "{mistake}\n")
     {
         let _sent = err.send(line.as_bytes());

@@ -17,7 +17,7 @@ use http_front::Clock;
 use http_pool::{Limits, ListenerFailed, serve_connections};
 use refusals::RefusalNumber;
 use server_lines::{ServerStatus, listen, refuse, refuse_for};
-use service_file::{Keeper, Settings, read_settings};
+use service_file::{FileMistake, Keeper, Settings, read_settings};
 use std::alloc::Global;
 use std::fs::{File, Files};
 use std::io::{ErrorKind, Read, Write};
@@ -157,6 +157,7 @@ where
 fn refuse_text<O: Write, E: Write>(
     alloc: Global,
     text: &[u8],
+    mistake: FileMistake,
     out: &mut Counted<O>,
     err: &mut Counted<E>,
 ) -> ServerStatus
@@ -166,7 +167,7 @@ fn refuse_text<O: Write, E: Write>(
 {
     let status = refuse(alloc, RefusalNumber::BadConfig, out);
     if let ServerStatus::Refused(_) = status {
-        notify_mistake(alloc, text, err);
+        notify_mistake(alloc, text, mistake, err);
     }
     status
 }
@@ -210,11 +211,13 @@ where
     ensures cause { IsServerCause result.status out.old.failures out.new.failures }
 {
     match read_settings(alloc, text) {
-        Ok(Some(settings)) => match serve_settings(rt, alloc, settings, out, err, clock) {
+        Ok(Ok(settings)) => match serve_settings(rt, alloc, settings, out, err, clock) {
             Ok(end) => end,
             Err(status) => ServerEnd::without(alloc, status),
         },
-        Ok(None) => ServerEnd::without(alloc, refuse_text(alloc, text, out, err)),
+        Ok(Err(mistake)) => {
+            ServerEnd::without(alloc, refuse_text(alloc, text, mistake, out, err))
+        }
         Err(_) => ServerEnd::without(alloc, ServerStatus::OutOfMemory),
     }
 }

@@ -82,7 +82,7 @@ fn whole_numbers_are_written_as_such(rt: HostRuntime) {
 
 /// The configuration in a text.
 fn config_in(rt: &impl Abort, alloc: Global, text: &str) -> Option<Config> {
-    config(&value(rt, alloc, text))
+    config(&value(rt, alloc, text)).ok()
 }
 
 /// The parts of a configuration.

@@ -1,7 +1,6 @@
 //! The layouts of the record that files name for their services.
 use crate::checks::same_at;
-use crate::service_files::read;
-use config_mistakes::file_mistake;
+use crate::service_files::{read, told};
 use std::alloc::Global;
 use std::process::Abort;
 
@@ -75,7 +74,7 @@ fn are_told(rt: &impl Abort, alloc: Global, rows: &[Mistaken<'_>]) {
     for row in rows {
         let (keys, wanted) = *row;
         let text = file_with(rt, alloc, keys);
-        let mistake = file_mistake(alloc, text.as_bytes()).expect(rt, "ample memory");
+        let mistake = told(rt, alloc, &text).err();
         same_at(rt, mistake.as_deref(), Some(wanted), keys);
     }
 }

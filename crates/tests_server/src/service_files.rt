@@ -8,12 +8,26 @@ use std::alloc::Global;
 use std::process::Abort;
 use texts::json;
 
-/// Reads a file's text. A mistake is found in it exactly where it can't be used.
+/// Reads a file's text, or tells what is wrong with it.
+pub(crate) fn told(rt: &impl Abort, alloc: Global, text: &str) -> Result<Settings, String> {
+    match read_settings(alloc, text.as_bytes()).expect(rt, "ample memory") {
+        Ok(settings) => Ok(settings),
+        Err(mistake) => {
+            let words = file_mistake(alloc, text.as_bytes(), mistake).expect(rt, "ample memory");
+            Err(words)
+        }
+    }
+}
+
+/// Reads a file's text. Something is said of it where it can't be used.
 pub(crate) fn read(rt: &impl Abort, alloc: Global, text: &str) -> Option<Settings> {
-    let settings = read_settings(alloc, text.as_bytes()).expect(rt, "ample memory");
-    let mistake = file_mistake(alloc, text.as_bytes()).expect(rt, "ample memory");
-    is_true_at(rt, mistake.is_some() == settings.is_none(), text);
-    settings
+    match told(rt, alloc, text) {
+        Ok(settings) => Some(settings),
+        Err(words) => {
+            is_true_at(rt, !words.is_empty(), text);
+            None
+        }
+    }
 }
 
 /// A service of a file: its name, the size of its window, and the budget of its program.
@@ -117,7 +131,7 @@ fn is_config(rt: &impl Abort, alloc: Global, range: Range<'_>, value: u64) -> bo
     let parsed = json(alloc, text.as_bytes())
         .expect(rt, "ample memory")
         .expect(rt, "JSON");
-    let is_good = config(&parsed).is_some();
+    let is_good = config(&parsed).is_ok();
     let mistake = config_mistake(alloc, text.as_bytes()).expect(rt, "ample memory");
     is_true_at(rt, mistake.is_none() == is_good, text);
     is_good

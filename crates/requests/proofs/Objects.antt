@@ -4,7 +4,7 @@ use Rattle.std.specs.List.{list_all}
 use Rattle.std.specs.Map.{keys_of}
 use Rattle.serde_json.specs.View.{members_view}
 use Rattle.serde_json.specs.declared.value.Value.{Value}
-use Rattle.service_file.specs.Files.{are_known}
+use Rattle.requests.specs.Keys.{are_known}
 
 pub known_of_entries : (is_known : List ℕ → Bool) (es : List (String Global × Value)) → list_all (λ key. is_known (string_bytes key)) (keys_of es) ≡ are_known is_known (members_view es)
 known_of_entries is_known [] = refl
