@@ -7,7 +7,7 @@ ghost use Rattle.service_file.specs.Parts.{file_data};
 
 use crate::keepers::{Keeper, keeper_at};
 use crate::limits::{open_at, workers_at};
-use crate::mistakes::{FileMistake, Reading};
+use crate::mistakes::{FileMistake, Parsed};
 use crate::services::{ServicePart, services_at};
 use requests::{has_known_keys, number_at, text_at};
 use serde_json::Value;
@@ -38,7 +38,7 @@ pub(crate) struct FilePart {
 
 /// What a JSON value has, or what is wrong with it. The outer error is want of memory.
 #[tactic(auto, unfolding(crate::specs::Files::file_of))]
-fn file(alloc: Global, value: &Value) -> Reading<FilePart>
+fn file(alloc: Global, value: &Value) -> Parsed<FilePart>
     ensures { IfOk result (λ part. option_map file_data (result_ok part) ≡ file_of (view value.now)) }
 {
     if !has_known_keys(FILE_KEYS, value) {
@@ -75,7 +75,7 @@ fn file(alloc: Global, value: &Value) -> Reading<FilePart>
 }
 
 /// What a text has, or what is wrong with it. The outer error is want of memory.
-pub(crate) fn file_in(alloc: Global, text: &[u8]) -> Reading<FilePart>
+pub(crate) fn file_in(alloc: Global, text: &[u8]) -> Parsed<FilePart>
     ensures { IfOk result (λ part. option_map file_data (result_ok part) ≡ file_in text.now) }
 {
     match json(alloc, text)? {

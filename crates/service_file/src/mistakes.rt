@@ -4,7 +4,7 @@ use std::alloc::AllocError;
 use verifier::Refusal;
 
 /// What is read, or what is wrong with it. The outer error is want of memory.
-pub(crate) type Reading<T, M = FileMistake> = Result<Result<T, M>, AllocError>;
+pub(crate) type Parsed<T, M = FileMistake> = Result<Result<T, M>, AllocError>;
 
 /// What is wrong with the file, the first of what is looked for: the keys, their values in the order below, and then
 /// whether the address is one, and each program is accepted.

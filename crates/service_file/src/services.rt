@@ -10,7 +10,7 @@ ghost use Rattle.service_profile.specs.Configuration.{default_parts};
 ghost use Rattle.service_file.specs.Files.{is_named, name_at, config_at, program_at, service_of, with_service, services_after, services_of, services_at};
 ghost use Rattle.service_file.specs.Parts.{service_data};
 
-use crate::mistakes::{FileMistake, Reading, ServiceMistake};
+use crate::mistakes::{FileMistake, Parsed, ServiceMistake};
 use crate::names::{is_count, is_name};
 use book::{Config, ConfigParts};
 use bpf_profile::Layout;
@@ -75,7 +75,7 @@ fn program_at(alloc: Global, value: &Value) -> Result<Option<Option<Vec<u8>>>, A
 
 /// A service, or what is wrong with it. The outer error is want of memory.
 #[tactic(auto, unfolding(crate::specs::Files::service_of))]
-fn service(alloc: Global, value: &Value) -> Reading<ServicePart, ServiceMistake>
+fn service(alloc: Global, value: &Value) -> Parsed<ServicePart, ServiceMistake>
     ensures { IfOk result (λ part. option_map service_data (result_ok part) ≡ service_of (view value.now)) }
 {
     if !has_known_keys(SERVICE_KEYS, value) {
@@ -139,7 +139,7 @@ fn add_service(
 }
 
 /// The services, or what is wrong with the first that can't be used. The outer error is want of memory.
-fn services(alloc: Global, values: &[Value]) -> Reading<Vec<ServicePart>>
+fn services(alloc: Global, values: &[Value]) -> Parsed<Vec<ServicePart>>
     ensures { IfOk result (λ found. option_map (λ services. map service_data services.items) (result_ok found) ≡ services_after [] (items_view values.now)) }
 {
     let mut services = Vec::new(alloc);
@@ -152,7 +152,7 @@ fn services(alloc: Global, values: &[Value]) -> Reading<Vec<ServicePart>>
 }
 
 /// The services, 1 to 64.
-fn counted_services(alloc: Global, values: &[Value]) -> Reading<Vec<ServicePart>>
+fn counted_services(alloc: Global, values: &[Value]) -> Parsed<Vec<ServicePart>>
     ensures { IfOk result (λ found. option_map (λ services. map service_data services.items) (result_ok found) ≡ services_of (items_view values.now)) }
 {
     if !is_count(values.len() as u64) {
@@ -169,7 +169,7 @@ fn values_at(value: &Value) -> Option<&Vec<Value>>
 }
 
 /// The services of the file, or what is wrong with them. The outer error is want of memory.
-pub(crate) fn services_at(alloc: Global, value: &Value) -> Reading<Vec<ServicePart>>
+pub(crate) fn services_at(alloc: Global, value: &Value) -> Parsed<Vec<ServicePart>>
     ensures { IfOk result (λ found. option_map (λ services. map service_data services.items) (result_ok found) ≡ services_at (view value.now)) }
 {
     match values_at(value) {

@@ -8,7 +8,7 @@ ghost use Rattle.service_file.specs.Settled.{bytes_of, IsService, AreServices, H
 
 use crate::file::{FilePart, file_in};
 use crate::keepers::Keeper;
-use crate::mistakes::{FileMistake, Reading, ServiceMistake};
+use crate::mistakes::{FileMistake, Parsed, ServiceMistake};
 use crate::services::ServicePart;
 use book::Config;
 use bpf_profile::Layout;
@@ -70,7 +70,7 @@ fn verified(alloc: Global, bytes: &Option<Vec<u8>>, layout: Layout) -> Result<Ve
 }
 
 /// The same; the outer error is want of memory.
-fn program(alloc: Global, bytes: &Option<Vec<u8>>, layout: Layout) -> Reading<Verified, Refusal>
+fn program(alloc: Global, bytes: &Option<Vec<u8>>, layout: Layout) -> Parsed<Verified, Refusal>
     ensures verified { IfOk result (λ found. IfOk found (IsVerification (bytes_of (option_map (λ b. b.items) bytes.now)))) }
     ensures layout { IfOk result (λ found. IfOk found (λ program. program.layout ≡ layout)) }
     ensures refused { IfOk result (λ found. IfErr found (λ refusal. IsRefused layout (bytes_of (option_map (λ b. b.items) bytes.now)) (fault_of refusal))) }
@@ -85,7 +85,7 @@ fn program(alloc: Global, bytes: &Option<Vec<u8>>, layout: Layout) -> Reading<Ve
 }
 
 /// The settings of a service, or how its program is refused. The outer error is want of memory.
-fn service(alloc: Global, part: ServicePart) -> Reading<ServiceSettings, Refusal>
+fn service(alloc: Global, part: ServicePart) -> Parsed<ServiceSettings, Refusal>
     ensures settled { IfOk result (λ found. IfOk found (λ service. IsService service (service_data part))) }
     ensures refused { IfOk result (λ found. IfErr found (λ refusal. HasRefusal (service_data part ∷ []))) }
 {
@@ -101,7 +101,7 @@ fn service(alloc: Global, part: ServicePart) -> Reading<ServiceSettings, Refusal
 }
 
 /// The settings of services, or the first program that is refused. The outer error is want of memory.
-fn services(alloc: Global, parts: Vec<ServicePart>) -> Reading<Vec<ServiceSettings>>
+fn services(alloc: Global, parts: Vec<ServicePart>) -> Parsed<Vec<ServiceSettings>>
     ensures settled { IfOk result (λ found. IfOk found (λ services. AreServices services.items (map service_data parts.items))) }
     ensures refused { IfOk result (λ found. IfErr found (λ mistake. HasRefusal (map service_data parts.items))) }
 {
@@ -119,7 +119,7 @@ fn services(alloc: Global, parts: Vec<ServicePart>) -> Reading<Vec<ServiceSettin
 }
 
 /// The settings of what the file has, or what is wrong with it. The outer error is want of memory.
-fn settled(alloc: Global, part: FilePart) -> Reading<Settings>
+fn settled(alloc: Global, part: FilePart) -> Parsed<Settings>
     ensures settled { IfOk result (λ found. IfOk found (λ settings. AreSettings settings (file_data part))) }
     ensures refused { IfOk result (λ found. IfErr found (λ mistake. CannotSettle (file_data part))) }
 {
