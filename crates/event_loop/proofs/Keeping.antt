@@ -1,22 +1,25 @@
 -- What a hub keeps while its sessions are served, and as they come and leave.
 use Rattle.std.proofs.Common.{◌≡◌, ◌≢◌, ◌⊎◌, inl, inr, ◌<◌, ◌≤◌, ℕ, suc, List, [], ◌∷◌, ◌++◌, Option, Some, None, true, false, ap, sym, ◌∙◌, refl, subst, append_assoc, arith, is_some, slice_index_or}
-use Rattle.std.proofs.lemmas.List.{append-nil}
+use Rattle.std.proofs.Math.ListN.{set}
+use Rattle.std.proofs.lemmas.List.{append-nil, set-get_or}
 use Rattle.std.proofs.lemmas.Grind.{common_steps}
-use Rattle.slab.specs.Slab.{Slab, Updates, get, slab_len}
+use Rattle.slab.specs.Slab.{Slab, ContainsKey, Updates, get, slab_len, with_value}
+use Rattle.slab.proofs.SlabLemmas.{ContainsKey-within, Updates-set, Updates-with_value}
 use Rattle.http_messages.specs.declared.front.Fault.{Fault}
 use Rattle.http_turns.specs.Requests.{HttpRequestData}
 use Rattle.http_turns.specs.declared.stage.Stage.TheVariants as stage
 use Rattle.http_turns.specs.Connections.{new_connection}
 use Rattle.http_turns.specs.Sessions.{SessionData}
-use Rattle.http_turns.specs.Steps.{Step, AreSteps}
+use Rattle.http_turns.specs.Steps.{Step}
+use Rattle.http_turns.specs.declared.ended.Ended.{Ended}
 use Rattle.http_turns.proofs.Chains.{steps_behind}
 use Rattle.event_loop.specs.declared.departing.Cause.{Cause}
 use Rattle.event_loop.specs.declared.departing.Cause.TheVariants as cause
 use Rattle.event_loop.specs.declared.opened.Opened.{Opened}
 use Rattle.event_loop.specs.declared.hub.Hub.{Hub}
 use Rattle.event_loop.specs.Departures.{Departed, LeavesSo, Records}
-use Rattle.event_loop.specs.Hubs.{IsAt, IsHub, IsPutBack, HaveLived, HasTended, HasTurned, Keeps}
-use Rattle.event_loop.specs.Lives.{IsLife, AreLives, Differs, AreDistinct, AreBelow, IsIn}
+use Rattle.event_loop.specs.Hubs.{IsAt, IsHub, HasLeft, HaveLived, HasTended, HasTurned, Keeps}
+use Rattle.event_loop.specs.Lives.{IsLife, LivesOn, AreLives, Differs, AreDistinct, AreBelow, IsIn}
 use Rattle.event_loop.specs.Log.{LoggedStep, HasServed, IsConnection, all_steps, steps_of, tag}
 use Rattle.event_loop.proofs.Living.{life_new}
 use Rattle.event_loop.proofs.Logs.{all_both, either, steps_other, steps_own}
@@ -65,6 +68,37 @@ no_slot_in slots key x none is = no_value x (sym is ∙ ap (λ z. slice_index_or
 
 nobody_there : {A : Type 0} (slab : Slab A) (key : ℕ) (x : A) → slab_len slab ≡ 0 → get slab key ≡ Some x → ⊥
 nobody_there slab key x none is = grind (arith, common_steps)
+
+-- the slab without the value under a key
+abbrev without : {A : Type 0} → Slab A → ℕ → Slab A
+without slab key = record slab { slots = set slab.slots key None }
+
+there : {A : Type 0} (slab : Slab A) (key : ℕ) (x : A) → get slab key ≡ Some x → ContainsKey slab key
+there slab key x here = rw here refl
+
+out_of : {A : Type 0} (slab : Slab A) (key : ℕ) (x : A) → get slab key ≡ Some x → Updates slab (without slab key) key None
+out_of slab key x here = Updates-set slab (without slab key) key None (ContainsKey-within slab key (there slab key x here)) refl
+
+out_back : {A : Type 0} (slab : Slab A) (key : ℕ) (x y : A) → get slab key ≡ Some x → Updates (without slab key) (with_value slab key y) key (Some y)
+out_back slab key x y here = record {
+  changed = within.changed;
+  others = λ other apart. within.others other apart ∙ sym ((out_of slab key x here).others other apart);
+} where
+  within : Updates slab (with_value slab key y) key (Some y)
+  within = Updates-with_value slab key y (there slab key x here)
+
+taken_behind : {A : Type 0} (old mid new : Slab A) (key : ℕ) (x y : A) → get old key ≡ Some x → mid ≡ with_value old key y → Updates mid new key None → Updates old new key None
+taken_behind old mid new key x y here kept updates = record {
+  changed = updates.changed;
+  others = λ other apart. updates.others other apart ∙ (ap (λ s. get s other) kept ∙ (Updates-with_value old key y (there old key x here)).others other apart);
+}
+
+pub with_here : {A : Type 0} (slab : Slab A) (key : ℕ) (x y : A) → get slab key ≡ Some x → get (with_value slab key y) key ≡ Some y
+with_here slab key x y here = (Updates-with_value slab key y (there slab key x here)).changed
+
+-- a value that is written back as it was changes nothing
+pub same_slab : {A : Type 0} (slab : Slab A) (key : ℕ) (x : A) → get slab key ≡ Some x → with_value slab key x ≡ slab
+same_slab slab key x here = ap (λ slots. record slab { slots = slots }) (subst (λ slot. set slab.slots key slot ≡ slab.slots) here (set-get_or slab.slots key None))
 
 -- ---- numbers
 
@@ -288,33 +322,39 @@ module _ {T : Type 0} (remaining contents : T → Option (List ℕ)) (is_new : T
     pub turned_none : (old : Hub T) (slab : Slab (Opened T)) (s : S) (c : C) (was : Option (List (Departed T))) → slab ≡ old.connections → HasTurned remaining contents is_new refusal responds ticks old s c was (record { connections = slab; next = old.next }) s c was
     turned_none old slab s c was same = (0, [], [], (refl, refl), records_none was, tt, λ log left hub. rw (same, append-nil log) hub)
 
-    pub turned_put : (old new : Hub T) (slab : Slab (Opened T)) (key : ℕ) (one other : Opened T) (own : List Step) (s : S) (c : C) (t : S) (d : C) (was is : Option (List (Departed T)))
-        → Updates old.connections slab key None → get old.connections key ≡ Some one → other.number ≡ one.number
-        → ((steps : List Step) → IsLife remaining contents is_new refusal steps one.session → IsLife remaining contents is_new refusal (steps ++ own) other.session)
-        → AreSteps responds ticks s c own t d → IsPutBack other (record { connections = slab; next = old.next }) was new is
-        → HasTurned remaining contents is_new refusal responds ticks old s c was new t d is
-    turned_put old new slab key one other own s c t d was is updates here number lives steps (next, inl (end, leaves, same, records)) = (
-      one.number,
-      own,
-      record { number = other.number; session = other.session; cause = cause.Ended end } ∷ [],
-      steps,
-      records,
-      ((end, refl), tt),
-      λ log left hub. rw (same, next, number) (closed refusal (log ++ tag one.number own) left slab old.next one.number other.session (cause.Ended end)
-          (out_steps refusal log left slab old.next one.number own (out refusal log left old.connections slab old.next key one updates here hub))
-          (rw (steps_own log one.number own) (lives (steps_of one.number log) (hub.stands key one here))) leaves),
-    )
-    turned_put old new slab key one other own s c t d was is updates here number lives steps (next, inr (at, back, returns, free, back_number, back_session, known)) = (
+    -- the session under a key made steps, and stays
+    pub turned_kept : (old new : Hub T) (key : ℕ) (one back : Opened T) (s : S) (c : C) (t : S) (d : C) (was is : Option (List (Departed T)))
+        → get old.connections key ≡ Some one → new.connections ≡ with_value old.connections key back → back.number ≡ one.number → LivesOn remaining contents is_new refusal responds ticks one.session s c back.session t d
+        → new.next ≡ old.next → is ≡ was → HasTurned remaining contents is_new refusal responds ticks old s c was new t d is
+    turned_kept old new key one back s c t d was is here kept number (own, steps, lives) next known = (
       one.number,
       own,
       [],
       steps,
       rw known (records_none was),
       tt,
-      λ log left hub. rw next (back_at refusal (log ++ tag one.number own) left slab new.connections old.next one.number at back returns free (back_number ∙ number)
-          (rw (back_session, steps_own log one.number own) (lives (steps_of one.number log) (hub.stands key one here)))
-          (out_steps refusal log left slab old.next one.number own (out refusal log left old.connections slab old.next key one updates here hub))),
+      λ log left hub. rw (next, kept) (back_at refusal (log ++ tag one.number own) left (without old.connections key) (with_value old.connections key back) old.next one.number key back (out_back old.connections key one back here) (out_of old.connections key one here).changed number
+          (rw (steps_own log one.number own) (lives (steps_of one.number log) (hub.stands key one here)))
+          (out_steps refusal log left (without old.connections key) old.next one.number own (out refusal log left old.connections (without old.connections key) old.next key one (out_of old.connections key one here) here hub))),
     )
+
+    -- and left, as its turn ended it
+    pub turned_left : (old mid new : Hub T) (key : ℕ) (one back : Opened T) (end : Ended) (s : S) (c : C) (t : S) (d : C) (was is : Option (List (Departed T)))
+        → get old.connections key ≡ Some one → mid.connections ≡ with_value old.connections key back → back.number ≡ one.number → LivesOn remaining contents is_new refusal responds ticks one.session s c back.session t d
+        → mid.next ≡ old.next → HasLeft key end back mid was new is → HasTurned remaining contents is_new refusal responds ticks old s c was new t d is
+    turned_left old mid new key one back end s c t d was is here kept number (own, steps, lives) next left_so = (
+      one.number,
+      own,
+      record { number = back.number; session = back.session; cause = cause.Ended end } ∷ [],
+      steps,
+      left_so.recorded,
+      ((end, refl), tt),
+      λ log left hub. rw (left_so.next, next, number) (closed refusal (log ++ tag one.number own) left new.connections old.next one.number back.session (cause.Ended end)
+          (out_steps refusal log left new.connections old.next one.number own (out refusal log left old.connections new.connections old.next key one both here hub))
+          (rw (steps_own log one.number own) (lives (steps_of one.number log) (hub.stands key one here))) left_so.leaves),
+    ) where
+      both : Updates old.connections new.connections key None
+      both = taken_behind old.connections mid.connections new.connections key one back here kept left_so.updates
 
     pub keeps_first : (hub : Hub T) (s : S) (c : C) (was : Option (List (Departed T))) → hub.connections.slots ≡ [] → Keeps remaining contents is_new refusal responds ticks s c was hub s c was
     keeps_first hub s c was none = (

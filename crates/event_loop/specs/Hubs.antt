@@ -16,12 +16,12 @@ use Rattle.event_loop.specs.Log.{LoggedStep, all_steps, steps_of, tag}
 abbrev pub IsAt : {T : Type 0} → Slab (Opened T) → ℕ → Type 0
 IsAt slab number = (key : ℕ) × (one : Opened _) × (get slab key ≡ Some one) × (one.number ≡ number)
 
--- a session that was out is put back under a key that was free, or it left as its turn ended it
-abbrev pub IsPutBack : {T : Type 0} → Opened T → Hub T → Option (List (Departed T)) → Hub T → Option (List (Departed T)) → Type 0
-IsPutBack one old was new is =
-    (new.next ≡ old.next)
-    × (((end : Ended) × LeavesSo (cause.Ended end) one.session.connection × (new.connections ≡ old.connections) × Records was is (record { number = one.number; session = one.session; cause = cause.Ended end } ∷ []))
-    ⊎ ((at : ℕ) × (back : Opened _) × Updates old.connections new.connections at (Some back) × (get old.connections at ≡ None) × (back.number ≡ one.number) × (back.session ≡ one.session) × (is ≡ was)))
+-- the session under a key left, as its turn ended it
+pub record HasLeft {T : Type 0} (key : ℕ) (end : Ended) (one : Opened T) (old : Hub T) (was : Option (List (Departed T))) (new : Hub T) (is : Option (List (Departed T))) : Type 0 where
+  pub next : new.next ≡ old.next
+  pub updates : Updates old.connections new.connections key None
+  pub leaves : LeavesSo (cause.Ended end) one.session.connection
+  pub recorded : Records was is (record { number = one.number; session = one.session; cause = cause.Ended end } ∷ [])
 
 module _ {T : Type 0} (remaining contents : T → Option (List ℕ)) (is_new : T → Type 0) where
   -- the log has the steps of each session that is open or left, and of no other. Their numbers differ, and are below the next one

@@ -3,7 +3,8 @@ use Rattle.std.specs.Prelude.{◌≡◌, ◌≢◌, ◌⊎◌, ◌<◌, ℕ, Lis
 use Rattle.std.specs.Io.KnownBytes.{Appends, Consumes}
 use Rattle.http_messages.specs.declared.front.Fault.{Fault}
 use Rattle.http_turns.specs.Sessions.{SessionData, IsFinished, ReadsOn}
-use Rattle.http_turns.specs.Steps.{Step}
+use Rattle.http_turns.specs.Requests.{HttpRequestData}
+use Rattle.http_turns.specs.Steps.{Step, AreSteps}
 use Rattle.http_turns.specs.Turns.{Reaches}
 use Rattle.event_loop.specs.Log.{LoggedStep, steps_of}
 use Rattle.event_loop.specs.Departures.{Departed, LeavesSo}
@@ -35,6 +36,11 @@ module _ {T : Type 0} (remaining contents : T → Option (List ℕ)) where
     abbrev pub AreLives : List LoggedStep → List (Departed T) → Type 0
     AreLives log [] = ⊤
     AreLives log (one ∷ left) = IsLife (steps_of one.number log) one.session × LeavesSo one.cause one.session.connection × AreLives log left
+
+    -- the session made steps, from a state and a clock to these: what was its life before is its life now with these steps behind it
+    abbrev pub LivesOn : {S C : Type 0} → (S → ℕ → HttpRequestData → List ℕ → S → Type 0) → (C → ℕ → C → Type 0) → SessionData T → S → C → SessionData T → S → C → Type 0
+    LivesOn responds ticks before state clock session after later =
+        (own : List Step) × AreSteps responds ticks state clock own after later × ((steps : List Step) → IsLife steps before → IsLife (steps ++ own) session)
 
 -- ---- their numbers
 

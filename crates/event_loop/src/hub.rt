@@ -1,16 +1,16 @@
 //! The open sessions of a worker.
-ghost use Rattle.std.specs.Prelude.{◌≡◌};
-ghost use Rattle.slab.specs.Slab.{HasRoomFor};
+ghost use Rattle.std.specs.Prelude.{◌≡◌, Some};
+ghost use Rattle.slab.specs.Slab.{get};
 ghost use Rattle.http_turns.specs.Connections.{new_connection};
-ghost use Rattle.event_loop.specs.Departures.{LeavesSo, ClosesAs};
-ghost use Rattle.event_loop.specs.Hubs.{HasTended, HasTurned, IsPutBack};
+ghost use Rattle.event_loop.specs.Departures.{LeavesSo};
+ghost use Rattle.event_loop.specs.Hubs.{HasLeft, HasTended, HasTurned};
 
 use crate::departing::{Cause, Departures};
 use crate::due::Due;
 use crate::limits::SharedCounts;
 use crate::listening::Accepted;
 use crate::opened::{Opened, Served};
-use http_turns::{Clock, Intake, Responder, Session};
+use http_turns::{Clock, Ended, Intake, Responder, Session};
 use slab::Slab;
 use std::alloc::Global;
 
@@ -38,52 +38,34 @@ impl<T> Hub<T> {
     pub(crate) fn count(&self) -> u64 {
         self.connections.len() as u64
     }
-
-    /// Whether the session under a key is to be given a further turn without an event.
-    pub(crate) fn goes_on(&self, key: usize) -> bool {
-        match self.connections.get(key) {
-            Some(one) => one.goes_on,
-            None => false,
-        }
-    }
 }
 
-/// Puts a session back behind its turn, or lets it leave as the turn ended it. One that has more to do at once is due.
-fn put_back<T: Accepted, D: Departures<T>>(
+/// Lets the session under a key leave, as its turn ended it.
+fn leave_ended<T: Accepted, D: Departures<T>>(
     hub: &mut Hub<T>,
     shared: &SharedCounts,
     departures: &mut D,
-    due: &mut Due,
     key: usize,
-    mut one: Opened<T>,
-    served: Served,
+    end: Ended,
 )
-    requires room { HasRoomFor hub.old.connections 1 }
-    requires ended { ClosesAs served (λ end. LeavesSo (Cause.Ended end) one.session.connection) }
-    ensures { IsPutBack one hub.old (D.departed departures.old) hub.new (D.departed departures.new) }
+    requires ended { (one : Opened _) → get hub.old.connections key ≡ Some one → LeavesSo (Cause.Ended end) one.session.connection }
+    ensures { (one : Opened _) → get hub.old.connections key ≡ Some one → HasLeft key end one hub.old (D.departed departures.old) hub.new (D.departed departures.new) }
 {
-    one.goes_on = match served {
-        Served::Closed(end) => {
-            shared.leave();
-            departures.take(one.number, one.session, Cause::Ended(end));
-            return;
-        }
-        Served::Waits => false,
-        Served::GoesOn => {
-            due.add(key);
-            true
-        }
-    };
-    hub.connections.insert_reserved(one);
+    if let Some(one) = hub.connections.try_remove(key) {
+        shared.leave();
+        departures.take(one.number, one.session, Cause::Ended(end));
+    }
 }
 
 /// Gives the session under a key a turn, at a moment in milliseconds of the system's clock, or reads on behind its last
-/// answer. One that has more to do at once is due, and one that ended leaves.
+/// answer: where `is_due` is set, if it has more to do without an event, and else if it hasn't. One that then has more to
+/// do at once is due, and one that ended leaves.
 pub(crate) fn serve_key<T: Accepted, D: Departures<T>, S, P: Responder<S>, C: Clock>(
     hub: &mut Hub<T>,
     shared: &SharedCounts,
     departures: &mut D,
     key: usize,
+    is_due: bool,
     due: &mut Due,
     intake: &mut Intake,
     responder: &P,
@@ -93,42 +75,19 @@ pub(crate) fn serve_key<T: Accepted, D: Departures<T>, S, P: Responder<S>, C: Cl
 )
     ensures { HasTurned T.remaining T.contents T.is_new P.refusal P.responds C.ticks hub.old state.old clock.old (D.departed departures.old) hub.new state.new clock.new (D.departed departures.new) }
 {
-    let Some(mut one) = hub.connections.try_remove(key) else {
+    let Some(one) = hub.connections.get_mut(key) else {
         return;
     };
-    if let Some(pieces) = one.lingering
-        && one.session.is_finished()
-    {
-        let served = one.linger(pieces);
-        put_back(hub, shared, departures, due, key, one, served);
+    if one.goes_on != is_due {
         return;
     }
-    let turned = one.session.turn(intake, responder, state, clock);
-    let served = one.settle(turned, now);
-    put_back(hub, shared, departures, due, key, one, served);
-}
-
-/// Gives the session under a key a turn that is due, if it still is.
-pub(crate) fn serve_due<T: Accepted, D: Departures<T>, S, P: Responder<S>, C: Clock>(
-    hub: &mut Hub<T>,
-    shared: &SharedCounts,
-    departures: &mut D,
-    key: usize,
-    due: &mut Due,
-    intake: &mut Intake,
-    responder: &P,
-    state: &mut S,
-    clock: &mut C,
-    now: u64,
-)
-    ensures { HasTurned T.remaining T.contents T.is_new P.refusal P.responds C.ticks hub.old state.old clock.old (D.departed departures.old) hub.new state.new clock.new (D.departed departures.new) }
-{
-    if !hub.goes_on(key) {
-        return;
+    let served = one.serve(intake, responder, state, clock, now);
+    one.goes_on = served == Served::GoesOn;
+    match served {
+        Served::Waits => {}
+        Served::GoesOn => due.add(key),
+        Served::Closed(end) => leave_ended(hub, shared, departures, key, end),
     }
-    serve_key(
-        hub, shared, departures, key, due, intake, responder, state, clock, now,
-    );
 }
 
 /// Takes a session in, under the key that is free next. The place that it took among those of all workers is given back

@@ -1,12 +1,13 @@
 //! A connection that is open.
 ghost use Rattle.std.specs.Prelude.{◌≡◌};
 ghost use Rattle.event_loop.specs.Departures.{LeavesSo, ClosesAs};
-ghost use Rattle.event_loop.specs.Lives.{Lingers};
+ghost use Rattle.event_loop.specs.Lives.{Lingers, LivesOn};
 
 use crate::departing::Cause;
 use crate::linger::{Lingering, MOST_PIECES, read_on};
+use crate::listening::Accepted;
 use crate::patience::{MOST_LINGERING, idle_deadline, patience};
-use http_turns::{Ended, Phase, Session, Turned};
+use http_turns::{Clock, Ended, Intake, Phase, Responder, Session, Turned};
 use polled_io::Stream;
 use std::alloc::Global;
 
@@ -176,5 +177,30 @@ impl<T: Stream> Opened<T> {
             Turned::Ended(Ended::Finished) => self.begin_to_linger(now),
             Turned::Ended(end) => Served::Closed(end),
         }
+    }
+}
+
+impl<T: Accepted> Opened<T> {
+    /// Gives it a turn, at a moment in milliseconds of the system's clock, or reads on behind its last answer. Answers what
+    /// becomes of it.
+    pub(crate) fn serve<S, P: Responder<S>, C: Clock>(
+        &mut self,
+        intake: &mut Intake,
+        responder: &P,
+        state: &mut S,
+        clock: &mut C,
+        now: u64,
+    ) -> Served
+        ensures number { self.new.number ≡ self.old.number }
+        ensures session { LivesOn T.remaining T.contents T.is_new P.refusal P.responds C.ticks self.old.session state.old clock.old self.new.session state.new clock.new }
+        ensures closed { ClosesAs result (λ end. LeavesSo (Cause.Ended end) self.new.session.connection) }
+    {
+        if let Some(pieces) = self.lingering
+            && self.session.is_finished()
+        {
+            return self.linger(pieces);
+        }
+        let turned = self.session.turn(intake, responder, state, clock);
+        self.settle(turned, now)
     }
 }

@@ -9,7 +9,7 @@ use crate::accepting::{Accepting, LISTENER, accept_next};
 use crate::departing::Departures;
 use crate::due::Due;
 use crate::failure::ListenerFailed;
-use crate::hub::{Hub, serve_due, serve_key, sweep};
+use crate::hub::{Hub, serve_key, sweep};
 use crate::limits::{Limits, SharedCounts};
 use crate::listening::{Accepted, Listener};
 use http_turns::{Clock, Intake, Responder};
@@ -186,12 +186,13 @@ fn serve_all<
             let Token(key) = event.token();
             if event.token() == LISTENER {
                 accepting.wake();
-            } else if !hub.goes_on(key) {
+            } else {
                 serve_key(
                     hub,
                     shared,
                     departures,
                     key,
+                    false,
                     &mut further,
                     &mut tools.intake,
                     responder,
@@ -202,11 +203,12 @@ fn serve_all<
             }
         }
         'keys: for behind in 0..due.count(hub.connections.capacity()) {
-            serve_due(
+            serve_key(
                 hub,
                 shared,
                 departures,
                 due.key(behind),
+                true,
                 &mut further,
                 &mut tools.intake,
                 responder,

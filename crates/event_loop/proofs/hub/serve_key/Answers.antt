@@ -1,45 +1,30 @@
-use Rattle.std.proofs.Common.{[], ◌++◌, ◌≡◌, refl, rules, sym, subst}
-use Rattle.std.proofs.lemmas.List.{append-nil}
-use Rattle.http_turns.specs.declared.ended.Ended.TheVariants as ended
-use Rattle.http_turns.specs.declared.turned.Turned.TheVariants as turned
-use Rattle.http_turns.specs.Ends.{IsTurned}
-use Rattle.event_loop.specs.declared.departing.Cause.TheVariants as cause
-use Rattle.event_loop.specs.Departures.{LeavesSo}
-use Rattle.event_loop.proofs.Keeping.{turned_none, turned_put}
-use Rattle.event_loop.proofs.Living.{closes_on, leaves_by, life_linger, life_turn}
+use Rattle.std.proofs.Common.{◌≡◌, Some, refl, sym}
+use Rattle.slab.specs.Slab.{get, with_value}
+use Rattle.event_loop.proofs.Keeping.{same_slab, turned_kept, turned_left, turned_none, with_here}
 use Rattle.event_loop.proofs.hub.serve_key.Goals as goal
 
-pub put_back-requires-clause-ended : goal.put_back-requires-clause-ended
-put_back-requires-clause-ended g c =
-    let finished = c.if-is_finished.ensures.0 refl in
-    closes_on c.linger-served.result (λ end. end ≡ ended.Finished) (λ end. LeavesSo (cause.Ended end) c.linger-served.new.self.session.connection)
-    (λ end is. subst (λ e. LeavesSo (cause.Ended e) c.linger-served.new.self.session.connection) (sym is) (subst (λ k. LeavesSo (cause.Ended ended.Finished) k) (sym c.linger-served.ensures.session.0) finished))
-    c.linger-served.ensures.closed
-
-pub put_back-requires-2-clause-ended : goal.put_back-requires-2-clause-ended
-put_back-requires-2-clause-ended g c =
-    closes_on c.settle-served.result (λ end. c.turn-turned.result ≡ turned.Ended end) (λ end. LeavesSo (cause.Ended end) c.settle-served.new.self.session.connection)
-    (λ end is. subst (λ k. LeavesSo (cause.Ended end) k) (sym c.settle-served.ensures.session.0)
-    (leaves_by end c.turn-turned.new.self.connection (g.T.Stream.remaining c.turn-turned.new.self.wire.inner) c.in-Some.one.session.wire.reads c.turn-turned.new.self.wire.reads c.in-Some.one.session.wire.writes c.turn-turned.new.self.wire.writes
-    (subst (λ t. IsTurned t c.turn-turned.new.self.connection (g.T.Stream.remaining c.turn-turned.new.self.wire.inner) c.in-Some.one.session.wire.reads c.turn-turned.new.self.wire.reads c.in-Some.one.session.wire.writes c.turn-turned.new.self.wire.writes) is c.turn-turned.ensures.turned)))
-    c.settle-served.ensures.closed
-
-pub returns : goal.returns
-returns g c =
-    turned_put g.T.Stream.remaining g.T.Stream.contents g.T.Accepted.is_new g.P.Responder.refusal g.P.Responder.responds g.C.Clock.ticks c.args.hub.now c.put_back.new.hub c.try_remove.new.self c.args.key c.in-Some.one c.linger-served.new.self [] c.args.state.now c.args.clock.now c.args.state.now c.args.clock.now
-    (g.D.Departures.departed c.args.departures.now) (g.D.Departures.departed c.put_back.new.departures) c.try_remove.ensures.updates (sym c.in-Some.ensures.value) c.linger-served.ensures.number
-    (λ steps life. rw (append-nil steps) (life_linger g.T.Stream.remaining g.T.Stream.contents g.T.Accepted.is_new g.P.Responder.refusal steps c.in-Some.one.session c.linger-served.new.self.session life c.linger-served.ensures.session))
-    (refl, refl) c.put_back.ensures
-
-pub returns-2 : goal.returns-2
-returns-2 g c =
-    let (exchange, is) = c.turn-turned.ensures.gone in
-    turned_put g.T.Stream.remaining g.T.Stream.contents g.T.Accepted.is_new g.P.Responder.refusal g.P.Responder.responds g.C.Clock.ticks c.args.hub.now c.put_back-2.new.hub c.try_remove.new.self c.args.key c.in-Some.one c.settle-served.new.self exchange.steps c.args.state.now c.args.clock.now c.turn-turned.new.state c.turn-turned.new.clock
-    (g.D.Departures.departed c.args.departures.now) (g.D.Departures.departed c.put_back-2.new.departures) c.try_remove.ensures.updates (sym c.in-Some.ensures.value) c.settle-served.ensures.number
-    (λ steps life. life_linger g.T.Stream.remaining g.T.Stream.contents g.T.Accepted.is_new g.P.Responder.refusal (steps ++ exchange.steps) c.turn-turned.new.self c.settle-served.new.self.session
-    (life_turn g.T.Stream.remaining g.T.Stream.contents g.T.Accepted.is_new g.P.Responder.refusal g.P.Responder.responds g.C.Clock.ticks steps c.in-Some.one.session c.turn-turned.new.self c.args.state.now c.args.clock.now c.turn-turned.new.state c.turn-turned.new.clock exchange life is)
-    c.settle-served.ensures.session)
-    is.1 c.put_back-2.ensures
-
 pub returns-in_default : goal.returns-in_default
-returns-in_default g c = turned_none g.T.Stream.remaining g.T.Stream.contents g.T.Accepted.is_new g.P.Responder.refusal g.P.Responder.responds g.C.Clock.ticks c.args.hub.now c.try_remove.new.self c.args.state.now c.args.clock.now (g.D.Departures.departed c.args.departures.now) (search rules)
+returns-in_default g c = turned_none g.T.Stream.remaining g.T.Stream.contents g.T.Accepted.is_new g.P.Responder.refusal g.P.Responder.responds g.C.Clock.ticks c.args.hub.now c.args.hub.now.connections c.args.state.now c.args.clock.now (g.D.Departures.departed c.args.departures.now) refl
+
+pub returns-then-one-is_due : goal.returns-then-one-is_due
+returns-then-one-is_due g c =
+    turned_none g.T.Stream.remaining g.T.Stream.contents g.T.Accepted.is_new g.P.Responder.refusal g.P.Responder.responds g.C.Clock.ticks c.args.hub.now (with_value c.args.hub.now.connections c.args.key c.in-Some.one.now) c.args.state.now c.args.clock.now (g.D.Departures.departed c.args.departures.now)
+    (same_slab c.args.hub.now.connections c.args.key c.in-Some.one.now (sym c.in-Some.ensures.value))
+
+pub returns-in-Waits : goal.returns-in-Waits
+returns-in-Waits g c =
+    turned_kept g.T.Stream.remaining g.T.Stream.contents g.T.Accepted.is_new g.P.Responder.refusal g.P.Responder.responds g.C.Clock.ticks c.args.hub.now (record { connections = with_value c.args.hub.now.connections c.args.key _; next = c.args.hub.now.next }) c.args.key c.in-Some.one.now _
+    c.args.state.now c.args.clock.now c.serve-served.new.state c.serve-served.new.clock (g.D.Departures.departed c.args.departures.now) (g.D.Departures.departed c.args.departures.now) (sym c.in-Some.ensures.value) refl c.serve-served.ensures.number c.serve-served.ensures.session refl refl
+
+pub returns-in-GoesOn : goal.returns-in-GoesOn
+returns-in-GoesOn g c =
+    turned_kept g.T.Stream.remaining g.T.Stream.contents g.T.Accepted.is_new g.P.Responder.refusal g.P.Responder.responds g.C.Clock.ticks c.args.hub.now (record { connections = with_value c.args.hub.now.connections c.args.key _; next = c.args.hub.now.next }) c.args.key c.in-Some.one.now _
+    c.args.state.now c.args.clock.now c.serve-served.new.state c.serve-served.new.clock (g.D.Departures.departed c.args.departures.now) (g.D.Departures.departed c.args.departures.now) (sym c.in-Some.ensures.value) refl c.serve-served.ensures.number c.serve-served.ensures.session refl refl
+
+pub returns-in-Closed : goal.returns-in-Closed
+returns-in-Closed g c =
+    let here : get c.args.hub.now.connections c.args.key ≡ Some c.in-Some.one.now = sym c.in-Some.ensures.value in
+    let back = record c.serve-served.new.self { goes_on = c.eq-one.result } in
+    turned_left g.T.Stream.remaining g.T.Stream.contents g.T.Accepted.is_new g.P.Responder.refusal g.P.Responder.responds g.C.Clock.ticks c.args.hub.now (record { connections = with_value c.args.hub.now.connections c.args.key back; next = c.args.hub.now.next }) c.leave_ended.new.hub c.args.key c.in-Some.one.now back c.in-Closed.end
+    c.args.state.now c.args.clock.now c.serve-served.new.state c.serve-served.new.clock (g.D.Departures.departed c.args.departures.now) (g.D.Departures.departed c.leave_ended.new.departures) here refl c.serve-served.ensures.number c.serve-served.ensures.session refl
+    (c.leave_ended.ensures back (with_here c.args.hub.now.connections c.args.key c.in-Some.one.now back here))

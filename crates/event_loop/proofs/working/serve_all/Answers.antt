@@ -6,13 +6,13 @@ use Rattle.event_loop.proofs.working.serve_all.Goals as goal
 pub rounds-init : goal.rounds-init
 rounds-init g c = keeps_first g.T.Stream.remaining g.T.Stream.contents g.T.Accepted.is_new g.P.Responder.refusal g.P.Responder.responds g.C.Clock.ticks c.args.hub.now c.args.state.now c.args.clock.now (g.D.Departures.departed c.args.departures.now) c.requires
 
-pub events-preserved-then-not-goes_on : goal.events-preserved-then-not-goes_on
-events-preserved-then-not-goes_on g c =
+pub events-preserved : goal.events-preserved
+events-preserved g c =
     keeps_turned g.T.Stream.remaining g.T.Stream.contents g.T.Accepted.is_new g.P.Responder.refusal g.P.Responder.responds g.C.Clock.ticks c.args.state.now c.args.clock.now (g.D.Departures.departed c.args.departures.now) c.events.hub c.serve_key.new.hub c.events.state c.events.clock c.serve_key.new.state c.serve_key.new.clock (g.D.Departures.departed c.events.departures) (g.D.Departures.departed c.serve_key.new.departures) c.events.invariant c.serve_key.ensures
 
 pub keys-preserved : goal.keys-preserved
 keys-preserved g c =
-    keeps_turned g.T.Stream.remaining g.T.Stream.contents g.T.Accepted.is_new g.P.Responder.refusal g.P.Responder.responds g.C.Clock.ticks c.args.state.now c.args.clock.now (g.D.Departures.departed c.args.departures.now) c.keys.hub c.serve_due.new.hub c.keys.state c.keys.clock c.serve_due.new.state c.serve_due.new.clock (g.D.Departures.departed c.keys.departures) (g.D.Departures.departed c.serve_due.new.departures) c.keys.invariant c.serve_due.ensures
+    keeps_turned g.T.Stream.remaining g.T.Stream.contents g.T.Accepted.is_new g.P.Responder.refusal g.P.Responder.responds g.C.Clock.ticks c.args.state.now c.args.clock.now (g.D.Departures.departed c.args.departures.now) c.keys.hub c.serve_key-in-keys.new.hub c.keys.state c.keys.clock c.serve_key-in-keys.new.state c.serve_key-in-keys.new.clock (g.D.Departures.departed c.keys.departures) (g.D.Departures.departed c.serve_key-in-keys.new.departures) c.keys.invariant c.serve_key-in-keys.ensures
 
 pub rounds-preserved-then-now-swept : goal.rounds-preserved-then-now-swept
 rounds-preserved-then-now-swept g c =
