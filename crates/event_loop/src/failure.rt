@@ -6,8 +6,8 @@ ghost use Rattle.event_loop.specs.Failures.{failure_of, is_listener_error};
 use std::fmt::{Display, Formatter};
 use std::{fmt, io};
 
-/// A listener accepts no more connections. Its text says why, as the system does. It is made of an error of accepting alone
-/// (`from_error`).
+/// A listener accepts no more connections. Its text says why, as the system does. The event loop alone makes one, of an
+/// error of accepting: a crate above can only pass on what `work` answers.
 #[derive(Clone, Copy, Debug, PartialEq, Eq)]
 pub struct ListenerFailed {
     /// The number of the system's error (`errno`).
@@ -36,7 +36,7 @@ fn is_listener_error(code: i32) -> bool
 impl ListenerFailed {
     /// Returns the failure where an error of accepting lies in the listener. Each other error may pass, as too few
     /// file descriptors or too little memory, or lies in the one connection.
-    pub fn from_error(error: &io::Error) -> Option<ListenerFailed>
+    pub(crate) fn from_error(error: &io::Error) -> Option<ListenerFailed>
         // Just the errors of the system that lie in the listener are failures, each with its own number.
         ensures { result ≡ failure_of (raw_os_error error.now) }
     {

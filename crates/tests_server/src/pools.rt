@@ -115,18 +115,33 @@ where
     (listener, address)
 }
 
-/// The failure of a listener that doesn't listen (EINVAL).
-fn deafness() -> Option<ListenerFailed> {
-    ListenerFailed::from_error(&io::Error::from_raw_os_error(22))
+/// Whether this is the failure of a listener that doesn't listen (EINVAL), by its text.
+fn is_deafness(rt: &impl Abort, alloc: Global, failure: Option<ListenerFailed>) -> bool {
+    let Some(failure) = failure else {
+        return false;
+    };
+    let error = io::Error::from_raw_os_error(22);
+    let wanted = format!(in alloc; "the listener accepts no more connections: {error}");
+    let told = format!(in alloc; "{failure}").expect(rt, "ample memory");
+    told == wanted.expect(rt, "ample memory")
 }
 
 /// How many workers met that failure.
-fn failures(workers: &[Worker<Books, Readings>]) -> usize {
-    let is_deaf = deafness();
-    workers
-        .iter()
-        .filter(|worker| worker.failure == is_deaf)
-        .count()
+fn failures(rt: &impl Abort, alloc: Global, workers: &[Worker<Books, Readings>]) -> u64 {
+    let mut met: u64 = 0;
+    for worker in workers {
+        if is_deafness(rt, alloc, worker.failure) {
+            met = met.saturating_add(1);
+        }
+    }
+    met
+}
+
+/// No worker met a failure.
+fn none_failed(rt: &impl Abort, workers: &[Worker<Books, Readings>]) {
+    for worker in workers {
+        same(rt, worker.failure, None);
+    }
 }
 
 /// A socket that doesn't listen, since it is an end of a connection, and its other end.
@@ -163,7 +178,7 @@ fn workers_share_the_connections(rt: HostRuntime) {
     assert_eq!(rt; workers.len(), 3);
     let workers = pool(rt, alloc, &listener, 8, workers).expect(rt, "a pool");
     same(rt, workers.len(), 3);
-    same(rt, failures(&workers), 0);
+    none_failed(rt, &workers);
     have_answered(rt, &workers, 8);
     are_answered(rt, alloc, &streams, "\"version\":1}");
     one_is_left(rt, alloc, &listener);
@@ -186,7 +201,7 @@ where
     assert_eq!(rt; workers.len(), 2);
     let workers = pool(rt, alloc, &listener, connections, workers).expect(rt, "a pool");
     same(rt, workers.len(), 2);
-    same(rt, failures(&workers), 2);
+    same(rt, failures(rt, alloc, &workers), 2);
     have_answered(rt, &workers, 0);
 }
 
@@ -210,7 +225,7 @@ where
         most_open: DEFAULT_OPEN,
     };
     let ended = serve_connections(rt, alloc, &listener, limits, &mut books, &mut clock);
-    same(rt, ended.err(), deafness());
+    same(rt, is_deafness(rt, alloc, ended.err()), true);
     same(rt, (entries(&books), clock.times), (0, 0));
 }
 
