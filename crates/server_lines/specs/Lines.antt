@@ -71,52 +71,52 @@ IsServerCause status.WriteFailed before after = after ≡ one_more before
 IsServerCause status.FlushFailed before after = after ≡ one_more before
 IsServerCause other before after = after ≡ before
 
--- the server listens: the line of the address that was bound was printed
-abbrev pub IsListening : Option (List ℕ) → Option (List ℕ) → Type 0
-IsListening before after = (address : SocketAddr) × Appends before after (listening_line address)
-
 -- the address that is printed where this one is to be listened on: the same, but that a port of 0 lets the system choose one
 pub record IsAddressFor (wanted printed : SocketAddr) : Type 0 where
   pub ip : socket_ip printed ≡ socket_ip wanted
   pub scope : socket_scope_id printed ≡ socket_scope_id wanted
   pub port : socket_port wanted ≢ 0 → socket_port printed ≡ socket_port wanted
 
+-- the server listens: the line of an address that it may tell was printed
+abbrev pub IsListening : (SocketAddr → Type 0) → Option (List ℕ) → Option (List ℕ) → Type 0
+IsListening Told before after = (printed : SocketAddr) × Told printed × Appends before after (listening_line printed)
+
 -- the server listens as it was to: the line of this address was printed, with the port that the system chose where it has none
 abbrev pub IsListeningAt : SocketAddr → Option (List ℕ) → Option (List ℕ) → Type 0
-IsListeningAt wanted before after = (printed : SocketAddr) × IsAddressFor wanted printed × Appends before after (listening_line printed)
+IsListeningAt wanted before after = IsListening (IsAddressFor wanted) before after
 
--- what a server has written that was cut short. Usable says that its file can be used, and Refused which refusals it may print
-module _ (Usable : Type 0) (Refused : RefusalNumber → Type 0) where
+-- what a server has written that was cut short. Told says which addresses it may tell, and Refused which refusals it may print
+module _ (Told : SocketAddr → Type 0) (Refused : RefusalNumber → Type 0) where
   -- a beginning of the line of an address, or of the line of a refusal, and not all of it
   abbrev pub IsLineBegun : Option (List ℕ) → Option (List ℕ) → Type 0
   IsLineBegun before after =
-      (Usable × ((address : SocketAddr) × AppendsProperPart before after (listening_line address)))
+      ((printed : SocketAddr) × Told printed × AppendsProperPart before after (listening_line printed))
       ⊎ ((number : RefusalNumber) × Refused number × AppendsProperPart before after (refused_line number))
 
   -- the whole of such a line
   abbrev pub IsLineWhole : Option (List ℕ) → Option (List ℕ) → Type 0
   IsLineWhole before after =
-      (Usable × IsListening before after)
+      IsListening Told before after
       ⊎ ((number : RefusalNumber) × Refused number × Appends before after (refused_line number))
 
   -- where a write failed a line was begun; where it couldn't be flushed it was written whole; and memory runs out before anything was written, or behind the line of the address
   abbrev pub IsCutShort : ServerStatus → Option (List ℕ) → Option (List ℕ) → Type 0
   IsCutShort status.WriteFailed before after = IsLineBegun before after
   IsCutShort status.FlushFailed before after = IsLineWhole before after
-  IsCutShort status.OutOfMemory before after = (after ≡ before) ⊎ (Usable × IsListening before after)
+  IsCutShort status.OutOfMemory before after = (after ≡ before) ⊎ IsListening Told before after
   IsCutShort other before after = ⊤
 
 -- the only refusal of a file that can be used
 abbrev pub IsAddressRefusal : RefusalNumber → Type 0
 IsAddressRefusal number = number ≡ refusal.Listen
 
--- what was printed by a server that doesn't come to listen: the refusal of its address, or a part of its one line, or nothing
-abbrev pub IsUnheard : ServerStatus → Option (List ℕ) → Option (List ℕ) → Type 0
-IsUnheard (status.Refused number) before after = IsAddressRefusal number × Appends before after (refused_line number)
-IsUnheard status.WriteFailed before after = IsLineBegun ⊤ IsAddressRefusal before after
-IsUnheard status.FlushFailed before after = IsLineWhole ⊤ IsAddressRefusal before after
-IsUnheard status.OutOfMemory before after = after ≡ before
-IsUnheard other before after = ⊥
+-- what was printed by a server that was to listen on this address and doesn't come to: the refusal of the address, or a part of its one line, or nothing
+abbrev pub IsUnheard : SocketAddr → ServerStatus → Option (List ℕ) → Option (List ℕ) → Type 0
+IsUnheard wanted (status.Refused number) before after = IsAddressRefusal number × Appends before after (refused_line number)
+IsUnheard wanted status.WriteFailed before after = IsLineBegun (IsAddressFor wanted) IsAddressRefusal before after
+IsUnheard wanted status.FlushFailed before after = IsLineWhole (IsAddressFor wanted) IsAddressRefusal before after
+IsUnheard wanted status.OutOfMemory before after = after ≡ before
+IsUnheard wanted other before after = ⊥
 
 abbrev pub code_of : ServerStatus → ℕ
 code_of status.Done = 0

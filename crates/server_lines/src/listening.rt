@@ -1,7 +1,7 @@
 //! Listening on an address.
 ghost use Rattle.std.specs.Prelude.{◌≡◌, IfErr, OnOk};
 ghost use Rattle.refusals.specs.declared.RefusalNumber.TheVariants.{Listen};
-ghost use Rattle.server_lines.specs.Lines.{IsAddressFor, IsListening, IsListeningAt, IsUnheard, IsRefused, IsQuiet, IsServerCause, status_of};
+ghost use Rattle.server_lines.specs.Lines.{IsAddressFor, IsListeningAt, IsUnheard, IsRefused, IsQuiet, IsServerCause, status_of};
 
 use crate::lines::{print, refuse, refuse_for};
 use crate::status::ServerStatus;
@@ -66,13 +66,12 @@ pub fn listen<R, O: Write, E: Write>(
 ) -> Result<TcpListener, ServerStatus>
 where
     R: Net<Listener = TcpListener, Stream = TcpStream>,
-    // Where it listens, the line of some address was printed, and nothing on `err`.
-    ensures listening { OnOk result (IsListening (O.contents out.old.inner) (O.contents out.new.inner)) }
-    // It is that of the address that was given, with the port that the system chose where that has port 0.
-    ensures address { OnOk result (IsListeningAt address (O.contents out.old.inner) (O.contents out.new.inner)) }
+    // Where it listens, the line of the address that was given was printed, with the port that the system chose where
+    // that has port 0; and nothing on `err`.
+    ensures listening { OnOk result (IsListeningAt address (O.contents out.old.inner) (O.contents out.new.inner)) }
     ensures heard { OnOk result (err.new ≡ err.old) }
     // Where it doesn't, the refusal of the address was printed, or a part of its line or of the other one, or nothing.
-    ensures unheard { IfErr result (λ status. IsUnheard status (O.contents out.old.inner) (O.contents out.new.inner)) }
+    ensures unheard { IfErr result (λ status. IsUnheard address status (O.contents out.old.inner) (O.contents out.new.inner)) }
     ensures quiet { IsQuiet (status_of result) (E.contents err.old.inner) (E.contents err.new.inner) }
     // A failed write and a failed flush are answered where that count went up by one, and in no other case.
     ensures cause { IsServerCause (status_of result) out.old.failures out.new.failures }

@@ -2,7 +2,7 @@
 ghost use Rattle.std.specs.Prelude.{◌≡◌, ◌≤◌, map, vec_len, IfOk, IfErr};
 ghost use Rattle.service_file.specs.Settled.{HasCounts};
 ghost use Rattle.server_lines.specs.Lines.{IsServerCause, IsQuiet};
-ghost use Rattle.sidecar_server.specs.Server.{IsServerOutput, IsServing, IsOver, end_of};
+ghost use Rattle.sidecar_server.specs.Server.{IsServerOutput, IsServing, IsOver, ended_by, end_of};
 ghost use Rattle.http_desk.specs.Seated.{seated};
 ghost use Rattle.sidecar_server.specs.Slotted.{workers_of};
 ghost use Rattle.sidecar_server.specs.Served.{seats_of, services_of, seats_with, counts_of, AreClosed, HasServedAtDesk};
@@ -129,7 +129,8 @@ pub(crate) fn serve_at_desk<
     ensures served { IfOk result (λ end. HasServedAtDesk C.ticks settings clock end.books.items end.counts.items) }
     ensures unserved { IfErr result (λ status. IsServing status → ⊥) }
     ensures over { IsOver (end_of result) settings.connections }
-    ensures ended { IsServerOutput (end_of result) (O.contents out.old.inner) (O.contents out.new.inner) }
+    ensures failed { IfOk result (λ end. end.status ≡ ended_by end.failure) }
+    ensures ended { IsServerOutput settings.listen (end_of result) (O.contents out.old.inner) (O.contents out.new.inner) }
     ensures quiet { IsQuiet (end_of result) (E.contents err.old.inner) (E.contents err.new.inner) }
     ensures cause { IsServerCause (end_of result) out.old.failures out.new.failures }
 {

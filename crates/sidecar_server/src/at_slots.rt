@@ -5,7 +5,7 @@ ghost use Rattle.service_file.specs.Settled.{HasCounts};
 ghost use Rattle.slot_desk.specs.Seats.{IsSeatOf};
 ghost use Rattle.http_slots.specs.Seated.{seated};
 ghost use Rattle.server_lines.specs.Lines.{IsServerCause, IsQuiet};
-ghost use Rattle.sidecar_server.specs.Server.{IsServerOutput, IsServing, IsOver, end_of};
+ghost use Rattle.sidecar_server.specs.Server.{IsServerOutput, IsServing, IsOver, ended_by, end_of};
 ghost use Rattle.sidecar_server.specs.Slotted.{slot_seats_of, workers_of, slot_seats_with, slot_counts_of, AreClosedSlots, HasServedAtSlots};
 
 use crate::opening::opened_by;
@@ -117,7 +117,8 @@ pub(crate) fn serve_at_slots<
     ensures served { IfOk result (λ end. HasServedAtSlots C.ticks settings clock end.books.items end.counts.items) }
     ensures unserved { IfErr result (λ status. IsServing status → ⊥) }
     ensures over { IsOver (end_of result) settings.connections }
-    ensures ended { IsServerOutput (end_of result) (O.contents out.old.inner) (O.contents out.new.inner) }
+    ensures failed { IfOk result (λ end. end.status ≡ ended_by end.failure) }
+    ensures ended { IsServerOutput settings.listen (end_of result) (O.contents out.old.inner) (O.contents out.new.inner) }
     ensures quiet { IsQuiet (end_of result) (E.contents err.old.inner) (E.contents err.new.inner) }
     ensures cause { IsServerCause (end_of result) out.old.failures out.new.failures }
 {

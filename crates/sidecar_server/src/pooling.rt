@@ -47,7 +47,7 @@ pub(crate) fn serve_by_pool<
     ensures worked { IfOk result (λ back. HaveWorked A.place_of A.answers C.ticks workers.items back.0.items) }
     ensures over { IfOk result (λ back. back.1 ≡ None → ends limits.connections) }
     ensures unserved { IfErr result (λ status. IsServing status → ⊥) }
-    ensures ended { IsServerOutput (status_of result) (O.contents out.old.inner) (O.contents out.new.inner) }
+    ensures ended { IsServerOutput address (status_of result) (O.contents out.old.inner) (O.contents out.new.inner) }
     ensures quiet { IsQuiet (status_of result) (E.contents err.old.inner) (E.contents err.new.inner) }
     ensures cause { IsServerCause (status_of result) out.old.failures out.new.failures }
 {

@@ -1,10 +1,10 @@
 //! The command `serve`.
-ghost use Rattle.std.specs.Prelude.{◌≡◌, ℕ, List, [], None, IfOk, IfErr, ⊤};
+ghost use Rattle.std.specs.Prelude.{◌≡◌, ℕ, List, [], None, IfOk, IfErr, IsSome, ⊤};
 ghost use Rattle.std.specs.Io.KnownBytes.{Appends};
 ghost use Rattle.refusals.specs.declared.RefusalNumber.TheVariants.{BadConfig};
 ghost use Rattle.service_file.specs.Settled.{HasCounts};
 ghost use Rattle.server_lines.specs.Lines.{refused_line, IsCutShort, IsRefused, IsServerCause, IsQuiet};
-ghost use Rattle.sidecar_server.specs.Server.{IsUsable, IsFileRefused, IsServerRefusal, IsServerOutput, IsServing, IsOver, HasServedFile, ended_by, end_of};
+ghost use Rattle.sidecar_server.specs.Server.{IsAddressOf, IsFileRefused, IsServerRefusal, IsServerOutput, IsServing, IsOver, HasServedFile, ended_by, end_of};
 ghost use Rattle.sidecar_server.specs.Served.{HasServedAlone, HasServedBy};
 
 use crate::at_desk::serve_at_desk;
@@ -32,6 +32,8 @@ use std::{io, time};
 #[derive(Drop)]
 pub struct ServerEnd {
     pub status: ServerStatus,
+    /// Why the listener accepts no more connections, where it failed.
+    pub failure: Option<ListenerFailed>,
     /// Where connections were served, the books of the services, in the order of the file; else none.
     pub books: Vec<Book>,
     /// Where many workers served them, how many entries the calls of each one's seat made; else none.
@@ -45,6 +47,7 @@ impl ServerEnd {
     {
         ServerEnd {
             status,
+            failure: None,
             books: Vec::new(alloc),
             counts: Vec::new(alloc),
         }
@@ -59,6 +62,7 @@ impl ServerEnd {
         err: &mut Counted<E>,
     ) -> ServerEnd
         ensures status { result.status ≡ ended_by failure }
+        ensures failure { result.failure ≡ failure }
         ensures left { (result.books ≡ books) × (result.counts ≡ counts) }
         ensures quiet { failure ≡ None → err.new ≡ err.old }
     {
@@ -71,6 +75,7 @@ impl ServerEnd {
         }
         ServerEnd {
             status,
+            failure,
             books,
             counts,
         }
@@ -102,7 +107,8 @@ where
     ensures served { IfOk result (λ end. HasServedAlone C.ticks settings clock.old clock.new end.books.items × (end.counts.items ≡ [])) }
     ensures unserved { IfErr result (λ status. IsServing status → ⊥) }
     ensures over { IsOver (end_of result) settings.connections }
-    ensures ended { IsServerOutput (end_of result) (O.contents out.old.inner) (O.contents out.new.inner) }
+    ensures failed { IfOk result (λ end. end.status ≡ ended_by end.failure) }
+    ensures ended { IsServerOutput settings.listen (end_of result) (O.contents out.old.inner) (O.contents out.new.inner) }
     ensures quiet { IsQuiet (end_of result) (E.contents err.old.inner) (E.contents err.new.inner) }
     ensures cause { IsServerCause (end_of result) out.old.failures out.new.failures }
 {
@@ -130,7 +136,8 @@ where
     ensures served { IfOk result (λ end. HasServedBy C.ticks settings clock.old clock.new end.books.items end.counts.items) }
     ensures unserved { IfErr result (λ status. IsServing status → ⊥) }
     ensures over { IsOver (end_of result) settings.connections }
-    ensures ended { IsServerOutput (end_of result) (O.contents out.old.inner) (O.contents out.new.inner) }
+    ensures failed { IfOk result (λ end. end.status ≡ ended_by end.failure) }
+    ensures ended { IsServerOutput settings.listen (end_of result) (O.contents out.old.inner) (O.contents out.new.inner) }
     ensures quiet { IsQuiet (end_of result) (E.contents err.old.inner) (E.contents err.new.inner) }
     ensures cause { IsServerCause (end_of result) out.old.failures out.new.failures }
 {
@@ -189,8 +196,8 @@ pub fn serve_file<R, O: Write, E: Write, C: Clock + Copy + Send>(
 ) -> ServerEnd
 where
     R: Threads + Wait + time::Clock + Sync + Net<Listener = TcpListener, Stream = TcpStream>,
-    // Where it is done, the file's services opened, the line was printed, and connections were served from there
-    // on, by as many workers as the file says. The same holds where the listener accepts no more. The books that come
+    // Where it is done, the file's services opened, the line of its address was printed, and connections were served from
+    // there on, by as many workers as the file says. The same holds where the listener accepts no more. The books that come
     // back are those that were served. By one worker they stand where its connections left them. By many, a caller can
     // rest on this: each has a legal and sound history of one of the file's services, with its configuration and its
     // first program, after some cuts. With locks, entries and cuts are just those that the workers' seats count, so
@@ -199,12 +206,14 @@ where
     // these books. It is done only where the file says after how many connections. That a connection was served at
     // all no clause can say.
     ensures done { IsServing result.status → HasServedFile C.ticks text.now result.status clock.old clock.new (O.contents out.old.inner) (O.contents out.new.inner) result.books.items result.counts.items }
+    // Where it ends since the listener accepts no more, it says by which failure, which the event loop alone can make.
+    ensures failed { result.status ≡ ServerStatus.ListenerFailed → IsSome result.failure }
     // Where it is refused, the refusal was printed: the text can't be used, or it can and the address can't be bound.
     ensures refused { (number : RefusalNumber) → result.status ≡ ServerStatus.Refused number → IsFileRefused text.now number × Appends (O.contents out.old.inner) (O.contents out.new.inner) (refused_line number) }
     // Where a write failed, all that was added on `out` is a beginning of one line, and not all of it: of the listening
-    // line of some address, where the text can be used, or of the line of a refusal of this text. Where it couldn't be
-    // flushed, it is the whole of such a line. Where memory ran out, nothing was added, or the whole listening line.
-    ensures part { IsCutShort (IsUsable text.now) (IsFileRefused text.now) result.status (O.contents out.old.inner) (O.contents out.new.inner) }
+    // line of the file's address, or of the line of a refusal of this text. Where it couldn't be flushed, it is the whole
+    // of such a line. Where memory ran out, nothing was added, or the whole listening line.
+    ensures part { IsCutShort (IsAddressOf text.now) (IsFileRefused text.now) result.status (O.contents out.old.inner) (O.contents out.new.inner) }
     // On `err` stands at most the line on too few workers, but where a refusal was printed or the listener failed.
     ensures quiet { IsQuiet result.status (E.contents err.old.inner) (E.contents err.new.inner) }
     // A failed write and a failed flush are answered where that count went up by one, and in no other case.
@@ -249,12 +258,14 @@ where
         + Net<Listener = TcpListener, Stream = TcpStream>,
     // Where it is done, it served as some text says, in the way of `serve_file`: no clause knows a file's text.
     ensures done { IsServing result.status → (text : List ℕ) × HasServedFile C.ticks text result.status clock.old clock.new (O.contents out.old.inner) (O.contents out.new.inner) result.books.items result.counts.items }
+    // Where it ends since the listener accepts no more, it says by which failure, which the event loop alone can make.
+    ensures failed { result.status ≡ ServerStatus.ListenerFailed → IsSome result.failure }
     // Where it is refused, the refusal was printed: of the file, or of its address, and no other.
     ensures refused { (number : RefusalNumber) → result.status ≡ ServerStatus.Refused number → IsServerRefusal number × Appends (O.contents out.old.inner) (O.contents out.new.inner) (refused_line number) }
     // Where a write failed, all that was added on `out` is a beginning of one line, and not all of it: of the listening
     // line of some address, or of the line of one of these refusals. Where it couldn't be flushed, it is the whole of
     // such a line. Where memory ran out, nothing was added, or the whole listening line.
-    ensures part { IsCutShort ⊤ IsServerRefusal result.status (O.contents out.old.inner) (O.contents out.new.inner) }
+    ensures part { IsCutShort (λ _. ⊤) IsServerRefusal result.status (O.contents out.old.inner) (O.contents out.new.inner) }
     // On `err` stands at most the line on too few workers, but where a refusal was printed or the listener failed.
     ensures quiet { IsQuiet result.status (E.contents err.old.inner) (E.contents err.new.inner) }
     // A failed write and a failed flush are answered where that count went up by one, and in no other case.
