@@ -1,5 +1,5 @@
 -- The numbers of entries go on by the entries that are made.
-use Rattle.std.proofs.Common.{◌≡◌, ℕ, ◌+◌, Bool, true, false, if◌then◌else◌, List, [], ◌∷◌, length, Result, Ok, Err, arith, refl, sym, ◌∙◌, length-append}
+use Rattle.std.proofs.Common.{◌≡◌, ℕ, ◌+◌, ◌-◌, ◌^◌, ◌<◌, Bool, true, false, if◌then◌else◌, List, [], ◌∷◌, length, Result, Ok, Err, arith, refl, sym, ap, ◌∙◌, length-append}
 use Rattle.refusals.specs.declared.RefusalNumber.{RefusalNumber}
 use Rattle.refusals.specs.declared.RefusalNumber.TheVariants as refusal
 use Rattle.service_profile.specs.declared.replies.Reply.{Reply}
@@ -9,7 +9,9 @@ use Rattle.service_profile.specs.Events.{EventData, EntryData, History, history_
 use Rattle.service_profile.specs.Histories.{past_of, next_line, situation_of}
 use Rattle.service_profile.specs.Machine.{is_entered}
 use Rattle.book.proofs.Openings.{next_line_is}
-use Rattle.book.specs.Counts.{entries_made}
+use Rattle.service_profile.specs.Calls.{CallData, CallAnswer, applies, looks, reads, pages, replies, finds, shows, hands, IsCalled}
+use Rattle.service_profile.specs.Calls as call
+use Rattle.book.specs.Counts.{entries_made, made_by, HasRoomFor}
 
 -- the next number is that behind all lines
 next_behind : (h : History) → next_line (past_of h) ≡ h.opening.line + length h.lines
@@ -49,3 +51,26 @@ rolled_by h last false = next_behind (rolled_up_to h last) ∙ sym (next_behind 
 pub rolls_go_on : (h : History) (last : ℕ) (found : Result (List EntryData) RefusalNumber) (after : History) → IsRolled h last found after → next_line (past_of after) ≡ next_line (past_of h)
 rolls_go_on h last found after (rolls is leads) = rw leads (rolled_by h last (is_worn_out (past_of h)))
 rolls_go_on h last found after (answers.no_room lines is less r same) = rw same refl
+
+still : (before after : History) → after ≡ before → next_line (past_of after) ≡ next_line (past_of before) + 0
+still before after is = let e : next_line (past_of after) ≡ next_line (past_of before) = ap (λ (h : History). next_line (past_of h)) is in omega (arith, e)
+
+-- whatever is called
+pub calls_counted : (number : ℕ) (before : History) (c : CallData) (given : CallAnswer) (after : History) → IsCalled number before c given after
+    → next_line (past_of after) ≡ next_line (past_of before) + made_by c given
+calls_counted number before (applies moment event) (replies r) after did = entries_counted before number moment event r after did
+calls_counted number before (looks ticket) (finds found) after did = still before after did.1
+calls_counted number before (reads moment) (shows shown) after did = still before after did.1
+calls_counted number before (pages from) (hands found) after did = still before after did.1
+calls_counted number before call.cuts (hands found) after did = let e = cuts_go_on before found after did in omega (arith, e)
+calls_counted number before (call.rolls last) (hands found) after did = let e = rolls_go_on before last found after did in omega (arith, e)
+calls_counted number before c given after did = absurd did
+
+-- a count that isn't full has room for the entry of any call
+pub room_for : (count : ℕ) (c : CallData) → count < 2 ^ 64 - 8 → HasRoomFor count c
+room_for count (applies moment event) room = room
+room_for count (looks ticket) room = tt
+room_for count (reads moment) room = tt
+room_for count (pages from) room = tt
+room_for count call.cuts room = tt
+room_for count (call.rolls last) room = tt

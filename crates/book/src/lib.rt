@@ -3,6 +3,7 @@
 #![tactic(auto)]
 
 mod books;
+mod calls;
 mod changes;
 mod cutting;
 mod events;
@@ -16,6 +17,7 @@ mod service;
 mod settling;
 
 pub use books::Book;
+pub use calls::{Apply, Call, Cut, Look, Page, Read, Roll};
 pub use events::{Entry, Event};
 pub use service_profile::{
     BadConfig, Config, ConfigField, ConfigParts, Fate, Note, Reading, Reply, SlidingWindowType,

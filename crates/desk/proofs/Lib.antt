@@ -1,3 +1,4 @@
+pub mod Calling
 pub mod Descent
 pub mod Places
 pub mod Reporting

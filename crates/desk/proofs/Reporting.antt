@@ -1,5 +1,5 @@
 -- A report of a seat that has room for an entry is a look and a finish, each in one hold of the lock.
-use Rattle.std.proofs.Common.{◌≡◌, ◌<◌, ◌≤◌, ◌+◌, ◌-◌, ◌^◌, ℕ, suc, List, Result, Ok, Err, inl, inr, arith, refl, sym, subst, ap}
+use Rattle.std.proofs.Common.{◌≡◌, ◌<◌, ◌≤◌, ◌-◌, ◌^◌, ℕ, List, Result, Ok, Err, inl, inr, arith, subst}
 use Rattle.bpf_profile.specs.Programs.{VerifiedProgram}
 use Rattle.refusals.specs.declared.RefusalNumber.{RefusalNumber}
 use Rattle.service_profile.specs.declared.replies.Reply.{Reply}
@@ -10,14 +10,13 @@ use Rattle.service.specs.Asking as asking
 use Rattle.service.specs.declared.request.Report.{Report}
 use Rattle.desk.specs.AfterSome.{IsReplied, IsFound, IsFinished, IsReported}
 use Rattle.desk.specs.Calls.{IsCalledAt}
-use Rattle.book.specs.Counts.{entries_made, IsCounted}
 use Rattle.desk.specs.Seats.{SeatData, after_call}
 use Rattle.desk.specs.Services.{ServiceData}
 
 module _ (services : List ServiceData) where
   -- a look is never turned away
   looked : (seat : SeatData) (ticket : ℕ) (found : Result VerifiedProgram RefusalNumber) (after : SeatData) → IsCalledAt services seat (looks ticket) (finds found) after → IsFound services ticket found × (after ≡ seat)
-  looked seat ticket found after (inl turned) = absurd turned
+  looked seat ticket found after (inl turned) = absurd turned.1
   looked seat ticket found after (inr called) = called
 
   -- nor is an event of a seat that has room

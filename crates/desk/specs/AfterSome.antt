@@ -8,6 +8,7 @@ use Rattle.service_profile.specs.declared.readings.Reading.{Reading}
 use Rattle.service_profile.specs.declared.replies.Reply.{Reply}
 use Rattle.service_profile.specs.declared.replies.Reply.TheVariants as reply
 use Rattle.service_profile.specs.Answers.{IsApplied, IsLooked, IsPage, IsCut, IsRolled, reading}
+use Rattle.service_profile.specs.Calls.{CallData, CallAnswer, IsCalled}
 use Rattle.service_profile.specs.Events.{EventData, finishes, EntryData, History}
 use Rattle.service_profile.specs.Histories.{past_of}
 use Rattle.desk.specs.Seats.{SeatData, after_call}
@@ -23,6 +24,10 @@ pub record AfterSome (services : List ServiceData) (Holds : History → History 
   pub good_before : IsGood before
   pub good_after : IsGood after
   pub holds : Holds before after
+
+-- the answer to a call of a seat of this number
+abbrev pub IsCalledAfter : List ServiceData → ℕ → CallData → CallAnswer → Type 0
+IsCalledAfter services seat call answer = AfterSome services (λ before after. IsCalled seat before call answer after)
 
 -- the reply to an event of a seat at a moment
 abbrev pub IsReplied : List ServiceData → ℕ → ℕ → EventData → Reply → Type 0

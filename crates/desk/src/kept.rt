@@ -1,22 +1,17 @@
 //! What lies under the locks: the book of a service, and the tokens that count its entries and its cuts.
-ghost use Rattle.std.specs.Prelude.{◌≡◌, ◌-◌, ◌<◌, ◌^◌};
-ghost use Rattle.std.specs.Arc.{arc_value};
-ghost use Rattle.book.specs.Seen.{seen};
-ghost use Rattle.service_profile.specs.Answers.{IsApplied, map_ok};
+ghost use Rattle.std.specs.Prelude.{◌≡◌};
 ghost use Rattle.service_profile.specs.Histories.{past_of, next_line};
 ghost use Rattle.desk.specs.Kept.{IsOfOne, IsKept, most_numbers, most_cuts};
+ghost use Rattle.book.specs.Counts.{HasRoomFor};
 ghost use Rattle.book.specs.Good.{IsGood};
-ghost use Rattle.desk.specs.Seats.{after_call, after_cut};
-ghost use Rattle.desk.specs.AfterSome.{IsReplied, IsFound, IsShown, IsPageFrom, IsCutOff, IsRolledOff};
+ghost use Rattle.desk.specs.AfterSome.{IsCalledAfter};
+ghost use Rattle.desk.specs.Calls.{seat_after};
 
 use crate::offered::Offered;
 use crate::seats::Seat;
-use book::{Book, Entry, Event, Reading, Reply};
-use refusals::RefusalNumber;
+use book::{Book, Call};
 use std::marker::Model;
-use std::sync::Arc;
 use std::sync::ledger::{Ledger, Share};
-use verifier::Verified;
 
 /// A service's book, which contracts see, with the tokens that are left for its entries and its cuts. The book is that of one of the
 /// services that the desk has opened.
@@ -70,60 +65,23 @@ impl<L: Ledger, M: Ledger + Offered> Kept<L, M> {
         (book, entries_left, cuts_left)
     }
 
-    /// Takes an event, and counts its entry.
-    pub(crate) fn apply(&mut self, seat: &mut Seat<L, M>, moment: u64, event: Event) -> Reply
-        requires room { seat.old.count < 2 ^ 64 - 8 }
-        ensures applied { IsApplied self.old seat.old.number moment (seen event) result self.new }
-        ensures replied { IsReplied M.services seat.old.number moment (seen event) result }
-        ensures counted { seat.new ≡ after_call seat.old result }
+    /// Makes a call by a seat, which counts the entry and the cut that the call makes.
+    pub(crate) fn call<C: Call>(&mut self, seat: &mut Seat<L, M>, call: C) -> C::Answer
+        requires room { HasRoomFor seat.old.count (C.called call) }
+        ensures called { IsCalledAfter M.services seat.old.number (C.called call) (C.answered result) }
+        ensures counted { seat.new ≡ seat_after seat.old (C.called call) (C.answered result) }
     {
-        let Kept { book, entries, .. } = self;
+        let Kept {
+            book,
+            entries,
+            cuts,
+            ..
+        } = self;
         let last = book.last_number();
-        let reply = book.apply(seat.number(), moment, event);
+        let answer = call.make(book, seat.number());
         let made = book.last_number() - last;
         seat.take_entries(entries, made);
-        reply
-    }
-
-    /// The program that judges under a ticket.
-    pub(crate) fn look(&self, ticket: u64) -> Result<Arc<Verified>, RefusalNumber>
-        ensures { IsFound M.services ticket (map_ok arc_value result) }
-    {
-        self.book.look(ticket)
-    }
-
-    /// How the service stands.
-    pub(crate) fn read(&self, moment: u64) -> Reading
-        ensures { IsShown M.services moment result }
-    {
-        self.book.read(moment)
-    }
-
-    /// Copies of at most 100 entries.
-    pub(crate) fn page(&self, from: u64) -> Result<Vec<Entry>, RefusalNumber>
-        ensures { IsPageFrom M.services from (map_ok (λ entries. entries.items) result) }
-    {
-        self.book.page(from)
-    }
-
-    /// Hands out all entries, and counts the cut. Their numbers go on.
-    pub(crate) fn cut(&mut self, seat: &mut Seat<L, M>) -> Result<Vec<Entry>, RefusalNumber>
-        ensures cut { IsCutOff M.services (map_ok (λ entries. entries.items) result) }
-        ensures counted { seat.new ≡ after_cut seat.old (map_ok (λ entries. entries.items) result) }
-    {
-        let Kept { book, cuts, .. } = self;
-        let entries = match book.cut() {
-            Ok(entries) => entries,
-            Err(number) => return Err(number),
-        };
-        seat.take_cut(cuts);
-        Ok(entries)
-    }
-
-    /// Hands out the entries up to a number. Their numbers go on.
-    pub(crate) fn roll(&mut self, last: u64) -> Result<Vec<Entry>, RefusalNumber>
-        ensures { IsRolledOff M.services last (map_ok (λ entries. entries.items) result) }
-    {
-        self.book.roll(last)
+        seat.take_cuts(cuts, C::cuts(&answer));
+        answer
     }
 }

@@ -1,13 +1,9 @@
 //! Seats: who makes calls.
-ghost use Rattle.std.specs.Prelude.{◌≡◌, ◌+◌, ◌-◌, ◌<◌, ◌≤◌, ◌^◌, true, false};
-ghost use Rattle.desk.specs.Calls.{IsFull};
+ghost use Rattle.std.specs.Prelude.{◌≡◌, ◌+◌, ◌<◌, ◌≤◌, ◌^◌};
 ghost use Rattle.desk.specs.Seats.{seat_of};
 
 use std::marker::Model;
 use std::sync::ledger::{Ledger, Share};
-
-/// A seat may make an event only while its count is below this.
-const FULL_COUNT: u64 = u64::MAX - 7;
 
 /// Who makes calls at a desk. Contracts see its number, and how many entries and how many cuts its calls have made. It
 /// counts by tokens that it was given for them by the services, so that no entry is counted that no journal has, and no
@@ -58,7 +54,7 @@ impl<L: Ledger, M: Ledger> Seat<L, M> {
 
     /// Takes tokens for so many entries.
     pub(crate) fn take_entries(&mut self, tokens: &mut Share<L>, entries: u64)
-        requires room { self.old.count + entries < 2 ^ 64 }
+        requires room { self.old.count < 2 ^ 64 → self.old.count + entries < 2 ^ 64 }
         requires one_part { tokens.old.parts ≡ 1 }
         requires left { entries ≤ tokens.old.amount }
         ensures seat { self.new ≡ seat_of self.old.number (self.old.count + entries) self.old.cuts }
@@ -69,15 +65,15 @@ impl<L: Ledger, M: Ledger> Seat<L, M> {
         self.count += entries;
     }
 
-    /// Takes the token for a cut.
-    pub(crate) fn take_cut(&mut self, tokens: &mut Share<M>)
+    /// Takes tokens for so many cuts.
+    pub(crate) fn take_cuts(&mut self, tokens: &mut Share<M>, cuts: u64)
         requires one_part { tokens.old.parts ≡ 1 }
-        requires left { 1 ≤ tokens.old.amount }
-        ensures seat { self.new ≡ seat_of self.old.number self.old.count (self.old.cuts + 1) }
-        ensures amount { tokens.new.amount + 1 ≡ tokens.old.amount }
+        requires left { cuts ≤ tokens.old.amount }
+        ensures seat { self.new ≡ seat_of self.old.number self.old.count (self.old.cuts + cuts) }
+        ensures amount { tokens.new.amount + cuts ≡ tokens.old.amount }
         ensures parts { tokens.new.parts ≡ 1 }
     {
-        tokens.transfer(&mut self.cuts, 1);
+        tokens.transfer(&mut self.cuts, cuts);
     }
 
     /// Its number at its desk, from 1 on: the entries of its calls carry it.
@@ -85,14 +81,6 @@ impl<L: Ledger, M: Ledger> Seat<L, M> {
         ensures { result ≡ self.now.number }
     {
         self.number
-    }
-
-    /// Whether its count leaves no room for another entry.
-    pub(crate) fn is_full(&self) -> bool
-        ensures full { result ≡ true → IsFull self.now }
-        ensures room { result ≡ false → self.now.count < 2 ^ 64 - 8 }
-    {
-        self.count >= FULL_COUNT
     }
 
     /// How many entries its calls have made, in all journals of its desk.

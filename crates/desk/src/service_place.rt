@@ -5,16 +5,11 @@ ghost use Rattle.desk.specs.Desks.{IsServiceOf};
 use crate::desks::{Desk, ServiceId};
 use crate::offered::Offered;
 use crate::seats::Seat;
-use book::{Entry, Event, Reading, Reply};
-use refusals::RefusalNumber;
+use book::Call;
 use service::BookCalls;
 use std::marker::Model;
+use std::sync::Wait;
 use std::sync::ledger::Ledger;
-use std::sync::{Arc, Wait};
-use verifier::Verified;
-
-/// What a seat is answered whose count is full.
-const TURNED_AWAY: Reply = Reply::Refused(RefusalNumber::JournalFull);
 
 /// Where the calls of a seat go: a service of a desk. Contracts see the desk's services.
 #[derive(Drop)]
@@ -52,44 +47,10 @@ impl<'a, L: Ledger, M: Ledger + Offered, R: Wait> BookCalls<ServicePlace<'a, L, 
 
     ghost calls = { IsCalledAt };
 
-    fn apply(&mut self, place: &ServicePlace<'a, L, M, R>, moment: u64, event: Event) -> Reply {
-        if self.is_full() {
-            return TURNED_AWAY;
+    fn call<C: Call>(&mut self, place: &ServicePlace<'a, L, M, R>, call: C) -> C::Answer {
+        if let Some(answer) = call.answer_at_count(self.count) {
+            return answer;
         }
-        place
-            .desk
-            .apply(place.rt, self, place.service, moment, event)
-    }
-
-    fn look(
-        &mut self,
-        place: &ServicePlace<'a, L, M, R>,
-        ticket: u64,
-    ) -> Result<Arc<Verified>, RefusalNumber> {
-        place.desk.look(place.rt, place.service, ticket)
-    }
-
-    fn read(&mut self, place: &ServicePlace<'a, L, M, R>, moment: u64) -> Reading {
-        place.desk.read(place.rt, self, place.service, moment)
-    }
-
-    fn page(
-        &mut self,
-        place: &ServicePlace<'a, L, M, R>,
-        from: u64,
-    ) -> Result<Vec<Entry>, RefusalNumber> {
-        place.desk.page(place.rt, self, place.service, 0, from)
-    }
-
-    fn cut(&mut self, place: &ServicePlace<'a, L, M, R>) -> Result<Vec<Entry>, RefusalNumber> {
-        place.desk.cut(place.rt, self, place.service, 0)
-    }
-
-    fn roll(
-        &mut self,
-        place: &ServicePlace<'a, L, M, R>,
-        last: u64,
-    ) -> Result<Vec<Entry>, RefusalNumber> {
-        place.desk.roll(place.rt, self, place.service, 0, last)
+        place.desk.call(place.rt, self, place.service, call)
     }
 }

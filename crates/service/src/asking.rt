@@ -8,7 +8,7 @@ use crate::calls::BookCalls;
 use crate::gate::Gate;
 use crate::request::{Report, Request};
 use crate::response::Response;
-use book::{Entry, Event, Reply};
+use book::{Apply, Cut, Entry, Event, Look, Page, Read, Reply, Roll};
 use bpf_profile::Layout;
 use bpf_run::judge;
 use refusals::RefusalNumber;
@@ -30,11 +30,11 @@ pub fn report<P, B: BookCalls<P>, G: Gate>(
     ensures { IsReportServed (B.calls place.now) book.old moment report result book.new }
 {
     let Report { ticket, outcome } = report;
-    match book.look(place, ticket) {
+    match book.call(place, Look(ticket)) {
         Ok(program) => {
             let judged = judge(program, outcome);
             gate.between(ticket);
-            book.apply(place, moment, Event::Finish(judged, ticket))
+            book.call(place, Apply(moment, Event::Finish(judged, ticket)))
         }
         Err(number) => Reply::Refused(number),
     }
@@ -57,7 +57,7 @@ fn install<P, B: BookCalls<P>>(
         Err(refusal) => return Response::ProgramRefused(refusal),
     };
     match Arc::new(alloc, program) {
-        Ok(program) => Response::Reply(book.apply(place, moment, Event::Install(program))),
+        Ok(program) => Response::Reply(book.call(place, Apply(moment, Event::Install(program)))),
         Err(error) => Response::ProgramRefused(Refusal::from(AllocError::from(error))),
     }
 }
@@ -98,21 +98,22 @@ pub fn ask<P, B: BookCalls<P>, G: Gate>(
     ensures { IsServedBy (B.calls place.now) book.old moment (request_data request) (response_data result) book.new }
 {
     match request {
-        Request::Acquire => Response::Reply(book.apply(place, moment, Event::Acquire)),
+        Request::Acquire => Response::Reply(book.call(place, Apply(moment, Event::Acquire))),
         Request::Report(reported) => Response::Reply(report(book, place, moment, reported, gate)),
-        Request::Release(ticket) => Response::Reply(book.apply(
-            place,
-            moment,
-            Event::Release(ticket),
-        )),
+        Request::Release(ticket) => {
+            Response::Reply(book.call(place, Apply(moment, Event::Release(ticket))))
+        }
         Request::Install { program, layout } => {
             install(alloc, book, place, moment, program.as_slice(), layout)
         }
-        Request::Move(state) => Response::Reply(book.apply(place, moment, Event::Move(state))),
-        Request::Reset => Response::Reply(book.apply(place, moment, Event::Reset)),
-        Request::Read => Response::Reading(book.read(place, moment)),
-        Request::Page(from) => page(from, book.page(place, from)),
-        Request::Cut => handed_out(book.cut(place)),
-        Request::Roll(last) => handed_out(book.roll(place, last)),
+        Request::Move(state) => Response::Reply(book.call(
+            place,
+            Apply(moment, Event::Move(state)),
+        )),
+        Request::Reset => Response::Reply(book.call(place, Apply(moment, Event::Reset))),
+        Request::Read => Response::Reading(book.call(place, Read(moment))),
+        Request::Page(from) => page(from, book.call(place, Page(from))),
+        Request::Cut => handed_out(book.call(place, Cut)),
+        Request::Roll(last) => handed_out(book.call(place, Roll(last))),
     }
 }

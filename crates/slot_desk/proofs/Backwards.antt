@@ -13,7 +13,7 @@ use Rattle.service_profile.specs.Events.{acquires, finishes, releases, installs,
 use Rattle.slot_table.specs.declared.view.View.{View}
 use Rattle.slot_table.specs.Rules.{Course, AllBegin}
 use Rattle.slot_table.proofs.Backwards.{called_back}
-use Rattle.slot_desk.specs.Calls.{ServiceSeatData, IsAskedAt, IsCalledAt, IsTurnedAway}
+use Rattle.slot_desk.specs.Calls.{ServiceSeatData, IsAskedAt, IsCalledAt}
 use Rattle.slot_desk.specs.Closing.{RowBegins, SeatBegins}
 use Rattle.slot_desk.specs.Seats.{SeatData}
 use Rattle.slot_desk.specs.Slots.{seen_of}
@@ -33,18 +33,6 @@ row_back (c ∷ cs) (u ∷ us) (suc service) v w is back h = (h.0, row_back cs u
 called_seat_back : (courses : List Course) (service : ℕ) (seat : SeatData) (c : CallData) (given : CallAnswer) (after : SeatData) → IsCalledAt service seat c given after → SeatBegins courses after → SeatBegins courses seat
 called_seat_back courses service seat c given after (v, w, is, did, left) h =
     row_back courses seat.views service v w is (λ course. called_back course (λ before later. IsCalled seat.number before c given later) v w did) (subst (SeatBegins courses) left h)
-
--- where a seat is turned away nothing changes
-turned : (seat : SeatData) (c : CallData) (given : CallAnswer) (after : SeatData) → IsTurnedAway seat c given after → after ≡ seat
-turned seat (applies moment event) (call.replies r) after is = is.2
-turned seat (applies moment event) (call.finds found) after is = absurd is
-turned seat (applies moment event) (call.shows shown) after is = absurd is
-turned seat (applies moment event) (call.hands found) after is = absurd is
-turned seat (call.looks ticket) given after is = absurd is
-turned seat (call.reads moment) given after is = absurd is
-turned seat (call.pages from) given after is = absurd is
-turned seat call.cuts given after is = absurd is
-turned seat (call.rolls last) given after is = absurd is
 
 -- what a step of a seat at a service keeps: its service and its tables, and all that it had seen begins the histories of its openings where all that it then has seen does
 pub record Keeps (at after : ServiceSeatData) : Type 0 where
@@ -68,8 +56,7 @@ keeps_on at between after first second = record {
 
 asked_keeps : (at : ServiceSeatData) (c : CallData) (given : CallAnswer) (after : ServiceSeatData) → IsAskedAt at c given after → Keeps at after
 asked_keeps at c given after (stays, inl away) =
-    let same = turned at.seat c given after.seat away in
-    record { service = stays; tables = ap (λ (s : SeatData). s.tables) same; begins = λ courses h. subst (SeatBegins courses) same h }
+    record { service = stays; tables = ap (λ (s : SeatData). s.tables) away.2; begins = λ courses h. subst (SeatBegins courses) away.2 h }
 asked_keeps at c given after (stays, inr called) =
     record { service = stays; tables = ap (λ (s : SeatData). s.tables) called.4; begins = λ courses h. called_seat_back courses at.service at.seat c given after.seat called h }
 

@@ -3,10 +3,10 @@ use Rattle.std.proofs.Common.{◌≡◌, ℕ, zero, suc, ◌+◌, ◌-◌, ◌�
 use Rattle.std.specs.List.{AllByRecursion}
 use Rattle.std.proofs.lemmas.List.{length-map}
 use Rattle.std.proofs.lemmas.List.Sums.{sum_by-cons}
-use Rattle.book.proofs.Counting.{entries_counted, cuts_go_on, rolls_go_on}
+use Rattle.book.proofs.Counting.{calls_counted}
 use Rattle.book.proofs.Applying.{same_opening}
 use Rattle.book.specs.Good.{IsGood}
-use Rattle.service_profile.specs.Calls.{CallData, CallAnswer, applies, looks, reads, pages, cuts, rolls, replies, finds, shows, hands, IsCalled}
+use Rattle.service_profile.specs.Calls.{CallData, CallAnswer, IsCalled}
 use Rattle.service_profile.specs.Events.{Opening, History}
 use Rattle.slot_table.specs.declared.view.Trace.{Trace}
 use Rattle.slot_table.specs.declared.view.View.{View}
@@ -15,35 +15,23 @@ use Rattle.slot_table.specs.Origins.{IsOpeningAfter}
 use Rattle.slot_table.proofs.Keeps.{last_good}
 use Rattle.slot_table.proofs.Traces.{next_behind}
 use Rattle.slot_table.specs.Rules.{Course, IsCourseOf, IsMadeBy, next_number, entries_of, missing, trace}
-use Rattle.slot_desk.specs.Calls.{made_by}
+use Rattle.book.specs.Counts.{made_by}
 use Rattle.slot_desk.specs.Closing.{AreCourses, CoursesAreMadeBy, NumbersAgree, traces_row, firsts, behind, last_of, last_number, first_number}
 use Rattle.slot_desk.specs.Seats.{SeatData, entries_in, newcomer_of, IsTallied}
 
 -- ---- one call
 
-still : (before after : History) → after ≡ before → next_number after ≡ next_number before + 0
-still before after is = let e : next_number after ≡ next_number before = ap next_number is in omega (arith, e)
-
-call_makes : (number : ℕ) (before : History) (call : CallData) (given : CallAnswer) (after : History) → IsCalled number before call given after → next_number after ≡ next_number before + made_by call given
-call_makes number before (applies moment event) (replies r) after did = entries_counted before number moment event r after did
-call_makes number before (looks ticket) (finds found) after did = still before after did.1
-call_makes number before (reads moment) (shows shown) after did = still before after did.1
-call_makes number before (pages from) (hands found) after did = still before after did.1
-call_makes number before cuts (hands found) after did = let e = cuts_go_on before found after did in omega (arith, e)
-call_makes number before (rolls last) (hands found) after did = let e = rolls_go_on before last found after did in omega (arith, e)
-call_makes number before call given after did = absurd did
-
 module _ (number : ℕ) (call : CallData) (given : CallAnswer) (v w : View) where
   pub tried_makes : Called (λ before after. IsCalled number before call given after) v w → w.entries ≡ v.entries + made_by call given
   tried_makes c =
       let e : w.entries ≡ v.entries + (next_number c.after - next_number c.before) = ap (λ (u : View). u.entries) c.view in
-      let n = call_makes number c.before call given c.after c.did in
+      let n = calls_counted number c.before call given c.after c.did in
       omega (arith, e, n)
 
   pub called_makes : CalledAfterTries (λ before after. IsCalled number before call given after) v w → w.entries ≡ v.entries + made_by call given
   called_makes (tries, c) =
       let e : w.entries ≡ v.entries + (next_number c.after - next_number c.before) = ap (λ (u : View). u.entries) c.view in
-      let n = call_makes number c.before call given c.after c.did in
+      let n = calls_counted number c.before call given c.after c.did in
       omega (arith, e, n)
 
 pub missed_makes : (v w : View) → w ≡ missing v → w.entries ≡ v.entries + 0

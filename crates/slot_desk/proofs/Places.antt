@@ -8,7 +8,8 @@ use Rattle.slot_table.specs.Calls.{Called, CalledAfterTries}
 use Rattle.slot_table.specs.Places.{SlotData, PlaceData, with_view}
 use Rattle.slot_table.specs.Rules.{missing}
 use Rattle.service_profile.specs.Calls.{CallData, CallAnswer, IsCalled}
-use Rattle.slot_desk.specs.Calls.{made_by, IsCalledAt, IsTriedAt, IsMissedAt}
+use Rattle.book.specs.Counts.{made_by}
+use Rattle.slot_desk.specs.Calls.{IsCalledAt, IsTriedAt, IsMissedAt}
 use Rattle.slot_desk.specs.Desks.{DeskData, IsServiceOf}
 use Rattle.slot_desk.specs.Seats.{SeatData, seat_of, seat_with, entries_in, IsSeatOf, ChangesAt}
 use Rattle.slot_desk.specs.Slots.{table_of, table_at, number_at, view_at}

@@ -13,7 +13,7 @@ use Rattle.slot_desk.specs.Seats.{SeatData}
 
 -- a look is never turned away
 looked : (at : ServiceSeatData) (ticket : ℕ) (found : Result VerifiedProgram RefusalNumber) (after : ServiceSeatData) → IsAskedAt at (looks ticket) (finds found) after → IsCalledAt at.service at.seat (looks ticket) (finds found) after.seat
-looked at ticket found after (here, inl turned) = absurd turned
+looked at ticket found after (here, inl turned) = absurd turned.1
 looked at ticket found after (here, inr called) = called
 
 -- nor is an event of a seat that has room

@@ -1,9 +1,9 @@
 //! The calls of seats that wait until they have the book of their service.
 ghost use Rattle.std.specs.Prelude.{◌≡◌, ◌<◌, ◌-◌, ◌^◌};
 ghost use Rattle.std.specs.Arc.{arc_value};
-ghost use Rattle.book.specs.Seen.{seen};
+ghost use Rattle.book.specs.Counts.{HasRoomFor};
 ghost use Rattle.service_profile.specs.Answers.{map_ok};
-ghost use Rattle.service_profile.specs.Calls.{applies, looks, reads, pages, cuts, rolls, replies, finds, shows, hands};
+ghost use Rattle.service_profile.specs.Calls.{applies, reads, pages, cuts, rolls, replies, shows, hands};
 ghost use Rattle.service_profile.specs.Events.{acquires, releases, installs, moves, resets};
 ghost use Rattle.slot_desk.specs.Calls.{IsCalledAt};
 ghost use Rattle.slot_desk.specs.Desks.{IsServiceOf};
@@ -12,51 +12,34 @@ ghost use Rattle.slot_desk.specs.Seats.{IsSeatOf};
 use crate::desks::Desk;
 use crate::seats::Seat;
 use crate::services::ServiceId;
-use book::{Entry, Event, Reading, Reply, State};
+use book::{Apply, Call, Cut, Entry, Event, Page, Read, Reading, Reply, Roll, State};
 use refusals::RefusalNumber;
 use std::sync::{Arc, Wait};
 use verifier::Verified;
 
 // Of each call: the answer is the named service's book's to this seat, after a good history that begins with all that the seat
 // has seen of that service and has just its own entries; what the call left is what the seat has seen after it; what it knows of
-// the other services stays.
+// the other services stays. The functions behind `call` make one kind of call each; the program asks through `Desk::ask`,
+// and calls none of them.
 impl Desk {
-    /// Applies an event at a moment, in milliseconds.
-    pub(crate) fn apply<R: Wait>(
+    /// Makes a call of a service by a seat. It waits until the service's book is in its slot.
+    pub fn call<R: Wait, C: Call>(
         &self,
         rt: &R,
         seat: &mut Seat,
         service: ServiceId,
-        moment: u64,
-        event: Event,
-    ) -> Reply
+        call: C,
+    ) -> C::Answer
         requires seat { IsSeatOf self.now seat.old }
         requires service { IsServiceOf self.now service }
-        requires room { seat.old.count < 2 ^ 64 - 8 }
-        ensures called { IsCalledAt service seat.old (applies moment (seen event)) (replies result) seat.new }
+        requires room { HasRoomFor seat.old.count (C.called call) }
+        ensures called { IsCalledAt service seat.old (C.called call) (C.answered result) seat.new }
     {
         let at = service.place();
         let place = &mut seat.places[at];
-        let (reply, made) = self.slots[at].apply(rt, place, moment, event);
+        let (answer, made) = self.slots[at].call(rt, place, call);
         seat.count += made;
-        reply
-    }
-
-    /// Finds the program that judges under a ticket.
-    pub(crate) fn look<R: Wait>(
-        &self,
-        rt: &R,
-        seat: &mut Seat,
-        service: ServiceId,
-        ticket: u64,
-    ) -> Result<Arc<Verified>, RefusalNumber>
-        requires seat { IsSeatOf self.now seat.old }
-        requires service { IsServiceOf self.now service }
-        ensures called { IsCalledAt service seat.old (looks ticket) (finds (map_ok arc_value result)) seat.new }
-    {
-        let at = service.place();
-        let place = &mut seat.places[at];
-        self.slots[at].look(rt, place, ticket)
+        answer
     }
 
     /// Asks for a ticket, before a call.
@@ -72,7 +55,7 @@ impl Desk {
         requires room { seat.old.count < 2 ^ 64 - 8 }
         ensures called { IsCalledAt service seat.old (applies moment acquires) (replies result) seat.new }
     {
-        self.apply(rt, seat, service, moment, Event::Acquire)
+        self.call(rt, seat, service, Apply(moment, Event::Acquire))
     }
 
     /// Ends a ticket without an outcome.
@@ -89,7 +72,7 @@ impl Desk {
         requires room { seat.old.count < 2 ^ 64 - 8 }
         ensures called { IsCalledAt service seat.old (applies moment (releases ticket)) (replies result) seat.new }
     {
-        self.apply(rt, seat, service, moment, Event::Release(ticket))
+        self.call(rt, seat, service, Apply(moment, Event::Release(ticket)))
     }
 
     /// Makes a program the current version.
@@ -106,7 +89,7 @@ impl Desk {
         requires room { seat.old.count < 2 ^ 64 - 8 }
         ensures called { IsCalledAt service seat.old (applies moment (installs (arc_value program))) (replies result) seat.new }
     {
-        self.apply(rt, seat, service, moment, Event::Install(program))
+        self.call(rt, seat, service, Apply(moment, Event::Install(program)))
     }
 
     /// Moves the breaker to a state.
@@ -123,7 +106,7 @@ impl Desk {
         requires room { seat.old.count < 2 ^ 64 - 8 }
         ensures called { IsCalledAt service seat.old (applies moment (moves state)) (replies result) seat.new }
     {
-        self.apply(rt, seat, service, moment, Event::Move(state))
+        self.call(rt, seat, service, Apply(moment, Event::Move(state)))
     }
 
     /// Moves the breaker to CLOSED.
@@ -133,7 +116,7 @@ impl Desk {
         requires room { seat.old.count < 2 ^ 64 - 8 }
         ensures called { IsCalledAt service seat.old (applies moment resets) (replies result) seat.new }
     {
-        self.apply(rt, seat, service, moment, Event::Reset)
+        self.call(rt, seat, service, Apply(moment, Event::Reset))
     }
 
     /// Reads how the service stands at a moment, in milliseconds, which is raised to the greatest that its book has
@@ -143,64 +126,53 @@ impl Desk {
         requires service { IsServiceOf self.now service }
         ensures called { IsCalledAt service seat.old (reads moment) (shows result) seat.new }
     {
-        let at = service.place();
-        let place = &mut seat.places[at];
-        self.slots[at].read(rt, place, moment)
+        self.call(rt, seat, service, Read(moment))
     }
 
-    /// Copies at most 100 entries of the journal, from a number on. The moment makes no difference. The refusal is
+    /// Copies at most 100 entries of the journal, from a number on. The refusal is
     /// `ServiceOutOfMemory`, where there is no memory for the copies.
     pub fn page<R: Wait>(
         &self,
         rt: &R,
         seat: &mut Seat,
         service: ServiceId,
-        _moment: u64,
         from: u64,
     ) -> Result<Vec<Entry>, RefusalNumber>
         requires seat { IsSeatOf self.now seat.old }
         requires service { IsServiceOf self.now service }
         ensures called { IsCalledAt service seat.old (pages from) (hands (map_ok (λ entries. entries.items) result)) seat.new }
     {
-        let at = service.place();
-        let place = &mut seat.places[at];
-        self.slots[at].page(rt, place, from)
+        self.call(rt, seat, service, Page(from))
     }
 
-    /// Hands out all entries of the journal, which opens anew. The moment makes no difference. Numbers go on. The
+    /// Hands out all entries of the journal, which opens anew. Numbers go on. The
     /// refusals are those of `Book::cut`, and change nothing.
     pub fn cut<R: Wait>(
         &self,
         rt: &R,
         seat: &mut Seat,
         service: ServiceId,
-        _moment: u64,
     ) -> Result<Vec<Entry>, RefusalNumber>
         requires seat { IsSeatOf self.now seat.old }
         requires service { IsServiceOf self.now service }
         ensures called { IsCalledAt service seat.old cuts (hands (map_ok (λ entries. entries.items) result)) seat.new }
     {
-        let at = service.place();
-        let place = &mut seat.places[at];
-        self.slots[at].cut(rt, place)
+        self.call(rt, seat, service, Cut)
     }
 
-    /// Hands out the entries of the journal up to a number. The moment makes no difference. All else of the service
+    /// Hands out the entries of the journal up to a number. All else of the service
     /// goes on as it is. The refusals are those of `Book::roll`, and change nothing.
     pub fn roll<R: Wait>(
         &self,
         rt: &R,
         seat: &mut Seat,
         service: ServiceId,
-        _moment: u64,
         last: u64,
     ) -> Result<Vec<Entry>, RefusalNumber>
         requires seat { IsSeatOf self.now seat.old }
         requires service { IsServiceOf self.now service }
         ensures called { IsCalledAt service seat.old (rolls last) (hands (map_ok (λ entries. entries.items) result)) seat.new }
     {
-        let at = service.place();
-        let place = &mut seat.places[at];
-        self.slots[at].roll(rt, place, last)
+        self.call(rt, seat, service, Roll(last))
     }
 }

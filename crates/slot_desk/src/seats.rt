@@ -1,14 +1,10 @@
 //! Seats: who makes calls.
-ghost use Rattle.std.specs.Prelude.{◌≡◌, ◌-◌, ◌<◌, ◌^◌, [], true, false};
-ghost use Rattle.slot_desk.specs.Calls.{IsFull};
+ghost use Rattle.std.specs.Prelude.{◌≡◌, []};
 ghost use Rattle.slot_desk.specs.Seats.{seat_of};
 
 use slot_table::Place;
 use std::alloc::Global;
 use std::marker::Model;
-
-/// A seat may make an event only while its count is below this.
-const FULL_COUNT: u64 = u64::MAX - 7;
 
 /// Who makes calls at a desk, by a place at each service. Contracts see its number, how many entries its calls have made, and of
 /// each service the table of the book and what the seat knows of it.
@@ -56,13 +52,5 @@ impl Seat {
         ensures { result ≡ self.now.count }
     {
         self.count
-    }
-
-    /// Whether its count leaves no room for another entry.
-    pub(crate) fn is_full(&self) -> bool
-        ensures full { result ≡ true → IsFull self.now }
-        ensures room { result ≡ false → self.now.count < 2 ^ 64 - 8 }
-    {
-        self.count >= FULL_COUNT
     }
 }

@@ -7,15 +7,10 @@ ghost use Rattle.slot_desk.specs.Seats.{IsSeatOf};
 use crate::desks::Desk;
 use crate::seats::Seat;
 use crate::services::ServiceId;
-use book::{Entry, Event, Reading, Reply};
-use refusals::RefusalNumber;
+use book::Call;
 use service::BookCalls;
 use std::marker::Model;
-use std::sync::{Arc, Wait};
-use verifier::Verified;
-
-/// What a seat is answered whose count is full.
-const TURNED_AWAY: Reply = Reply::Refused(RefusalNumber::JournalFull);
+use std::sync::Wait;
 
 /// A seat at a service of its desk. That both belong together is kept here, so that `service::ask` can call it. Contracts see the
 /// service and the seat.
@@ -68,35 +63,10 @@ impl<'a, R: Wait> BookCalls<()> for ServiceSeat<'a, R> {
 
     ghost calls = { λ _. IsAskedAt };
 
-    fn apply(&mut self, _place: &(), moment: u64, event: Event) -> Reply {
-        if self.seat.is_full() {
-            return TURNED_AWAY;
+    fn call<C: Call>(&mut self, _place: &(), call: C) -> C::Answer {
+        if let Some(answer) = call.answer_at_count(self.seat.count) {
+            return answer;
         }
-        self.desk
-            .apply(self.rt, &mut self.seat, self.service, moment, event)
-    }
-
-    fn look(&mut self, _place: &(), ticket: u64) -> Result<Arc<Verified>, RefusalNumber> {
-        self.desk
-            .look(self.rt, &mut self.seat, self.service, ticket)
-    }
-
-    fn read(&mut self, _place: &(), moment: u64) -> Reading {
-        self.desk
-            .read(self.rt, &mut self.seat, self.service, moment)
-    }
-
-    fn page(&mut self, _place: &(), from: u64) -> Result<Vec<Entry>, RefusalNumber> {
-        self.desk
-            .page(self.rt, &mut self.seat, self.service, 0, from)
-    }
-
-    fn cut(&mut self, _place: &()) -> Result<Vec<Entry>, RefusalNumber> {
-        self.desk.cut(self.rt, &mut self.seat, self.service, 0)
-    }
-
-    fn roll(&mut self, _place: &(), last: u64) -> Result<Vec<Entry>, RefusalNumber> {
-        self.desk
-            .roll(self.rt, &mut self.seat, self.service, 0, last)
+        self.desk.call(self.rt, &mut self.seat, self.service, call)
     }
 }

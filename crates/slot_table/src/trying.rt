@@ -10,7 +10,7 @@ ghost use Rattle.slot_table.specs.Places.{with_view};
 use crate::exchange::{put, take};
 use crate::held;
 use crate::slots::{Place, Slot};
-use book::{Event, Reply};
+use book::{Apply, Event, Reply};
 
 /// Another place has the book. The event comes back.
 #[derive(Drop)]
@@ -70,7 +70,12 @@ impl Slot {
         }
         meanwhile.held();
         let number = place.number;
-        let answer = held::apply(&self.table.shared, &mut place.seat, number, moment, event);
+        let answer = held::call(
+            &self.table.shared,
+            &mut place.seat,
+            number,
+            Apply(moment, event),
+        );
         put(&self.table.shared, &mut place.seat);
         Ok(answer)
     }

@@ -66,7 +66,7 @@ fn are_in_order<R: Wait + Abort>(rt: &R, desk: &Desk, seat: &mut Seat)
     requires seat { IsSeatOf desk.now seat.old }
 {
     let service = desk.find("pay").expect(rt, "a service of the desk");
-    let page = desk.page(rt, seat, service, 8, 3);
+    let page = desk.page(rt, seat, service, 3);
     let made = page.expect(rt, "entries 3 and 4");
     assert_eq!(rt; made.len(), 2);
     is_true(rt, finishes(&made[0], 2));

@@ -211,7 +211,7 @@ fn are_in_order<L: Ledger, M: Ledger + Offered, R: Wait + Abort>(
     seat: &mut Seat<L, M>,
 ) {
     let service = desk.find("pay").expect(rt, "a service of the desk");
-    let page = desk.page(rt, seat, service, 8, 3);
+    let page = desk.page(rt, seat, service, 3);
     let made = page.expect(rt, "entries 3 and 4");
     assert_eq!(rt; made.len(), 2);
     is_true(rt, finishes(&made[0], 2));

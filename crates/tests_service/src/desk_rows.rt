@@ -128,7 +128,7 @@ fn check_last<L: Ledger, M: Ledger + Offered, R: Wait + Abort>(
     let service = desk.find("pay").expect(rt, "a service of the desk");
     let last = desk.read(rt, seat, service, 0).entries;
     let page = desk
-        .page(rt, seat, service, 0, last)
+        .page(rt, seat, service, last)
         .expect(rt, "ample memory");
     assert_eq!(rt; page.len(), 1);
     same(rt, page[0].number(), last);
@@ -146,7 +146,7 @@ fn cut_fails<L: Ledger, M: Ledger + Offered, R: Wait + Abort>(
     wanted: RefusalNumber,
 ) {
     let service = desk.find("pay").expect(rt, "a service of the desk");
-    let refused = desk.cut(rt, seat, service, 0).err();
+    let refused = desk.cut(rt, seat, service).err();
     same(rt, refused, Some(wanted));
 }
 
@@ -158,7 +158,7 @@ fn cut_has<L: Ledger, M: Ledger + Offered, R: Wait + Abort>(
     calls: &[Called],
 ) {
     let service = desk.find("pay").expect(rt, "a service of the desk");
-    let entries = desk.cut(rt, seat, service, 1).expect(rt, "ample memory");
+    let entries = desk.cut(rt, seat, service).expect(rt, "ample memory");
     are_entries(rt, &entries, seat.number(), calls);
 }
 
@@ -172,7 +172,7 @@ fn roll_has<L: Ledger, M: Ledger + Offered, R: Wait + Abort>(
 ) {
     let service = desk.find("pay").expect(rt, "a service of the desk");
     let entries = desk
-        .roll(rt, seat, service, 1, last)
+        .roll(rt, seat, service, last)
         .expect(rt, "ample memory");
     are_entries(rt, &entries, seat.number(), calls);
 }

@@ -184,7 +184,7 @@ impl<'a> Caller<'a> {
     {
         let service = self.service(rt, name);
         self.desk
-            .page(rt, &mut self.seat, service, 0, from)
+            .page(rt, &mut self.seat, service, from)
             .expect(rt, "ample memory")
     }
 
@@ -197,7 +197,7 @@ impl<'a> Caller<'a> {
         ensures { self.new ≡ self.old }
     {
         let service = self.service(rt, name);
-        self.desk.cut(rt, &mut self.seat, service, 0)
+        self.desk.cut(rt, &mut self.seat, service)
     }
 
     /// Hands out the entries of a service up to a number.
@@ -206,7 +206,7 @@ impl<'a> Caller<'a> {
     {
         let service = self.service(rt, name);
         self.desk
-            .roll(rt, &mut self.seat, service, 0, last)
+            .roll(rt, &mut self.seat, service, last)
             .expect(rt, "ample memory")
     }
 

@@ -1,8 +1,0 @@
-use Rattle.std.proofs.Common.{refl}
-use Rattle.slot_table.proofs.Calling.{does_held}
-use Rattle.slot_table.proofs.held.look.Goals as goal
-
-pub returns-clause-did : goal.returns-clause-did
-returns-clause-did c =
-    let e = c.look.ensures in
-    does_held _ _ _ _ _ c.requires.held.1 c.slot_mut-book.ensures.value (e.looked, refl) (record { legal = e.legal; sound = e.sound })
