@@ -8,7 +8,7 @@ use Rattle.service_profile.specs.declared.standings.Standing.{Standing}
 use Rattle.service_profile.specs.declared.configuration.ConfigParts.{ConfigParts}
 use Rattle.book.specs.declared.events.Event.{Event}
 use Rattle.service_profile.specs.declared.decisions.Decision.{Decision}
-use Rattle.book.specs.declared.service.Service.{Service}
+use Rattle.book.specs.declared.parts.Parts.{Parts}
 use Rattle.refusals.specs.declared.RefusalNumber.TheVariants as refusal
 use Rattle.service_profile.specs.declared.replies.Reply.TheVariants as reply
 use Rattle.service_profile.specs.Limits.{most_entries}
@@ -80,14 +80,14 @@ fewer_mapped f (x ∷ xs) = fewer_head (f x) (filter_map f xs) (length xs) (fewe
 
 -- ---- the situation that a book's parts stand for
 
-orderly_there : (opening : Opening) (service : Service) (moment : ℕ) (lines : List EntryData) (rolled : Rolled) → IsBook opening service moment lines rolled → IsOrderly (situation_of (past_of (journal opening lines rolled)))
+orderly_there : (opening : Opening) (service : Parts) (moment : ℕ) (lines : List EntryData) (rolled : Rolled) → IsBook opening service moment lines rolled → IsOrderly (situation_of (past_of (journal opening lines rolled)))
 orderly_there opening service moment lines rolled book = search (rules, fewer_mapped, length_filter_le)
 
-pub situated : (opening : Opening) (service : Service) (moment : ℕ) (lines : List EntryData) (rolled : Rolled) → IsBook opening service moment lines rolled → HasSituation service
+pub situated : (opening : Opening) (service : Parts) (moment : ℕ) (lines : List EntryData) (rolled : Rolled) → IsBook opening service moment lines rolled → HasSituation service
 situated opening service moment lines rolled book = search (rules, orderly_there)
 
 -- a raised moment is not before a note
-pub notes_there : (opening : Opening) (service : Service) (moment raw now : ℕ) (lines : List EntryData) (rolled : Rolled) → IsBook opening service moment lines rolled → now ≡ max raw moment → AreNotAfter now (situation_of (past_of (journal opening lines rolled))).notes
+pub notes_there : (opening : Opening) (service : Parts) (moment raw now : ℕ) (lines : List EntryData) (rolled : Rolled) → IsBook opening service moment lines rolled → now ≡ max raw moment → AreNotAfter now (situation_of (past_of (journal opening lines rolled))).notes
 notes_there opening service moment raw now lines rolled book raised_ =
     let past : Past = past_of (journal opening lines rolled) in
     before_then (greatest past) now (situation_of past).notes (omega (arith, raised_, book.greatest_moment, le-max_right raw moment)) (notes_before past)
@@ -108,12 +108,12 @@ decided_so config moment event d plan e = ap (λ (p : Plan). p.decision) e
 -- ---- the book after a line
 
 -- the line that the code writes is the one that follows
-pub follows_there : (opening : Opening) (service : Service) (moment : ℕ) (lines : List EntryData) (rolled : Rolled) (number seat raw now : ℕ) (e : Event) (d : Decision)
+pub follows_there : (opening : Opening) (service : Parts) (moment : ℕ) (lines : List EntryData) (rolled : Rolled) (number seat raw now : ℕ) (e : Event) (d : Decision)
     → IsBook opening service moment lines rolled → number ≡ opening.line + length lines → now ≡ max raw moment → d ≡ decision (situation_of (past_of (journal opening lines rolled))) now (seen e) → is_entered d.reply ≡ true
     → Follows (past_of (journal opening lines rolled)) (line number seat (seen e) now d.reply)
 follows_there opening service moment lines rolled number seat raw now e d book numbered raised_ decided entered = search (rules, stage_count, same_opening)
 
-pub book_step : (opening : Opening) (service after : Service) (moment : ℕ) (lines : List EntryData) (rolled : Rolled) (number seat raw now : ℕ) (e : Event) (d : Decision)
+pub book_step : (opening : Opening) (service after : Parts) (moment : ℕ) (lines : List EntryData) (rolled : Rolled) (number seat raw now : ℕ) (e : Event) (d : Decision)
     → IsBook opening service moment lines rolled → number ≡ opening.line + length lines → now ≡ max raw moment → d ≡ decision (situation_of (past_of (journal opening lines rolled))) now (seen e) → is_entered d.reply ≡ true → now < 2 ^ 64 → seat < 2 ^ 32
     → IsSafeEvent (seen e) → StandsFor after (length lines - rolled.lines + 1) (situation_after (situation_of (past_of (journal opening lines rolled))) (line number seat (seen e) now d.reply) d.next)
     → after.refused ≡ refused_after (past_of (journal opening lines rolled)).standing d.next service.refused (is_refused_call d.reply)
@@ -140,20 +140,20 @@ book_step opening service after moment lines rolled number seat raw now e d book
     }
 
 -- parts that stand for the same are those of the same book
-pub book_kept : (opening : Opening) (service after : Service) (moment : ℕ) (lines : List EntryData) (rolled : Rolled) → IsBook opening service moment lines rolled
+pub book_kept : (opening : Opening) (service after : Parts) (moment : ℕ) (lines : List EntryData) (rolled : Rolled) → IsBook opening service moment lines rolled
     → ((held : ℕ) (s : Situation) → StandsFor service held s → StandsFor after held s) → after.refused ≡ service.refused → IsBook opening after moment lines rolled
 book_kept opening service after moment lines rolled book stands_ refused_ = search rules
 
 -- what a plan changes
-pub plan_effects : (opening : Opening) (service : Service) (moment : ℕ) (lines : List EntryData) (rolled : Rolled) (now : ℕ) (e : EventData) (plan : Plan) → IsBook opening service moment lines rolled
+pub plan_effects : (opening : Opening) (service : Parts) (moment : ℕ) (lines : List EntryData) (rolled : Rolled) (now : ℕ) (e : EventData) (plan : Plan) → IsBook opening service moment lines rolled
     → plan ≡ planned service.config now e (decision (situation_of (past_of (journal opening lines rolled))) now e) → plan.effects ≡ effects_of (situation_of (past_of (journal opening lines rolled))).config now e plan.decision
 plan_effects opening service moment lines rolled now e plan book planned_ = search rules
 
-pub plan_installs : (opening : Opening) (service : Service) (moment : ℕ) (lines : List EntryData) (rolled : Rolled) (now : ℕ) (e : EventData) (plan : Plan) → IsBook opening service moment lines rolled
+pub plan_installs : (opening : Opening) (service : Parts) (moment : ℕ) (lines : List EntryData) (rolled : Rolled) (now : ℕ) (e : EventData) (plan : Plan) → IsBook opening service moment lines rolled
     → plan ≡ planned service.config now e (decision (situation_of (past_of (journal opening lines rolled))) now e) → plan.effects.installs ≡ is_some (install_by e plan.decision.reply)
 plan_installs opening service moment lines rolled now e plan book planned_ = ap (λ (x : Effects). x.installs) (plan_effects opening service moment lines rolled now e plan book planned_)
 
-plan_changes : (opening : Opening) (service : Service) (moment : ℕ) (lines : List EntryData) (rolled : Rolled) (raw now : ℕ) (e : EventData) (plan : Plan) → IsBook opening service moment lines rolled → now ≡ max raw moment
+plan_changes : (opening : Opening) (service : Parts) (moment : ℕ) (lines : List EntryData) (rolled : Rolled) (raw now : ℕ) (e : EventData) (plan : Plan) → IsBook opening service moment lines rolled → now ≡ max raw moment
     → plan ≡ planned service.config now e (decision (situation_of (past_of (journal opening lines rolled))) now e) → AreEffects (situation_of (past_of (journal opening lines rolled))) plan.decision.next plan.effects
 plan_changes opening service moment lines rolled raw now e plan book raised_ planned_ =
     let past : Past = past_of (journal opening lines rolled) in
@@ -164,7 +164,7 @@ plan_changes opening service moment lines rolled raw now e plan book raised_ pla
     (subst (λ (d : Decision). AreEffects s d.next (effects_of s.config now e d)) (sym decided) there)
 
 -- a book can go on as planned
-pub can_follow : (opening : Opening) (service : Service) (moment : ℕ) (lines : List EntryData) (rolled : Rolled) (raw now : ℕ) (e : EventData) (plan : Plan) → IsBook opening service moment lines rolled → now ≡ max raw moment
+pub can_follow : (opening : Opening) (service : Parts) (moment : ℕ) (lines : List EntryData) (rolled : Rolled) (raw now : ℕ) (e : EventData) (plan : Plan) → IsBook opening service moment lines rolled → now ≡ max raw moment
     → plan ≡ planned service.config now e (decision (situation_of (past_of (journal opening lines rolled))) now e) → CanFollow service plan.decision.next plan.effects (install_by e plan.decision.reply)
 can_follow opening service moment lines rolled raw now e plan book raised_ planned_ =
     let past : Past = past_of (journal opening lines rolled) in
@@ -179,7 +179,7 @@ can_follow opening service moment lines rolled raw now e plan book raised_ plann
     }
 
 -- the parts after a plan are those of the book with its line
-pub taken_there : (start : Start) (service after : Service) (moment : ℕ) (lines entries : List EntryData) (rolled : Rolled) (number seat raw now : ℕ) (e : Event) (plan : Plan)
+pub taken_there : (start : Start) (service after : Parts) (moment : ℕ) (lines entries : List EntryData) (rolled : Rolled) (number seat raw now : ℕ) (e : Event) (plan : Plan)
     → IsBook (opening_of service.config start) service moment lines rolled → number ≡ start.line + length lines → now ≡ max raw moment
     → plan ≡ planned service.config now (seen e) (decision (situation_of (past_of (journal (opening_of service.config start) lines rolled))) now (seen e)) → is_entered plan.decision.reply ≡ true → now < 2 ^ 64 → seat < 2 ^ 32 → IsSafeEvent (seen e)
     → ((held : ℕ) (s : Situation) → StandsFor service held s → IsOrderly s → AreEffects s plan.decision.next plan.effects → StandsFor after (held + 1) (followed s plan.decision.next plan.effects (install_by (seen e) plan.decision.reply)))
@@ -201,14 +201,14 @@ taken_there start service after moment lines entries rolled number seat raw now 
     subst (λ (ls : List EntryData). IsBook (opening_of after.config start) after now ls rolled) (sym all)
     (subst (λ (parts : ConfigParts). IsBook (opening_of parts start) after now (lines ++ line number seat (seen e) now d.reply ∷ []) rolled) (sym same) step)
 
-pub kept_there : (start : Start) (service after : Service) (moment : ℕ) (lines entries : List EntryData) (rolled : Rolled) → IsBook (opening_of service.config start) service moment lines rolled
+pub kept_there : (start : Start) (service after : Parts) (moment : ℕ) (lines entries : List EntryData) (rolled : Rolled) → IsBook (opening_of service.config start) service moment lines rolled
     → ((held : ℕ) (s : Situation) → StandsFor service held s → StandsFor after held s) → after.refused ≡ service.refused → after.config ≡ service.config → entries ≡ lines → IsBook (opening_of after.config start) after moment entries rolled
 kept_there start service after moment lines entries rolled book stands_ refused_ same all =
     subst (λ (ls : List EntryData). IsBook (opening_of after.config start) after moment ls rolled) (sym all)
     (subst (λ (parts : ConfigParts). IsBook (opening_of parts start) after moment lines rolled) (sym same) (book_kept (opening_of service.config start) service after moment lines rolled book stands_ refused_))
 
 -- the first version that a book holds says how many programs were dropped
-pub rolled_is : (config : ConfigParts) (start : Start) (service : Service) (moment : ℕ) (lines : List EntryData) (rolled : Rolled) → IsBook (opening_of config start) service moment lines rolled → rolled ≡ rolled_of rolled.lines service start
+pub rolled_is : (config : ConfigParts) (start : Start) (service : Parts) (moment : ℕ) (lines : List EntryData) (rolled : Rolled) → IsBook (opening_of config start) service moment lines rolled → rolled ≡ rolled_of rolled.lines service start
 rolled_is config start service moment lines rolled book =
     let opening : Opening = opening_of config start in
     let s : Situation = situation_of (past_of (journal opening lines rolled)) in
@@ -216,7 +216,7 @@ rolled_is config start service moment lines rolled book =
     let programs : service.registry.first_version - start.version ≡ rolled.programs = told ∙ ap (λ (r : Rolled). r.programs) (same_rolled opening lines rolled) in
     ap (λ (n : ℕ). record { lines = rolled.lines; programs = n }) (sym programs)
 
-pub book_told : (config : ConfigParts) (start : Start) (service : Service) (moment : ℕ) (lines : List EntryData) (rolled : Rolled) → IsBook (opening_of config start) service moment lines rolled
+pub book_told : (config : ConfigParts) (start : Start) (service : Parts) (moment : ℕ) (lines : List EntryData) (rolled : Rolled) → IsBook (opening_of config start) service moment lines rolled
     → IsBook (opening_of config start) service moment lines (rolled_of rolled.lines service start)
 book_told config start service moment lines rolled book = subst (λ (r : Rolled). IsBook (opening_of config start) service moment lines r) (rolled_is config start service moment lines rolled book) book
 
@@ -224,7 +224,7 @@ chosen_true : {A : Type 0} (b : Bool) (x y : A) → b ≡ true → (if b then x 
 chosen_true b x y e = search rules
 
 -- the history after is the documented one
-pub applied_there : (opening : Opening) (service : Service) (moment : ℕ) (lines : List EntryData) (rolled : Rolled) (number seat raw now : ℕ) (e : Event) (d : Decision)
+pub applied_there : (opening : Opening) (service : Parts) (moment : ℕ) (lines : List EntryData) (rolled : Rolled) (number seat raw now : ℕ) (e : Event) (d : Decision)
     → IsBook opening service moment lines rolled → number ≡ opening.line + length lines → now ≡ max raw moment → d ≡ decision (situation_of (past_of (journal opening lines rolled))) now (seen e) → is_entered d.reply ≡ true
     → IsApplied (journal opening lines rolled) seat raw (seen e) d.reply (journal opening (lines ++ line number seat (seen e) now d.reply ∷ []) rolled)
 applied_there opening service moment lines rolled number seat raw now e d book numbered raised_ decided entered =
@@ -240,25 +240,25 @@ applied_there opening service moment lines rolled number seat raw now e d book n
     ∙ sym (chosen_true (is_entered (answer (journal opening lines rolled) raw (seen e)).reply) (with_line (journal opening lines rolled) (line_of (journal opening lines rolled) seat raw (seen e))) (journal opening lines rolled) enters))
 
 -- a reply that isn't entered leaves the history
-pub unentered_there : (opening : Opening) (service : Service) (moment : ℕ) (lines : List EntryData) (rolled : Rolled) (seat raw now : ℕ) (e : EventData) (d : Decision) → IsBook opening service moment lines rolled → now ≡ max raw moment
+pub unentered_there : (opening : Opening) (service : Parts) (moment : ℕ) (lines : List EntryData) (rolled : Rolled) (seat raw now : ℕ) (e : EventData) (d : Decision) → IsBook opening service moment lines rolled → now ≡ max raw moment
     → d ≡ decision (situation_of (past_of (journal opening lines rolled))) now e → is_entered d.reply ≡ false → IsApplied (journal opening lines rolled) seat raw e d.reply (journal opening lines rolled)
 unentered_there opening service moment lines rolled seat raw now e d book raised_ decided none = search rules
 
 -- without memory the history stays, where a line would have come
-pub lacking_there : (opening : Opening) (service : Service) (moment : ℕ) (lines : List EntryData) (rolled : Rolled) (seat raw now : ℕ) (e : EventData) (d : Decision) → IsBook opening service moment lines rolled → now ≡ max raw moment
+pub lacking_there : (opening : Opening) (service : Parts) (moment : ℕ) (lines : List EntryData) (rolled : Rolled) (seat raw now : ℕ) (e : EventData) (d : Decision) → IsBook opening service moment lines rolled → now ≡ max raw moment
     → d ≡ decision (situation_of (past_of (journal opening lines rolled))) now e → is_entered d.reply ≡ true → IsApplied (journal opening lines rolled) seat raw e (reply.Refused refusal.ServiceOutOfMemory) (journal opening lines rolled)
 lacking_there opening service moment lines rolled seat raw now e d book raised_ decided entered = search rules
 
 -- ---- numbers that fit
 
-pub line_fits : (opening : Opening) (service : Service) (moment : ℕ) (lines : List EntryData) (rolled : Rolled) → IsBook opening service moment lines rolled → opening.line + length lines < 2 ^ 64
+pub line_fits : (opening : Opening) (service : Parts) (moment : ℕ) (lines : List EntryData) (rolled : Rolled) → IsBook opening service moment lines rolled → opening.line + length lines < 2 ^ 64
 line_fits opening service moment lines rolled book = search (rules, stage_count, same_opening)
 
-pub refused_fits : (opening : Opening) (service : Service) (moment : ℕ) (lines : List EntryData) (rolled : Rolled) → IsBook opening service moment lines rolled → service.refused + 1 < 2 ^ 64
+pub refused_fits : (opening : Opening) (service : Parts) (moment : ℕ) (lines : List EntryData) (rolled : Rolled) → IsBook opening service moment lines rolled → service.refused + 1 < 2 ^ 64
 refused_fits opening service moment lines rolled book = search (rules, length_filter_le)
 
-pub held_fits : (opening : Opening) (service : Service) (moment : ℕ) (lines : List EntryData) (rolled : Rolled) → IsBook opening service moment lines rolled → length lines - rolled.lines ≤ most_entries
+pub held_fits : (opening : Opening) (service : Parts) (moment : ℕ) (lines : List EntryData) (rolled : Rolled) → IsBook opening service moment lines rolled → length lines - rolled.lines ≤ most_entries
 held_fits opening service moment lines rolled book = omega (arith, stage_count opening lines rolled, same_lines opening lines rolled, book.sound.used)
 
-pub word_there : (opening : Opening) (service : Service) (moment : ℕ) (lines : List EntryData) (rolled : Rolled) (raw now : ℕ) → IsBook opening service moment lines rolled → raw < 2 ^ 64 → now ≡ max raw moment → now < 2 ^ 64
+pub word_there : (opening : Opening) (service : Parts) (moment : ℕ) (lines : List EntryData) (rolled : Rolled) (raw now : ℕ) → IsBook opening service moment lines rolled → raw < 2 ^ 64 → now ≡ max raw moment → now < 2 ^ 64
 word_there opening service moment lines rolled raw now book word is = search rules

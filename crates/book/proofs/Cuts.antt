@@ -11,7 +11,7 @@ use Rattle.service_profile.specs.Histories.{Past, past_of, situation_of, install
 use Rattle.service_profile.specs.Machine.{Situation, current_version, program_from}
 use Rattle.service_profile.specs.declared.configuration.ConfigParts.{ConfigParts}
 use Rattle.book.specs.Books.{IsBook, journal}
-use Rattle.book.specs.declared.service.Service.{Service}
+use Rattle.book.specs.declared.parts.Parts.{Parts}
 use Rattle.service_profile.specs.Openings.{IsOpening}
 use Rattle.book.proofs.Openings.{next_line_is}
 use Rattle.book.proofs.Worlds.{reopened_opening}
@@ -55,7 +55,7 @@ reopened_by s program line moment = record {
   moment = moment;
 }
 
-pub reopened_is : (opening : Opening) (service : Service) (moment : ℕ) (lines : List EntryData) (rolled : Rolled) (program : VerifiedProgram) → IsBook opening service moment lines rolled → program ≡ current_program (past_of (journal opening lines rolled))
+pub reopened_is : (opening : Opening) (service : Parts) (moment : ℕ) (lines : List EntryData) (rolled : Rolled) (program : VerifiedProgram) → IsBook opening service moment lines rolled → program ≡ current_program (past_of (journal opening lines rolled))
     → reopened_by (situation_of (past_of (journal opening lines rolled))) program (opening.line + length lines) moment ≡ reopened (past_of (journal opening lines rolled))
 reopened_is opening service moment lines rolled program book current = search (rules, next_line_is)
 
@@ -64,7 +64,7 @@ pub made_so : (s : Situation) (config : ConfigParts) (program : VerifiedProgram)
     → ◌≡◌ {A = Opening} (record { config = config; program = program; version = version; period = period; ticket = ticket; line = line; moment = moment }) (reopened_by s program here moment)
 made_so s config program version period ticket line here moment e a b c d = rw (← e, a, b, c, d) refl
 
-pub reopens_well : (opening : Opening) (service : Service) (moment : ℕ) (lines : List EntryData) (rolled : Rolled) → IsBook opening service moment lines rolled → is_worn_out (past_of (journal opening lines rolled)) ≡ false → IsOpening (reopened (past_of (journal opening lines rolled)))
+pub reopens_well : (opening : Opening) (service : Parts) (moment : ℕ) (lines : List EntryData) (rolled : Rolled) → IsBook opening service moment lines rolled → is_worn_out (past_of (journal opening lines rolled)) ≡ false → IsOpening (reopened (past_of (journal opening lines rolled)))
 reopens_well opening service moment lines rolled book fresh = reopened_opening (past_of (journal opening lines rolled)) book.sound fresh
 
 -- ---- a cut that is not refused

@@ -6,7 +6,7 @@ use Rattle.refusals.specs.declared.RefusalNumber.{RefusalNumber}
 use Rattle.refusals.specs.declared.RefusalNumber.TheVariants as refusal
 use Rattle.bpf_profile.specs.Programs.{VerifiedProgram}
 use Rattle.service_profile.specs.declared.configuration.ConfigParts.{ConfigParts}
-use Rattle.book.specs.declared.service.Service.{Service}
+use Rattle.book.specs.declared.parts.Parts.{Parts}
 use Rattle.service_profile.specs.Answers.{IsLooked, looks, no_owner, looked, reading}
 use Rattle.service_profile.specs.declared.readings.Reading.{Reading}
 use Rattle.service_profile.specs.Machine.{current_version, program_from}
@@ -31,12 +31,12 @@ pub legal_opened : (opening : Opening) → IsLegal (history_of opening [])
 unfolding IsLegal
 legal_opened opening = tt
 
-pub first_book : (opening : Opening) (service : Service) → IsOpening opening → IsSafeProgram opening.program → StandsFor service 0 (situation_of (opened nothing_rolled opening)) → service.refused ≡ 0 → IsBook opening service opening.moment [] nothing_rolled
+pub first_book : (opening : Opening) (service : Parts) → IsOpening opening → IsSafeProgram opening.program → StandsFor service 0 (situation_of (opened nothing_rolled opening)) → service.refused ≡ 0 → IsBook opening service opening.moment [] nothing_rolled
 first_book opening service good program stands none = search (rules, legal_opened)
 
 -- ---- what a book shows
 
-pub line_least : (opening : Opening) (service : Service) (moment : ℕ) (lines : List EntryData) (rolled : Rolled) → IsBook opening service moment lines rolled → 1 ≤ opening.line
+pub line_least : (opening : Opening) (service : Parts) (moment : ℕ) (lines : List EntryData) (rolled : Rolled) → IsBook opening service moment lines rolled → 1 ≤ opening.line
 line_least opening service moment lines rolled book = omega (arith, book.sound.opening.first_line, ap (λ (o : Opening). o.line) (same_opening opening lines rolled))
 
 pub next_line_is : (opening : Opening) (lines : List EntryData) (rolled : Rolled) → opening.line + length lines ≡ next_line (past_of (journal opening lines rolled))

@@ -9,7 +9,7 @@ use Rattle.service_profile.specs.Histories.{Past, past_of, situation_of, greates
 use Rattle.service_profile.specs.Machine.{Situation}
 use Rattle.service_profile.specs.Answers.{count_unneeded, is_worn_out, held_lines, count_up_to, lines_up_to, roll, IsRolled, no_room}
 use Rattle.book.specs.declared.books.Start.{Start}
-use Rattle.book.specs.declared.service.Service.{Service}
+use Rattle.book.specs.declared.parts.Parts.{Parts}
 use Rattle.book.specs.Books.{IsBook, all_lines, lines_handed, journal, opening_of, rolled_of}
 use Rattle.book.specs.Following.{without_unneeded}
 use Rattle.book.specs.Rolling.{IsFurther, with_rolled}
@@ -35,7 +35,7 @@ handed_count pieces piece rolled count is e = omega (arith, is, e, ap length (mo
 
 -- ---- what the history says
 
-stands_holding : (service : Service) (held n : ℕ) (s : Situation) → StandsFor service held s → StandsFor service n (holding n s)
+stands_holding : (service : Parts) (held n : ℕ) (s : Situation) → StandsFor service held s → StandsFor service n (holding n s)
 stands_holding service held n s stands = search rules
 
 -- where no number is past its limit there is room
@@ -45,7 +45,7 @@ room_there past rolled e = search rules
 abbrev pub more_taken : Opening → List EntryData → Rolled → ℕ → Rolled
 more_taken opening lines rolled count = record { lines = rolled.lines + count; programs = count_unneeded (situation_of (past_of (journal opening lines rolled))) }
 
-pub book_rolled : (opening : Opening) (service after : Service) (moment : ℕ) (lines : List EntryData) (rolled : Rolled) (count : ℕ) → IsBook opening service moment lines rolled → is_worn_out (past_of (journal opening lines rolled)) ≡ false → rolled.lines + count ≤ length lines
+pub book_rolled : (opening : Opening) (service after : Parts) (moment : ℕ) (lines : List EntryData) (rolled : Rolled) (count : ℕ) → IsBook opening service moment lines rolled → is_worn_out (past_of (journal opening lines rolled)) ≡ false → rolled.lines + count ≤ length lines
     → ((held : ℕ) (s : Situation) → StandsFor service held s → StandsFor after held (without_unneeded s)) → after.refused ≡ service.refused → IsBook opening after moment lines (more_taken opening lines rolled count)
 book_rolled opening service after moment lines rolled count book fresh few dropped refused =
     let past : Past = past_of (journal opening lines rolled) in
@@ -68,7 +68,7 @@ book_rolled opening service after moment lines rolled count book fresh few dropp
     }
 
 -- the first version that is held then says how many programs were dropped
-pub rolled_told : (start : Start) (service after : Service) (lines : List EntryData) (rolled : Rolled) (held count : ℕ) → StandsFor service held (situation_of (past_of (journal (opening_of service.config start) lines rolled)))
+pub rolled_told : (start : Start) (service after : Parts) (lines : List EntryData) (rolled : Rolled) (held count : ℕ) → StandsFor service held (situation_of (past_of (journal (opening_of service.config start) lines rolled)))
     → ((h : ℕ) (s : Situation) → StandsFor service h s → StandsFor after h (without_unneeded s)) → rolled_of (rolled.lines + count) after start ≡ more_taken (opening_of service.config start) lines rolled count
 rolled_told start service after lines rolled held count stands dropped =
     let s : Situation = situation_of (past_of (journal (opening_of service.config start) lines rolled)) in
@@ -76,7 +76,7 @@ rolled_told start service after lines rolled held count stands dropped =
     ap (λ (n : ℕ). record { lines = rolled.lines + count; programs = n }) told
 
 -- the parts after a roll are those of the book with so much more taken out
-pub rolled_there : (start : Start) (service after : Service) (moment : ℕ) (lines all : List EntryData) (first count : ℕ) → IsBook (opening_of service.config start) service moment lines (rolled_of first service start)
+pub rolled_there : (start : Start) (service after : Parts) (moment : ℕ) (lines all : List EntryData) (first count : ℕ) → IsBook (opening_of service.config start) service moment lines (rolled_of first service start)
     → is_worn_out (past_of (journal (opening_of service.config start) lines (rolled_of first service start))) ≡ false → first + count ≤ length lines
     → ((held : ℕ) (s : Situation) → StandsFor service held s → StandsFor after held (without_unneeded s)) → after.refused ≡ service.refused → after.config ≡ service.config → all ≡ lines
     → IsBook (opening_of after.config start) after moment all (rolled_of (first + count) after start)

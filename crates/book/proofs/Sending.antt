@@ -25,8 +25,8 @@ use Rattle.windows.specs.contracts.count.CountWindow as count
 use Rattle.windows.specs.contracts.time.TimeWindow as time
 use Rattle.breaker.specs.contracts.machine.Breaker as breaker
 use Rattle.registry.specs.contracts.holdings.Registry as registry
-use Rattle.pieces.specs.contracts.pieces.Pieces as pieces
-use Rattle.pieces.proofs.Crosses as pieces_sent
+use Rattle.ghost_list.specs.contracts.list.GhostList as pieces
+use Rattle.ghost_list.proofs.Crosses as pieces_sent
 use Rattle.book.proofs.FlatSending.{flat_send, flat_sync}
 
 program_send : IsSend program.the_row

@@ -4,7 +4,7 @@ use Rattle.std.specs.declared.alloc.Global.{Global}
 use Rattle.std.specs.List.{flat_map}
 use Rattle.std.specs.Arc.{arc_value}
 use Rattle.book.specs.declared.books.Start.{Start}
-use Rattle.book.specs.declared.service.Service.{Service}
+use Rattle.book.specs.declared.parts.Parts.{Parts}
 use Rattle.service_profile.specs.declared.configuration.ConfigParts.{ConfigParts}
 use Rattle.service_profile.specs.Events.{EntryData, Opening, Rolled, History}
 use Rattle.service_profile.specs.Histories.{past_of, situation_of, refused_of, greatest, IsLegal}
@@ -30,14 +30,14 @@ abbrev pub all_lines : List (Vec EntryData Global) → List EntryData → List E
 all_lines pieces held = lines_handed pieces ++ held
 
 -- so many lines were handed out, and the programs of all versions before the first that is held were dropped
-abbrev pub rolled_of : ℕ → Service → Start → Rolled
+abbrev pub rolled_of : ℕ → Parts → Start → Rolled
 rolled_of lines service start = record { lines = lines; programs = service.registry.first_version - start.version }
 
 -- a history of which so much was taken out
 abbrev pub journal : Opening → List EntryData → Rolled → History
 journal opening lines rolled = record { opening = opening; lines = lines; rolled = rolled }
 
-pub record IsBook (opening : Opening) (service : Service) (moment : ℕ) (lines : List EntryData) (rolled : Rolled) : Type 0 where
+pub record IsBook (opening : Opening) (service : Parts) (moment : ℕ) (lines : List EntryData) (rolled : Rolled) : Type 0 where
   pub there : rolled.lines ≤ length lines
   pub room : LeavesRoom (past_of (journal opening lines rolled))
   pub legal : IsLegal (journal opening lines rolled)

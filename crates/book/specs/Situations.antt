@@ -2,7 +2,7 @@
 use Rattle.std.specs.Prelude.{◌≡◌, ℕ, ◌+◌, ◌-◌, ◌<◌, ◌≤◌, ◌^◌, Option, Some, None, length, drop}
 use Rattle.std.specs.List.{AllByRecursion}
 use Rattle.book.specs.declared.plans.Effects.{Effects}
-use Rattle.book.specs.declared.service.Service.{Service}
+use Rattle.book.specs.declared.parts.Parts.{Parts}
 use Rattle.bpf_profile.specs.Programs.{VerifiedProgram}
 use Rattle.breaker.specs.Situations.{BreakerSituation}
 use Rattle.breaker.specs.Situations as breakers
@@ -28,7 +28,7 @@ pub record IsRegistered (registry : RegistryData) (s : Situation) : Type 0 where
   pub next : s.next_ticket ≡ registry.next_ticket
 
 -- a service's parts and so many entries stand for a situation: the breaker for where it stands, for the notes of its period and for the permissions held, the bulkhead for how many tickets are open, the registry for versions and tickets
-pub record StandsFor (service : Service) (held : ℕ) (s : Situation) : Type 0 where
+pub record StandsFor (service : Parts) (held : ℕ) (s : Situation) : Type 0 where
   pub configured : s.config ≡ service.config
   pub stands : breakers.StandsFor service.breaker (breaker_of s)
   pub places : service.bulkhead ≡ record { places = s.config.max_concurrent_calls; taken = length s.open_tickets }
@@ -45,7 +45,7 @@ pub record IsOrderly (s : Situation) : Type 0 where
   pub versions : s.first_version + length s.programs + 1 < 2 ^ 64
 
 -- a service's parts stand for an orderly situation
-pub record HasSituation (service : Service) : Type 0 where
+pub record HasSituation (service : Parts) : Type 0 where
   pub held : ℕ
   pub situation : Situation
   pub stands : StandsFor service held situation
@@ -69,7 +69,7 @@ pub record AreEffects (s : Situation) (next : Standing) (effects : Effects) : Ty
   pub note : (n : Note) → effects.note ≡ Some n → AreNotAfter n.moment s.notes
 
 -- what a change of tickets and of the breaker leaves
-pub record KeepsVersions (before after : Service) : Type 0 where
+pub record KeepsVersions (before after : Parts) : Type 0 where
   pub config : after.config ≡ before.config
   pub refused : after.refused ≡ before.refused
   pub programs : after.registry.programs ≡ before.registry.programs
@@ -77,11 +77,11 @@ pub record KeepsVersions (before after : Service) : Type 0 where
   pub room : after.registry.program_room ≡ before.registry.program_room
 
 -- where a decision leads, the breaker stays or begins a period
-abbrev pub Leads : Service → Standing → Type 0
+abbrev pub Leads : Parts → Standing → Type 0
 Leads service next = next.period ≡ service.breaker.standing.period → next ≡ service.breaker.standing
 
 -- a service can go on so, with the program that gets a version
-pub record CanFollow (service : Service) (next : Standing) (effects : Effects) (installs : Option VerifiedProgram) : Type 0 where
+pub record CanFollow (service : Parts) (next : Standing) (effects : Effects) (installs : Option VerifiedProgram) : Type 0 where
   pub held : ℕ
   pub situation : Situation
   pub stands : StandsFor service held situation

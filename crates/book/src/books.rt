@@ -14,8 +14,8 @@ ghost use Rattle.book.specs.Sound.{IsSound};
 use crate::changes::{follow, know_config, know_event, know_program, owner_of};
 use crate::events::{Entry, Event};
 use crate::machine::{decide, is_entered};
-use crate::service::Service;
-use pieces::Pieces;
+use crate::parts::Parts;
+use ghost_list::GhostList;
 use refusals::RefusalNumber;
 use service_profile::{Config, Reading, Reply};
 use std::alloc::{AllocError, Global};
@@ -39,12 +39,12 @@ pub(crate) struct Start {
 #[derive(Drop)]
 pub struct Book {
     pub(crate) start: Start,
-    pub(crate) service: Service,
+    pub(crate) service: Parts,
     pub(crate) moment: u64,
     /// How many entries were handed out since it opened.
     pub(crate) rolled: u64,
     /// These entries, for proofs alone.
-    pub(crate) handed: Pieces<Vec<Entry>>,
+    pub(crate) handed: GhostList<Vec<Entry>>,
     /// The entries that are held.
     pub(crate) entries: Vec<Entry>,
 }
@@ -92,10 +92,10 @@ impl Book {
         ensures sound { IfOk result (λ book. IsSound (past_of book)) }
     {
         Ok(Book {
-            service: Service::new(alloc, config, &start)?,
+            service: Parts::new(alloc, config, &start)?,
             moment: start.moment,
             rolled: 0,
-            handed: Pieces::new(),
+            handed: GhostList::new(),
             entries: Vec::new(alloc),
             start,
         })

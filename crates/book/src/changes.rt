@@ -15,8 +15,8 @@ ghost use Rattle.book.specs.Seen.{seen};
 ghost use Rattle.book.specs.Situations.{AreEffects, CanFollow, IsOrderly, StandsFor};
 
 use crate::events::{Entry, Event};
+use crate::parts::Parts;
 use crate::plans::Plan;
-use crate::service::Service;
 use bpf_run::Judged;
 use refusals::RefusalNumber;
 use service_profile::Config;
@@ -72,7 +72,7 @@ pub(crate) fn know_event(event: &Event)
 /// was.
 pub(crate) fn follow(
     entries: &mut Vec<Entry>,
-    service: &mut Service,
+    service: &mut Parts,
     event: &Event,
     plan: Plan,
 ) -> Result<(), AllocError>

@@ -8,7 +8,7 @@ ghost use Rattle.windows.specs.Notes.{AreNotAfter};
 ghost use Rattle.book.specs.Situations.{HasSituation, StandsFor};
 ghost use Rattle.book.specs.Finding.{IsFoundAs, HasFound, found_standing, ticket_in};
 
-use crate::service::Service;
+use crate::parts::Parts;
 use refusals::RefusalNumber;
 use service_profile::{ConfigParts, Note, OpenTicket, Permission, Standing};
 use std::sync::Arc;
@@ -19,12 +19,12 @@ use verifier::Verified;
 /// changed: what is decided goes on from where the breaker stands here.
 #[derive(Drop)]
 pub(crate) struct FoundService<'a> {
-    pub service: &'a Service,
+    pub service: &'a Parts,
     /// Where the breaker stands once its stay has ended; None where no stay ends.
     pub after_stay: Option<Standing>,
 }
 
-impl Service {
+impl Parts {
     /// The service as an event at a moment finds it.
     pub(crate) fn at_moment(&self, moment: u64) -> FoundService<'_>
         requires { HasSituation self.now }

@@ -11,9 +11,9 @@ mod found;
 pub mod laws;
 mod machine;
 mod paging;
+mod parts;
 mod plans;
 mod rolling;
-mod service;
 mod settling;
 
 pub use books::Book;

@@ -12,8 +12,8 @@ ghost use Rattle.book.specs.Finding.{IsFoundAs, HasFound};
 use crate::changes::{know_program, know_work};
 use crate::events::Event;
 use crate::found::FoundService;
+use crate::parts::Parts;
 use crate::plans::{Effects, Plan};
-use crate::service::Service;
 use bpf_profile::Verdict;
 use bpf_run::Judged;
 use packed_outcomes::PackedOutcome;
@@ -252,7 +252,7 @@ fn moved_to(found: &FoundService<'_>, moment: u64, state: State) -> Plan
 }
 
 /// Whether the journal has no entry left for the event.
-fn is_full(service: &Service, held: usize, event: &Event) -> bool
+fn is_full(service: &Parts, held: usize, event: &Event) -> bool
     requires situation { HasSituation service.now }
     requires held { held < 2 ^ 32 }
     ensures { (s : Situation) → StandsFor service.now held s → result ≡ is_full s (seen event.now) }
@@ -284,7 +284,7 @@ fn decided(found: &FoundService<'_>, moment: u64, event: &Event) -> Plan
 
 /// What is decided of an event where the journal holds so many entries, by any situation that the parts
 /// stand for. The moment is not before that of a note. It takes no memory, and changes nothing.
-pub(crate) fn decide(service: &Service, held: usize, moment: u64, event: &Event) -> Plan
+pub(crate) fn decide(service: &Parts, held: usize, moment: u64, event: &Event) -> Plan
     requires situation { HasSituation service.now }
     requires held { held < 2 ^ 32 }
     ensures { (s : Situation) → StandsFor service.now held s → AreNotAfter moment s.notes → result ≡ planned s.config moment (seen event.now) (decision s moment (seen event.now)) }

@@ -9,8 +9,8 @@ ghost use Rattle.windows.specs.Notes.{AreNotAfter};
 ghost use Rattle.book.specs.Following.{admitted, changed_by, followed, installed_in, refused_after, settled, standing_so, without};
 ghost use Rattle.book.specs.Situations.{AreEffects, CanFollow, HasSituation, IsLater, IsOrderly, KeepsVersions, Leads, StandsFor};
 
+use crate::parts::Parts;
 use crate::plans::Effects;
-use crate::service::Service;
 use breaker::laws::few_notes_leave_room;
 use service_profile::{Note, Standing};
 use std::alloc::AllocError;
@@ -30,7 +30,7 @@ fn refused_after(before: Standing, next: Standing, refused: u64, refuses_call: b
     if refuses_call { earlier + 1 } else { earlier }
 }
 
-impl Service {
+impl Parts {
     /// Ends a ticket, where it is open, and gives back its permission and its place.
     fn end(&mut self, ticket: u64)
         requires { HasSituation self.old }

@@ -6,13 +6,13 @@ use Rattle.std.proofs.lemmas.Grind.{common_steps}
 use Rattle.slab.specs.Slab.{Slab, ContainsKey, Updates, get, slab_len, with_value}
 use Rattle.slab.proofs.SlabLemmas.{ContainsKey-within, Updates-set, Updates-with_value}
 use Rattle.http_messages.specs.declared.front.Fault.{Fault}
-use Rattle.http_turns.specs.Requests.{HttpRequestData}
-use Rattle.http_turns.specs.declared.stage.Stage.TheVariants as stage
-use Rattle.http_turns.specs.Connections.{new_connection}
-use Rattle.http_turns.specs.Sessions.{SessionData}
-use Rattle.http_turns.specs.Steps.{Step}
-use Rattle.http_turns.specs.declared.ended.Ended.{Ended}
-use Rattle.http_turns.proofs.Chains.{steps_behind}
+use Rattle.http_connection.specs.Requests.{HttpRequestData}
+use Rattle.http_connection.specs.declared.stage.Stage.TheVariants as stage
+use Rattle.http_connection.specs.Connections.{new_connection}
+use Rattle.http_connection.specs.Sessions.{SessionData}
+use Rattle.http_connection.specs.Steps.{Step}
+use Rattle.http_connection.specs.declared.ended.Ended.{Ended}
+use Rattle.http_connection.proofs.Chains.{steps_behind}
 use Rattle.event_loop.specs.declared.departing.Cause.{Cause}
 use Rattle.event_loop.specs.declared.departing.Cause.TheVariants as cause
 use Rattle.event_loop.specs.declared.opened.Opened.{Opened}

@@ -3,21 +3,21 @@ use Rattle.std.proofs.Common.{◌≡◌, ◌⊎◌, inl, inr, ℕ, List, [], ◌
 use Rattle.std.proofs.lemmas.List.{append-nil}
 use Rattle.std.specs.Io.KnownBytes.{Appends, Consumes}
 use Rattle.counted_io.proofs.Pieces.{appends_more, appends_none}
-use Rattle.polled_io.specs.Wires.{CountsOf}
+use Rattle.counted_io.specs.Wires.{CountsOf}
 use Rattle.http_messages.specs.declared.front.Fault.{Fault}
-use Rattle.http_turns.proofs.Chains.{consumes_more}
-use Rattle.http_turns.specs.Requests.{HttpRequestData}
-use Rattle.http_turns.specs.declared.ended.Ended.{Ended}
-use Rattle.http_turns.specs.declared.ended.Ended.TheVariants as end
-use Rattle.http_turns.specs.declared.stage.Stage.TheVariants as stage
-use Rattle.http_turns.specs.declared.turned.Turned.TheVariants as turned
-use Rattle.http_turns.specs.Connections.{ConnectionData, new_connection}
-use Rattle.http_turns.specs.Ends.{IsTurned}
-use Rattle.http_turns.specs.Exchanges.{Exchange, IsExchange}
-use Rattle.http_turns.specs.Sessions.{SessionData, IsFinished}
-use Rattle.http_turns.specs.Steps.{Step}
-use Rattle.http_turns.specs.Turns.{Goes}
-use Rattle.http_turns.proofs.Chains.{consumes_none, goes_on, second_none}
+use Rattle.http_connection.proofs.Chains.{consumes_more}
+use Rattle.http_connection.specs.Requests.{HttpRequestData}
+use Rattle.http_connection.specs.declared.ended.Ended.{Ended}
+use Rattle.http_connection.specs.declared.ended.Ended.TheVariants as end
+use Rattle.http_connection.specs.declared.stage.Stage.TheVariants as stage
+use Rattle.http_connection.specs.declared.turned.Turned.TheVariants as turned
+use Rattle.http_connection.specs.Connections.{ConnectionData, new_connection}
+use Rattle.http_connection.specs.Ends.{IsTurned}
+use Rattle.http_connection.specs.Exchanges.{Exchange, IsExchange}
+use Rattle.http_connection.specs.Sessions.{SessionData, IsFinished}
+use Rattle.http_connection.specs.Steps.{Step}
+use Rattle.http_connection.specs.Turns.{Goes}
+use Rattle.http_connection.proofs.Chains.{consumes_none, goes_on, second_none}
 use Rattle.event_loop.specs.declared.departing.Cause.TheVariants as cause
 use Rattle.event_loop.specs.declared.opened.Served.{Served}
 use Rattle.event_loop.specs.declared.opened.Served.TheVariants as served

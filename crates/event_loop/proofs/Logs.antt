@@ -1,7 +1,7 @@
 -- The steps of one connection in a log, behind which further steps come.
 use Rattle.std.proofs.Common.{◌≡◌, ◌≢◌, ◌⊎◌, inl, inr, ℕ, List, [], ◌∷◌, ◌++◌, ◌==◌, Bool, true, false, if◌then◌else◌, ap, sym, ◌∙◌, refl, eqb-true, arith}
 use Rattle.std.proofs.lemmas.Bool.{eq-eqb}
-use Rattle.http_turns.specs.Steps.{Step}
+use Rattle.http_connection.specs.Steps.{Step}
 use Rattle.event_loop.specs.Log.{LoggedStep, all_steps, steps_of, tag}
 
 -- ---- numbers

@@ -1,9 +1,9 @@
 -- Sessions that left.
 use Rattle.std.specs.Prelude.{◌≡◌, ℕ, List, [], ◌∷◌, ◌++◌, Option, Some, None, ⊤}
-use Rattle.http_turns.specs.declared.ended.Ended.{Ended}
-use Rattle.http_turns.specs.Connections.{ConnectionData}
-use Rattle.http_turns.specs.Phases.{IsPhase}
-use Rattle.http_turns.specs.Sessions.{SessionData}
+use Rattle.http_connection.specs.declared.ended.Ended.{Ended}
+use Rattle.http_connection.specs.Connections.{ConnectionData}
+use Rattle.http_connection.specs.Phases.{IsPhase}
+use Rattle.http_connection.specs.Sessions.{SessionData}
 use Rattle.event_loop.specs.declared.departing.Cause.{Cause}
 use Rattle.event_loop.specs.declared.departing.Cause.TheVariants as cause
 use Rattle.event_loop.specs.declared.opened.Served.{Served}

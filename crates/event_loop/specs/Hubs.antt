@@ -2,9 +2,9 @@
 use Rattle.std.specs.Prelude.{◌≡◌, ◌⊎◌, ◌<◌, ◌≤◌, ℕ, List, [], ◌∷◌, ◌++◌, Option, Some, None}
 use Rattle.slab.specs.Slab.{Slab, Updates, get}
 use Rattle.http_messages.specs.declared.front.Fault.{Fault}
-use Rattle.http_turns.specs.Requests.{HttpRequestData}
-use Rattle.http_turns.specs.Steps.{Step, AreSteps}
-use Rattle.http_turns.specs.declared.ended.Ended.{Ended}
+use Rattle.http_connection.specs.Requests.{HttpRequestData}
+use Rattle.http_connection.specs.Steps.{Step, AreSteps}
+use Rattle.http_connection.specs.declared.ended.Ended.{Ended}
 use Rattle.event_loop.specs.declared.departing.Cause.TheVariants as cause
 use Rattle.event_loop.specs.declared.opened.Opened.{Opened}
 use Rattle.event_loop.specs.declared.hub.Hub.{Hub}

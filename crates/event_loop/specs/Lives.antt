@@ -2,10 +2,10 @@
 use Rattle.std.specs.Prelude.{◌≡◌, ◌≢◌, ◌⊎◌, ◌<◌, ℕ, List, [], ◌∷◌, ◌++◌, Option, ⊤}
 use Rattle.std.specs.Io.KnownBytes.{Appends, Consumes}
 use Rattle.http_messages.specs.declared.front.Fault.{Fault}
-use Rattle.http_turns.specs.Sessions.{SessionData, IsFinished, ReadsOn}
-use Rattle.http_turns.specs.Requests.{HttpRequestData}
-use Rattle.http_turns.specs.Steps.{Step, AreSteps}
-use Rattle.http_turns.specs.Turns.{Reaches}
+use Rattle.http_connection.specs.Sessions.{SessionData, IsFinished, ReadsOn}
+use Rattle.http_connection.specs.Requests.{HttpRequestData}
+use Rattle.http_connection.specs.Steps.{Step, AreSteps}
+use Rattle.http_connection.specs.Turns.{Reaches}
 use Rattle.event_loop.specs.Log.{LoggedStep, steps_of}
 use Rattle.event_loop.specs.Departures.{Departed, LeavesSo}
 

@@ -2,14 +2,14 @@
 use Rattle.std.specs.Prelude.{◌≡◌, ◌≢◌, ℕ, List, [], ◌∷◌, ◌++◌, ◌==◌, Option, Some, None, if◌then◌else◌, ⊤}
 use Rattle.http_messages.specs.declared.front.Fault.{Fault}
 use Rattle.http_messages.specs.Messages.{IsPartOfMessage}
-use Rattle.http_turns.specs.declared.ended.Ended.{Ended}
-use Rattle.http_turns.specs.declared.ended.Ended.TheVariants as ended
-use Rattle.http_turns.specs.Requests.{HttpRequestData}
-use Rattle.http_turns.specs.Serving.{IsUnfinished}
-use Rattle.http_turns.specs.declared.stage.Stage.{Stage}
-use Rattle.http_turns.specs.declared.stage.Stage.TheVariants as stage
-use Rattle.http_turns.specs.Steps.{Step, AreSteps}
-use Rattle.http_turns.specs.Turns.{Reaches}
+use Rattle.http_connection.specs.declared.ended.Ended.{Ended}
+use Rattle.http_connection.specs.declared.ended.Ended.TheVariants as ended
+use Rattle.http_connection.specs.Requests.{HttpRequestData}
+use Rattle.http_connection.specs.Serving.{IsUnfinished}
+use Rattle.http_connection.specs.declared.stage.Stage.{Stage}
+use Rattle.http_connection.specs.declared.stage.Stage.TheVariants as stage
+use Rattle.http_connection.specs.Steps.{Step, AreSteps}
+use Rattle.http_connection.specs.Turns.{Reaches}
 
 -- a step, and the number of the connection whose message it answers
 pub record LoggedStep : Type 0 where

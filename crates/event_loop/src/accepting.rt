@@ -3,7 +3,7 @@ ghost use Rattle.std.specs.Prelude.{◌≡◌, false, IfSome, IfOk, IfErr};
 ghost use Rattle.std.proofs.Props.{props};
 ghost use Rattle.event_loop.specs.Failures.{IsOfListener};
 ghost use Rattle.event_loop.specs.Numbers.{is_left};
-ghost use Rattle.http_turns.specs.Connections.{new_connection};
+ghost use Rattle.http_connection.specs.Connections.{new_connection};
 ghost use Rattle.event_loop.specs.Hubs.{HasTended};
 
 use crate::departing::Departures;
@@ -11,7 +11,7 @@ use crate::failure::ListenerFailed;
 use crate::hub::{Hub, leave_waiting, longest_waiting, take_in};
 use crate::limits::{Limits, SharedCounts, is_left};
 use crate::listening::{Accepted, Listener};
-use http_turns::Session;
+use http_connection::Session;
 use mio::{Poll, Token};
 use std::alloc::Global;
 use std::io::ErrorKind;

@@ -1,10 +1,10 @@
 //! How sessions leave.
 ghost use Rattle.std.specs.Prelude.{◌≡◌, List, Option, [], ◌∷◌, None};
-ghost use Rattle.http_turns.specs.Connections.{new_connection};
-ghost use Rattle.http_turns.specs.Sessions.{SessionData};
+ghost use Rattle.http_connection.specs.Connections.{new_connection};
+ghost use Rattle.http_connection.specs.Sessions.{SessionData};
 ghost use Rattle.event_loop.specs.Departures.{Departed, LeavesSo, Records};
 
-use http_turns::{Ended, Phase, Session};
+use http_connection::{Ended, Phase, Session};
 
 /// Why a session leaves.
 #[derive(Clone, Copy, Debug, PartialEq, Eq)]

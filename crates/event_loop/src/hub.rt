@@ -1,7 +1,7 @@
 //! The open sessions of a worker.
 ghost use Rattle.std.specs.Prelude.{◌≡◌, Some};
 ghost use Rattle.slab.specs.Slab.{get};
-ghost use Rattle.http_turns.specs.Connections.{new_connection};
+ghost use Rattle.http_connection.specs.Connections.{new_connection};
 ghost use Rattle.event_loop.specs.Departures.{LeavesSo};
 ghost use Rattle.event_loop.specs.Hubs.{HasLeft, HasTended, HasTurned};
 
@@ -10,7 +10,7 @@ use crate::due::Due;
 use crate::limits::SharedCounts;
 use crate::listening::Accepted;
 use crate::opened::{Opened, Served};
-use http_turns::{Clock, Ended, Intake, Responder, Session};
+use http_connection::{Clock, Ended, Intake, Responder, Session};
 use slab::Slab;
 use std::alloc::Global;
 

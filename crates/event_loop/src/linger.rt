@@ -3,8 +3,8 @@
 //! other side may then lose the answer before it has read it (RFC 9112, section 9.6).
 ghost use Rattle.event_loop.specs.Lives.{Lingers};
 
-use http_turns::Session;
-use polled_io::{Polling, Stream};
+use counted_io::{Polling, Stream};
+use http_connection::Session;
 
 /// How many pieces of what the other side sends are dropped at most, and how many bytes each has: 8 MiB in all.
 pub(crate) const MOST_PIECES: u32 = 1_024;

@@ -1,9 +1,9 @@
 //! Where connections come from.
 ghost use Rattle.std.specs.Prelude.{IfOk, ⊤};
 
+use counted_io::Stream;
 use mio::unix::SourceFd;
 use mio::{Interest, Poll, Token};
-use polled_io::Stream;
 use std::io;
 use std::net::{TcpListener, TcpStream};
 use std::os::fd::AsRawFd;

@@ -7,8 +7,8 @@ use crate::departing::Cause;
 use crate::linger::{Lingering, MOST_PIECES, read_on};
 use crate::listening::Accepted;
 use crate::patience::{MOST_LINGERING, idle_deadline, patience};
-use http_turns::{Clock, Ended, Intake, Phase, Responder, Session, Turned};
-use polled_io::Stream;
+use counted_io::Stream;
+use http_connection::{Clock, Ended, Intake, Phase, Responder, Session, Turned};
 use std::alloc::Global;
 
 /// A connection that is open.

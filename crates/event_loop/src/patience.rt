@@ -1,5 +1,5 @@
 //! How long a connection may take, by what it is about.
-use http_turns::Phase;
+use http_connection::Phase;
 
 /// For how many milliseconds a connection may stay idle between messages. It is above the minute that clients of HTTP
 /// keep idle connections open for, so that mostly the client closes first.

@@ -12,7 +12,7 @@ use crate::failure::ListenerFailed;
 use crate::hub::{Hub, serve_key, sweep};
 use crate::limits::{Limits, SharedCounts};
 use crate::listening::{Accepted, Listener};
-use http_turns::{Clock, Intake, Responder};
+use http_connection::{Clock, Intake, Responder};
 use mio::{Events, Poll, Token};
 use std::alloc::Global;
 use std::net::Net;

@@ -2,7 +2,7 @@
 use Rattle.std.proofs.Common.{◌≡◌, ℕ, List, Option, None, Result, Ok, Err, refl}
 use Rattle.std.specs.Prelude.{OnErr}
 use Rattle.service.specs.Asked.{RequestData, ResponseData}
-use Rattle.http_turns.specs.Requests.{HttpRequestData}
+use Rattle.http_connection.specs.Requests.{HttpRequestData}
 use Rattle.http_front.specs.Asked.{asked, asks}
 use Rattle.http_front.specs.Answered.{IsAnswered, text_for}
 

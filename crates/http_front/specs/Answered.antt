@@ -8,7 +8,7 @@ use Rattle.http_routes.specs.declared.table.Route.{Route}
 use Rattle.http_front.specs.AnswerTexts.{answer_text}
 use Rattle.http_messages.specs.declared.front.Fault.{Fault}
 use Rattle.http_messages.specs.Fields.{is_head_method}
-use Rattle.http_turns.specs.Requests.{HttpRequestData}
+use Rattle.http_connection.specs.Requests.{HttpRequestData}
 use Rattle.http_front.specs.Asked.{Asking, asks, refuses, asked}
 
 abbrev pub refused_with : RefusalNumber → ResponseData

@@ -7,7 +7,7 @@ use Rattle.http_routes.specs.Finding.{Asked, finds}
 use Rattle.http_routes.specs.Paths.{query_of}
 use Rattle.http_routes.specs.Table.{method_of}
 use Rattle.http_front.specs.Bodies.{body_asks}
-use Rattle.http_turns.specs.Requests.{HttpRequestData}
+use Rattle.http_connection.specs.Requests.{HttpRequestData}
 use Rattle.service.specs.Asked.{RequestData}
 
 -- what is asked of the service at a place; or why nothing is, with the route that was asked with another method

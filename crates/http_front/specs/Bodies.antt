@@ -1,32 +1,24 @@
 -- What a request asks for, by its route, the number in its path, its query and its body.
-use Rattle.std.specs.Prelude.{ℕ, List, Option, Some, None, option_map, Result, Ok, Err, codes}
+use Rattle.std.specs.Prelude.{ℕ, List, Option, Some, None, Result, Ok, Err}
 use Rattle.std.specs.Option.{ok_or}
 use Rattle.serde_json.specs.Data.{Data}
 use Rattle.refusals.specs.declared.RefusalNumber.{RefusalNumber}
 use Rattle.refusals.specs.declared.RefusalNumber.TheVariants as refusal
-use Rattle.requests.specs.Reports.{report_of}
+use Rattle.requests.specs.Asking.{request_of}
+use Rattle.requests.specs.declared.asking.RequestKind.{RequestKind}
+use Rattle.requests.specs.declared.asking.RequestKind.TheVariants as kind
 use Rattle.texts.specs.JsonText.{json_of}
-use Rattle.requests.specs.Transitions.{state_of}
-use Rattle.requests.specs.Values.{number_at}
 use Rattle.service_profile.specs.Answers.{map_ok}
-use Rattle.service.specs.Asked.{RequestData, acquire, report, release, install, move, reset, read, page, cut, roll}
+use Rattle.service.specs.Asked.{RequestData, acquire, install, reset, read, page, cut}
 use Rattle.http_front.specs.Layouts.{layout_in}
 use Rattle.http_routes.specs.EntryNumbers.{entry_number}
 use Rattle.http_routes.specs.declared.table.Route.{Route}
 use Rattle.http_routes.specs.declared.table.Route.TheVariants as route
 
--- what a JSON value asks for by a route whose body is JSON; None where a value is missing, of the wrong kind or out of range
-abbrev pub value_asks : Route → Data → Option RequestData
-value_asks route.Report d = option_map report (report_of d)
-value_asks route.Release d = option_map release (number_at (codes "ticket") d)
-value_asks route.Transition d = option_map move (state_of d)
-value_asks route.Roll d = option_map roll (number_at (codes "to") d)
-value_asks other d = None
-
 -- a body that is no JSON is refused as such, before its values are looked at
-abbrev pub json_asks : Route → Option Data → Result RequestData RefusalNumber
-json_asks route None = Err refusal.BadJson
-json_asks route (Some d) = ok_or (value_asks route d) refusal.BadValue
+abbrev pub json_asks : RequestKind → Option Data → Result RequestData RefusalNumber
+json_asks kind None = Err refusal.BadJson
+json_asks kind (Some d) = ok_or (request_of kind d) refusal.BadValue
 
 -- an install of the program that the body is, for the layout that the query names
 abbrev pub program_asks : List ℕ → List ℕ → Result RequestData RefusalNumber
@@ -40,12 +32,12 @@ page_asks (Some number) = map_ok page (entry_number number)
 -- what is asked for, or why nothing is: a report, a release, a transition and a roll have a body of JSON, a program is its body, and the other routes ignore theirs; an install alone looks at the query
 abbrev pub body_asks : Route → Option (List ℕ) → List ℕ → List ℕ → Result RequestData RefusalNumber
 body_asks route.Acquire number query body = Ok acquire
-body_asks route.Report number query body = json_asks route.Report (json_of body)
-body_asks route.Release number query body = json_asks route.Release (json_of body)
-body_asks route.Transition number query body = json_asks route.Transition (json_of body)
+body_asks route.Report number query body = json_asks kind.Report (json_of body)
+body_asks route.Release number query body = json_asks kind.Release (json_of body)
+body_asks route.Transition number query body = json_asks kind.Move (json_of body)
 body_asks route.Reset number query body = Ok reset
 body_asks route.Cut number query body = Ok cut
-body_asks route.Roll number query body = json_asks route.Roll (json_of body)
+body_asks route.Roll number query body = json_asks kind.Roll (json_of body)
 body_asks route.Program number query body = program_asks query body
 body_asks route.State number query body = Ok read
 body_asks route.Journal number query body = page_asks number

@@ -1,15 +1,15 @@
 //! What is answered.
 ghost use Rattle.std.specs.Prelude.{◌≡◌, OnOk};
 ghost use Rattle.service.specs.Asked.{response_data};
-ghost use Rattle.http_turns.specs.Requests.{http_request_data};
+ghost use Rattle.http_connection.specs.Requests.{http_request_data};
 ghost use Rattle.http_front.specs.Answered.{fault_text, text_for};
 
 use crate::message::{AnswerMessage, write_answer};
 use answers::{body, status};
 use book::Reply;
+use http_connection::HttpRequest;
 use http_messages::{Fault, is_head_method};
 use http_routes::Route;
-use http_turns::HttpRequest;
 use service::Response;
 use std::alloc::{AllocError, Global};
 

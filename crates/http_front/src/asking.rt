@@ -1,13 +1,13 @@
 //! What a request asks for.
 ghost use Rattle.std.specs.Prelude.{◌≡◌, IfOk};
-ghost use Rattle.http_turns.specs.Requests.{http_request_data};
+ghost use Rattle.http_connection.specs.Requests.{http_request_data};
 ghost use Rattle.http_front.specs.Asked.{asked};
 ghost use Rattle.http_front.specs.Wanted.{asking, IsHeld};
 
 use crate::answerer::Answerer;
 use crate::bodies::body_asks;
+use http_connection::HttpRequest;
 use http_routes::{Route, Routes, query_of};
-use http_turns::HttpRequest;
 use refusals::RefusalNumber;
 use service::Request;
 use std::alloc::{AllocError, Global};

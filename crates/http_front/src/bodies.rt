@@ -1,78 +1,31 @@
 //! What a request asks for of a service, by its route, its query and its body.
 ghost use Rattle.std.specs.Prelude.{◌≡◌, IfOk, option_map};
-ghost use Rattle.serde_json.specs.View.{view};
 ghost use Rattle.service_profile.specs.Answers.{map_ok};
 ghost use Rattle.service.specs.Asked.{request_data};
 ghost use Rattle.texts.specs.JsonText.{json_of};
-ghost use Rattle.http_routes.specs.declared.table.Route.TheVariants.{Report, Release, Transition, Roll};
-ghost use Rattle.http_front.specs.Bodies.{value_asks, json_asks, program_asks, page_asks, body_asks};
+ghost use Rattle.http_front.specs.Bodies.{json_asks, program_asks, page_asks, body_asks};
 
 use crate::layouts::layout_in;
 use http_routes::{Route, entry_number};
 use refusals::RefusalNumber;
-use requests::{number_at, report, state};
-use serde_json::Value;
+use requests::{RequestKind, request};
 use service::Request;
 use std::alloc::{AllocError, Global};
 use texts::JsonReader;
-
-/// The report that a JSON value asks for. The error is want of memory.
-fn report_asks(alloc: Global, value: &Value) -> Result<Option<Request>, AllocError>
-    ensures { IfOk result (λ asked. option_map request_data asked ≡ value_asks Report (view value.now)) }
-{
-    match report(alloc, value)? {
-        Some(reported) => Ok(Some(Request::Report(reported))),
-        None => Ok(None),
-    }
-}
-
-/// The release that a JSON value asks for.
-fn release_asks(value: &Value) -> Option<Request>
-    ensures { option_map request_data result ≡ value_asks Release (view value.now) }
-{
-    Some(Request::Release(number_at(value, "ticket")?))
-}
-
-/// The transition that a JSON value asks for.
-fn transition_asks(value: &Value) -> Option<Request>
-    ensures { option_map request_data result ≡ value_asks Transition (view value.now) }
-{
-    Some(Request::Move(state(value)?))
-}
-
-/// The roll that a JSON value asks for.
-fn roll_asks(value: &Value) -> Option<Request>
-    ensures { option_map request_data result ≡ value_asks Roll (view value.now) }
-{
-    Some(Request::Roll(number_at(value, "to")?))
-}
-
-/// What a JSON value asks for by a route whose body is JSON. The error is want of memory.
-fn value_asks(alloc: Global, route: Route, value: &Value) -> Result<Option<Request>, AllocError>
-    ensures { IfOk result (λ asked. option_map request_data asked ≡ value_asks route (view value.now)) }
-{
-    match route {
-        Route::Report => report_asks(alloc, value),
-        Route::Release => Ok(release_asks(value)),
-        Route::Transition => Ok(transition_asks(value)),
-        Route::Roll => Ok(roll_asks(value)),
-        _ => Ok(None),
-    }
-}
 
 /// What a body of JSON asks for. The outer error is want of memory.
 fn json_asks(
     alloc: Global,
     json: &mut JsonReader,
-    route: Route,
+    kind: RequestKind,
     body: &[u8],
 ) -> Result<Result<Request, RefusalNumber>, AllocError>
-    ensures { IfOk result (λ asked. map_ok request_data asked ≡ json_asks route (json_of body.now)) }
+    ensures { IfOk result (λ asked. map_ok request_data asked ≡ json_asks kind (json_of body.now)) }
 {
     let Some(value) = json.read(alloc, body)? else {
         return Ok(Err(RefusalNumber::BadJson));
     };
-    match value_asks(alloc, route, &value)? {
+    match request(alloc, kind, &value)? {
         Some(request) => Ok(Ok(request)),
         None => Ok(Err(RefusalNumber::BadValue)),
     }
@@ -105,9 +58,8 @@ fn page_asks(number: Option<&str>) -> Result<Request, RefusalNumber>
     }
 }
 
-/// What a request asks for, by its route, the number in its path, its query, and its body. A report is an object with
-/// `ticket` and `outcome`, a release one with `ticket`, a transition one with `state`, a roll one with `to`;
-/// their other keys are ignored. A program is bytecode as it is, and the query names the layout of its records:
+/// What a request asks for, by its route, the number in its path, its query, and its body. That of a report, a release, a
+/// transition and a roll is a JSON object, as `requests::request` reads it. A program is bytecode as it is, and the query names the layout of its records:
 /// `layout=1` or `layout=2`, the first where it names none. The other routes ignore the query, and those whose body is
 /// neither JSON nor a program ignore the body. The refusals are `BadJson`, where the body is to be JSON and is none, and
 /// then `BadValue`, where a value or the number of an entry is missing, of the wrong kind or out of range, or where the
@@ -125,9 +77,10 @@ pub fn body_asks(
 {
     match route {
         Route::Acquire => Ok(Ok(Request::Acquire)),
-        Route::Report | Route::Release | Route::Transition | Route::Roll => {
-            json_asks(alloc, json, route, body)
-        }
+        Route::Report => json_asks(alloc, json, RequestKind::Report, body),
+        Route::Release => json_asks(alloc, json, RequestKind::Release, body),
+        Route::Transition => json_asks(alloc, json, RequestKind::Move, body),
+        Route::Roll => json_asks(alloc, json, RequestKind::Roll, body),
         Route::Reset => Ok(Ok(Request::Reset)),
         Route::Cut => Ok(Ok(Request::Cut)),
         Route::Program => program_asks(alloc, query, body),

@@ -15,7 +15,7 @@ mod serving;
 pub use answerer::Answerer;
 pub use bodies::body_asks;
 pub use books::{Books, NamedBook};
-pub use http_turns::{Clock, Ended};
+pub use http_connection::{Clock, Ended};
 pub use message::{AnswerMessage, write_answer};
 pub use responder::HttpResponder;
 pub use serving::serve;

@@ -2,14 +2,14 @@
 ghost use Rattle.std.specs.Prelude.{◌≡◌, ℕ, List};
 ghost use Rattle.std.specs.Io.KnownBytes.{Consumes, IsAtEnd};
 ghost use Rattle.counted_io.specs.Counting.{counted};
-ghost use Rattle.http_turns.specs.Causes.{ends_input, IsServingCause};
-ghost use Rattle.http_turns.specs.Serving.{IsServed};
+ghost use Rattle.http_connection.specs.Causes.{ends_input, IsServingCause};
+ghost use Rattle.http_connection.specs.Serving.{IsServed};
 ghost use Rattle.http_front.specs.Answered.{fault_text, IsAnswered};
 
 use crate::answerer::Answerer;
 use crate::responder::HttpResponder;
 use counted_io::Counted;
-use http_turns::{Clock, Ended};
+use http_connection::{Clock, Ended};
 use std::alloc::Global;
 use std::io::{Read, Write};
 use std::sync::Wait;
@@ -41,5 +41,5 @@ pub fn serve<R: Read, W: Write, A: Answerer, C: Clock>(
     let Ok(responder) = HttpResponder::new(alloc) else {
         return Ended::OutOfMemory;
     };
-    http_turns::serve(rt, alloc, reader, writer, &responder, answerer, clock)
+    http_connection::serve(rt, alloc, reader, writer, &responder, answerer, clock)
 }

@@ -3,9 +3,9 @@
 //! before it; and the other one is answered all the same.
 use crate::counting::Refusals;
 use crate::messages::{ROOM, Still, all_requests, are_answers, begins_with_refusal, opened, right};
+use counted_io::{Halves, Wire};
+use http_connection::{Connection, Intake, Turned, turn};
 use http_front::{Books, Ended, HttpResponder};
-use http_turns::{Connection, Intake, Turned, turn};
-use polled_io::{Halves, Wire};
 use std::alloc::{AllocError, Global};
 use std::io;
 use std::io::Write;

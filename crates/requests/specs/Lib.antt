@@ -5,3 +5,4 @@ pub mod Reports
 pub mod Programs
 pub mod Layouts
 pub mod Transitions
+pub mod Asking

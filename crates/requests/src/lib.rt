@@ -1,7 +1,8 @@
-//! What services are asked with, as JSON: values under keys, configurations, reports, programs with their layouts, and
-//! states.
+//! What services are asked for and configured by, as JSON: values under keys, configurations, and requests with their
+//! reports, programs, layouts and states.
 #![tactic(auto)]
 
+mod asking;
 mod configurations;
 mod keys;
 mod layouts;
@@ -10,6 +11,7 @@ mod reports;
 mod transitions;
 mod values;
 
+pub use asking::{RequestKind, request};
 pub use configurations::{CONFIG_KEYS, ConfigMistake, config, config_key, window};
 pub use keys::{has_known_keys, is_one_of};
 pub use layouts::layout;

@@ -5,8 +5,8 @@ use Rattle.event_loop.specs.Log.{all_steps}
 use Rattle.http_front.specs.Asked.{Asking, asks, refuses, asked}
 use Rattle.http_front.specs.Answered.{IsAnswerTo, IsAnswered}
 use Rattle.http_pool.specs.Connections.{HasServed}
-use Rattle.http_turns.specs.Requests.{HttpRequestData, request_of}
-use Rattle.http_turns.specs.Steps.{Step, AreSteps, IsAnswer}
+use Rattle.http_connection.specs.Requests.{HttpRequestData, request_of}
+use Rattle.http_connection.specs.Steps.{Step, AreSteps, IsAnswer}
 
 -- Before holds of the answerer before an answer where it holds after it, and then the answer is given so
 module _ {S C : Type 0} (place_of : S → List ℕ → Option ℕ) (answers stronger : S → ℕ → ℕ → RequestData → ResponseData → S → Type 0) (ticks : C → ℕ → C → Type 0)

@@ -8,7 +8,7 @@ use Rattle.service_file.specs.Files.{is_count}
 use Rattle.event_loop.specs.Numbers.{ends}
 use Rattle.http_pool.specs.declared.workers.Worker.{Worker}
 use Rattle.http_pool.specs.Workers.{HaveWorked, HaveEnded}
-use Rattle.sidecar_server.specs.Slotted.{workers_of}
+use Rattle.sidecar_server.specs.Seats.{workers_of}
 
 both : (a b : Bool) → (a && b) ≡ true → (a ≡ true) × (b ≡ true)
 both true b is = (refl, is)

@@ -5,9 +5,9 @@ use Rattle.std.specs.Io.KnownBytes.{Appends}
 use Rattle.std.specs.declared.net.socket_addr.SocketAddr.{SocketAddr}
 use Rattle.refusals.specs.declared.RefusalNumber.{RefusalNumber}
 use Rattle.refusals.specs.declared.RefusalNumber.TheVariants as refusal
-use Rattle.server_lines.specs.declared.status.ServerStatus.{ServerStatus}
-use Rattle.server_lines.specs.declared.status.ServerStatus.TheVariants as status
-use Rattle.server_lines.specs.Lines.{refused_line, IsRefused, IsCutShort, IsAddressRefusal}
+use Rattle.server_output.specs.declared.status.ServerStatus.{ServerStatus}
+use Rattle.server_output.specs.declared.status.ServerStatus.TheVariants as status
+use Rattle.server_output.specs.Lines.{refused_line, IsRefused, IsCutShort, IsAddressRefusal}
 use Rattle.service_file.specs.declared.settings.Settings.{Settings}
 use Rattle.service_file.specs.Settled.{IsRead}
 use Rattle.sidecar_server.specs.Server.{IsAddressOf, IsFileRefused, IsServerRefusal, IsServerOutput}

@@ -3,9 +3,9 @@ use Rattle.std.proofs.Common.{◌≡◌, refl, sym, subst, ℕ, List, Option, So
 use Rattle.std.specs.declared.net.socket_addr.SocketAddr.{SocketAddr}
 use Rattle.event_loop.specs.Numbers.{ends}
 use Rattle.event_loop.specs.declared.failure.ListenerFailed.{ListenerFailed}
-use Rattle.server_lines.specs.declared.status.ServerStatus.{ServerStatus}
-use Rattle.server_lines.specs.declared.status.ServerStatus.TheVariants as status
-use Rattle.server_lines.specs.Lines.{IsListeningAt}
+use Rattle.server_output.specs.declared.status.ServerStatus.{ServerStatus}
+use Rattle.server_output.specs.declared.status.ServerStatus.TheVariants as status
+use Rattle.server_output.specs.Lines.{IsListeningAt}
 use Rattle.sidecar_server.specs.Server.{IsServing, IsServerOutput, IsOver, ended_by}
 
 -- it has told its address

@@ -1,4 +1,5 @@
 pub mod Opened
+pub mod Seats
 pub mod Slotted
 pub mod Served
 pub mod Server

@@ -1,16 +1,14 @@
 -- What becomes of services that are served by one worker, or by many.
-use Rattle.std.specs.Prelude.{◌≡◌, ◌<◌, ◌⊎◌, ℕ, zero, suc, List, [], ◌∷◌, map, length, sum, String}
-use Rattle.std.specs.List.{AllByRecursion}
+use Rattle.std.specs.Prelude.{◌≡◌, ◌<◌, ◌⊎◌, ℕ, List, [], map, String}
 use Rattle.std.specs.Global.{Global}
 use Rattle.service_profile.specs.declared.configuration.Config.{Config}
 use Rattle.verifier.specs.declared.verified.Verified.{Verified}
 use Rattle.service_profile.specs.Events.{History}
-use Rattle.book.specs.Good.{IsGood}
-use Rattle.desk.specs.Kept.{AreOfSome, last_number}
-use Rattle.desk.specs.Seats.{SeatData, seat_of}
+use Rattle.desk.specs.Desks.{DeskData}
+use Rattle.desk.specs.Seats.{SeatData}
 use Rattle.desk.specs.Services.{ServiceData, service_of}
-use Rattle.http_desk.specs.Seated.{SeatedData, seated}
-use Rattle.http_desk.specs.Asked.{place_at, IsAskedAt}
+use Rattle.http_seats.specs.Locks.{AreClosed, asks, counts_of, place_at, seats_of}
+use Rattle.http_seats.specs.Seated.{SeatedData, seated, place_by, asks_by}
 use Rattle.http_front.specs.declared.books.Books.{Books}
 use Rattle.http_front.specs.declared.books.NamedBook.{NamedBook}
 use Rattle.http_front.specs.Named.{place_in, IsAskedOf}
@@ -21,7 +19,8 @@ use Rattle.service_file.specs.declared.settings.ServiceSettings.{ServiceSettings
 use Rattle.service_file.specs.declared.settings.Settings.{Settings}
 use Rattle.service_file.specs.declared.keepers.Keeper.TheVariants as keeper
 use Rattle.sidecar_server.specs.Opened.{AreOpened}
-use Rattle.sidecar_server.specs.Slotted.{workers_of, HasServedAtSlots}
+use Rattle.sidecar_server.specs.Seats.{workers_of, seats_with}
+use Rattle.sidecar_server.specs.Slotted.{HasServedAtSlots}
 
 -- the books of services, in their order
 abbrev pub books_of : List NamedBook → List History
@@ -43,32 +42,14 @@ opening_of service = (service.name, service.config, service.program)
 abbrev pub services_of : List ServiceSettings → List ServiceData
 services_of services = map service_of (map opening_of services)
 
--- so many seats, from this number on, that have made no call
-abbrev pub seats_of : ℕ → ℕ → List SeatData
-seats_of number zero = []
-seats_of number (suc count) = seat_of number 0 0 ∷ seats_of (suc number) count
-
--- the seats that workers have, and how many entries each of them counts
-abbrev pub seats_with : {C : Type 0} → List (Worker SeatedData C) → List SeatData
-seats_with workers = map (λ worker. worker.answerer.seat) workers
-
-abbrev pub counts_of : List SeatData → List ℕ
-counts_of seats = map (λ seat. seat.count) seats
-
--- a desk with these services was closed with these seats. It handed out these books: each has a legal and sound history, of one of the services, after so many cuts; the numbers of their last entries add up to the entries that the seats count, and their cuts to the cuts that the seats count
-pub record AreClosed (services : List ServiceData) (books : List History) (seats : List SeatData) : Type 0 where
-  pub all_books : length books ≡ length services
-  pub good : AllByRecursion IsGood books
-  pub entries_agree : sum (map last_number books) ≡ sum (counts_of seats)
-  pub cuts_agree : (cuts : List ℕ) × AreOfSome services cuts books × (sum cuts ≡ sum (map (λ seat. seat.cuts) seats))
-
 -- many workers: as many as the settings say sat down at a desk with the services, and each served connections, side by side, by its seat. The seats that they brought back have these counts, and the desk that was closed with them left these books
 abbrev pub HasServedAtDesk : {C : Type 0} → (C → ℕ → C → Type 0) → Settings → C → List History → List ℕ → Type 0
 HasServedAtDesk {C} ticks settings clock books counts =
-    (later : List (Worker SeatedData C))
-    × HaveWorked place_at (λ old place moment wanted response new. IsAskedAt old moment wanted response new) ticks (workers_of clock (map (seated (services_of settings.services.items)) (seats_of 1 settings.workers))) later
+    (desk : DeskData) × (later : List (Worker (SeatedData DeskData SeatData) C))
+    × (desk.services ≡ services_of settings.services.items)
+    × HaveWorked (place_by place_at) (asks_by asks) ticks (workers_of clock (map (seated desk) (seats_of 1 settings.workers))) later
     × (counts ≡ counts_of (seats_with later))
-    × AreClosed (services_of settings.services.items) books (seats_with later)
+    × AreClosed desk.services books (seats_with later)
 
 -- by one worker, or by many, each with a copy of the clock, who keep the books behind locks or in slots as the settings say
 abbrev pub HasServedBy : {C : Type 0} → (C → ℕ → C → Type 0) → Settings → C → C → List History → List ℕ → Type 0

@@ -9,9 +9,9 @@ use Rattle.event_loop.specs.Numbers.{ends}
 use Rattle.event_loop.specs.declared.failure.ListenerFailed.{ListenerFailed}
 use Rattle.service_file.specs.declared.settings.Settings.{Settings}
 use Rattle.service_file.specs.Settled.{IsRead}
-use Rattle.server_lines.specs.Lines.{refused_line, IsAddressFor, IsListeningAt, IsCutShort, IsAddressRefusal}
-use Rattle.server_lines.specs.declared.status.ServerStatus.{ServerStatus}
-use Rattle.server_lines.specs.declared.status.ServerStatus.TheVariants as status
+use Rattle.server_output.specs.Lines.{refused_line, IsAddressFor, IsListeningAt, IsCutShort, IsAddressRefusal}
+use Rattle.server_output.specs.declared.status.ServerStatus.{ServerStatus}
+use Rattle.server_output.specs.declared.status.ServerStatus.TheVariants as status
 use Rattle.sidecar_server.specs.declared.serving.ServerEnd.{ServerEnd}
 use Rattle.sidecar_server.specs.Served.{HasServedBy}
 

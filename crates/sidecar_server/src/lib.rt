@@ -2,8 +2,7 @@
 //! worker or by many.
 #![tactic(auto)]
 
-mod at_desk;
-mod at_slots;
+mod at_seats;
 mod clock;
 mod notices;
 mod opening;
@@ -11,5 +10,5 @@ mod pooling;
 mod serving;
 
 pub use clock::SystemClock;
-pub use server_lines::{ServerStatus, notify_lost_output};
+pub use server_output::{ServerStatus, notify_lost_output};
 pub use serving::{ServerEnd, serve_file, serve_path};

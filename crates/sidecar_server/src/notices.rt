@@ -2,7 +2,7 @@
 //! nothing else changes.
 ghost use Rattle.std.specs.Prelude.{◌≡◌};
 ghost use Rattle.counted_io.specs.Counting.{AppendsPart};
-ghost use Rattle.server_lines.specs.Lines.{IsNotice};
+ghost use Rattle.server_output.specs.Lines.{IsNotice};
 
 use config_mistakes::file_mistake;
 use counted_io::Counted;

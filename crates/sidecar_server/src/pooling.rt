@@ -3,14 +3,14 @@ ghost use Rattle.std.specs.Prelude.{◌≡◌, ◌≤◌, ◌<◌, None, vec_len
 ghost use Rattle.std.specs.List.{All};
 ghost use Rattle.event_loop.specs.Numbers.{ends};
 ghost use Rattle.http_pool.specs.Workers.{HaveWorked, most_workers};
-ghost use Rattle.server_lines.specs.Lines.{IsServerCause, IsQuiet, status_of};
+ghost use Rattle.server_output.specs.Lines.{IsServerCause, IsQuiet, status_of};
 ghost use Rattle.sidecar_server.specs.Server.{IsServerOutput, IsServing};
 
 use crate::notices::notify_workers;
 use counted_io::Counted;
 use http_front::{Answerer, Clock};
 use http_pool::{Limits, ListenerFailed, Worker, pool_within};
-use server_lines::{ServerStatus, listen};
+use server_output::{ServerStatus, listen};
 use std::alloc::Global;
 use std::io::Write;
 use std::net::{Net, SocketAddr, TcpListener, TcpStream};

@@ -3,12 +3,11 @@ ghost use Rattle.std.specs.Prelude.{◌≡◌, ℕ, List, [], None, IfOk, IfErr,
 ghost use Rattle.std.specs.Io.KnownBytes.{Appends};
 ghost use Rattle.refusals.specs.declared.RefusalNumber.TheVariants.{BadConfig};
 ghost use Rattle.service_file.specs.Settled.{HasCounts};
-ghost use Rattle.server_lines.specs.Lines.{refused_line, IsCutShort, IsRefused, IsServerCause, IsQuiet};
+ghost use Rattle.server_output.specs.Lines.{refused_line, IsCutShort, IsRefused, IsServerCause, IsQuiet};
 ghost use Rattle.sidecar_server.specs.Server.{IsAddressOf, IsFileRefused, IsServerRefusal, IsServerOutput, IsServing, IsOver, HasServedFile, ended_by, end_of};
 ghost use Rattle.sidecar_server.specs.Served.{HasServedAlone, HasServedBy};
 
-use crate::at_desk::serve_at_desk;
-use crate::at_slots::serve_at_slots;
+use crate::at_seats::{serve_at_desk, serve_at_slots};
 use crate::notices::notify_mistake;
 use crate::opening::{books_of, open};
 use book::Book;
@@ -16,7 +15,7 @@ use counted_io::Counted;
 use http_front::Clock;
 use http_pool::{Limits, ListenerFailed, serve_connections};
 use refusals::RefusalNumber;
-use server_lines::{ServerStatus, listen, refuse, refuse_for};
+use server_output::{ServerStatus, listen, refuse, refuse_for};
 use service_file::{FileMistake, Keeper, Settings, read_settings};
 use std::alloc::Global;
 use std::fs::{File, Files};
@@ -93,7 +92,7 @@ pub(crate) fn limits_of(settings: &Settings) -> Limits
 }
 
 /// Opens the services, listens and serves by one worker, who has the books to itself.
-#[tactic(auto, using(server_lines::proofs::Silence::quiet_kept))]
+#[tactic(auto, using(server_output::proofs::Silence::quiet_kept))]
 fn serve_alone<R, O: Write, E: Write, C: Clock>(
     rt: &R,
     alloc: Global,
@@ -160,7 +159,7 @@ where
 }
 
 /// Prints that a file's text can't be used, and then what is wrong with it on `err`.
-#[tactic(auto, using(server_lines::proofs::Silence::quiet_kept))]
+#[tactic(auto, using(server_output::proofs::Silence::quiet_kept))]
 fn refuse_text<O: Write, E: Write>(
     alloc: Global,
     text: &[u8],
@@ -185,7 +184,7 @@ fn refuse_text<O: Write, E: Write>(
 /// can't be used or the address can't be bound it prints the refusal as a line, and a line on `err` that says why, for
 /// people. There is also a line on `err` where the system runs fewer workers at once than the file says, and where the
 /// listener accepts no more connections.
-#[tactic(auto, using(server_lines::proofs::Silence::quiet_kept))]
+#[tactic(auto, using(server_output::proofs::Silence::quiet_kept))]
 pub fn serve_file<R, O: Write, E: Write, C: Clock + Copy + Send>(
     rt: &R,
     alloc: Global,
@@ -240,7 +239,7 @@ fn read<R: Files>(rt: &R, alloc: Global, path: &str) -> io::Result<Vec<u8>> {
 }
 
 /// Serves as the file at a path says. One that can't be read is refused as one that can't be used.
-#[tactic(auto, using(server_lines::proofs::Silence::quiet_kept))]
+#[tactic(auto, using(server_output::proofs::Silence::quiet_kept))]
 pub fn serve_path<R, O: Write, E: Write, C: Clock + Copy + Send>(
     rt: &R,
     alloc: Global,

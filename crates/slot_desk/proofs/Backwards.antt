@@ -10,9 +10,9 @@ use Rattle.service_profile.specs.declared.replies.Reply.{Reply}
 use Rattle.service_profile.specs.Calls.{CallData, CallAnswer, applies, IsCalled}
 use Rattle.service_profile.specs.Calls as call
 use Rattle.service_profile.specs.Events.{acquires, finishes, releases, installs, moves, resets}
-use Rattle.slot_table.specs.declared.view.View.{View}
-use Rattle.slot_table.specs.Rules.{Course, AllBegin}
-use Rattle.slot_table.proofs.Backwards.{called_back}
+use Rattle.book_slot.specs.declared.view.View.{View}
+use Rattle.book_slot.specs.Rules.{Course, AllBegin}
+use Rattle.book_slot.proofs.Backwards.{called_back}
 use Rattle.slot_desk.specs.Calls.{ServiceSeatData, IsAskedAt, IsCalledAt}
 use Rattle.slot_desk.specs.Closing.{RowBegins, SeatBegins}
 use Rattle.slot_desk.specs.Seats.{SeatData}

@@ -3,7 +3,7 @@ use Rattle.std.proofs.Common.{◌≡◌, ℕ, zero, suc, ◌+◌, ◌<◌, ◌�
 use Rattle.std.proofs.Common.{take, drop}
 use Rattle.std.proofs.lemmas.List.{length-map, length-replicate}
 use Rattle.std.specs.List.{AllByRecursion}
-use Rattle.slot_table.specs.Places.{SlotData}
+use Rattle.book_slot.specs.Places.{SlotData}
 use Rattle.slot_desk.specs.Slots.{dealt_of, back_of}
 
 abbrev pub Leaves : ℕ → SlotData → Type 0

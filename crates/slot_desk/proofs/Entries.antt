@@ -8,13 +8,13 @@ use Rattle.book.proofs.Applying.{same_opening}
 use Rattle.book.specs.Good.{IsGood}
 use Rattle.service_profile.specs.Calls.{CallData, CallAnswer, IsCalled}
 use Rattle.service_profile.specs.Events.{Opening, History}
-use Rattle.slot_table.specs.declared.view.Trace.{Trace}
-use Rattle.slot_table.specs.declared.view.View.{View}
-use Rattle.slot_table.specs.Calls.{Called, CalledAfterTries}
-use Rattle.slot_table.specs.Origins.{IsOpeningAfter}
-use Rattle.slot_table.proofs.Keeps.{last_good}
-use Rattle.slot_table.proofs.Traces.{next_behind}
-use Rattle.slot_table.specs.Rules.{Course, IsCourseOf, IsMadeBy, next_number, entries_of, missing, trace}
+use Rattle.book_slot.specs.declared.view.Trace.{Trace}
+use Rattle.book_slot.specs.declared.view.View.{View}
+use Rattle.book_slot.specs.Calls.{Called, CalledAfterTries}
+use Rattle.book_slot.specs.Origins.{IsOpeningAfter}
+use Rattle.book_slot.proofs.Keeps.{last_good}
+use Rattle.book_slot.proofs.Traces.{next_behind}
+use Rattle.book_slot.specs.Rules.{Course, IsCourseOf, IsMadeBy, next_number, entries_of, missing, trace}
 use Rattle.book.specs.Counts.{made_by}
 use Rattle.slot_desk.specs.Closing.{AreCourses, CoursesAreMadeBy, NumbersAgree, traces_row, firsts, behind, last_of, last_number, first_number}
 use Rattle.slot_desk.specs.Seats.{SeatData, entries_in, newcomer_of, IsTallied}

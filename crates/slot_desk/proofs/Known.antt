@@ -2,15 +2,15 @@
 use Rattle.std.proofs.Common.{◌≡◌, ℕ, zero, suc, List, [], ◌∷◌, ◌++◌, length, map, replicate, append-nil, append_assoc, refl, sym, ap, ◌∙◌, subst}
 use Rattle.std.specs.List.{AllByRecursion}
 use Rattle.atomic_table.specs.Seated.{TableId}
-use Rattle.slot_table.specs.declared.view.Trace.{Trace}
-use Rattle.slot_table.specs.declared.view.View.{View}
-use Rattle.slot_table.specs.Rules.{Course, AllBegin, EachBegins, IsMadeBy, trace}
-use Rattle.slot_table.proofs.Keeps.{last_good}
+use Rattle.book_slot.specs.declared.view.Trace.{Trace}
+use Rattle.book_slot.specs.declared.view.View.{View}
+use Rattle.book_slot.specs.Rules.{Course, AllBegin, EachBegins, IsMadeBy, trace}
+use Rattle.book_slot.proofs.Keeps.{last_good}
 use Rattle.slot_desk.specs.Closing.{traces_row, firsts, behind, CoursesAreMadeBy, added, all_added, Finished, RowBegins, SeatBegins, AreOf, AreCourses, last_of}
 use Rattle.slot_desk.specs.Seats.{SeatData}
 use Rattle.slot_desk.specs.Slots.{trace_at, seen_of, number_at, view_at, known_of, origin_of}
 use Rattle.slot_desk.proofs.Counting.{head_is, tail_is, no_cons}
-use Rattle.slot_table.specs.Places.{SlotData, PlaceData}
+use Rattle.book_slot.specs.Places.{SlotData, PlaceData}
 
 -- what a seat leaves behind is what its places do
 pub trace_row : (places : List PlaceData) (n number : ℕ) → map number_at places ≡ replicate n number → map trace_at places ≡ map (trace number) (map view_at places)

@@ -3,10 +3,10 @@ use Rattle.std.proofs.Common.{◌≡◌, ℕ, zero, suc, ◌+◌, ◌<◌, List,
 use Rattle.std.specs.Option.{option_map}
 use Rattle.std.proofs.lemmas.Option.{slice_get-map, slice_get-get_or}
 use Rattle.std.proofs.lemmas.List.{length-map}
-use Rattle.slot_table.specs.declared.view.View.{View}
-use Rattle.slot_table.specs.Calls.{Called, CalledAfterTries}
-use Rattle.slot_table.specs.Places.{SlotData, PlaceData, with_view}
-use Rattle.slot_table.specs.Rules.{missing}
+use Rattle.book_slot.specs.declared.view.View.{View}
+use Rattle.book_slot.specs.Calls.{Called, CalledAfterTries}
+use Rattle.book_slot.specs.Places.{SlotData, PlaceData, with_view}
+use Rattle.book_slot.specs.Rules.{missing}
 use Rattle.service_profile.specs.Calls.{CallData, CallAnswer, IsCalled}
 use Rattle.book.specs.Counts.{made_by}
 use Rattle.slot_desk.specs.Calls.{IsCalledAt, IsTriedAt, IsMissedAt}

@@ -1,7 +1,7 @@
 -- A desk may be shared by threads, and a seat may go to one of them.
 use denote.Param.Send.{IsSend, IsSync, sendable}
 use Rattle.std.proofs.Crossing.{crosses, frees}
-use Rattle.slot_table.proofs.Showing.{slot_sync, slot_field_sync, place_send, place_field_send}
+use Rattle.book_slot.proofs.Showing.{slot_sync, slot_field_sync, place_send, place_field_send}
 use Rattle.slot_desk.specs.contracts.desks.Desk as desk
 use Rattle.slot_desk.specs.contracts.seats.Seat as seat
 use Rattle.slot_desk.specs.contracts.laws.Asking as asking

@@ -4,9 +4,9 @@ use Rattle.bpf_profile.specs.Outcomes.{Outcome}
 use Rattle.service_profile.specs.Calls.{CallData, CallAnswer, IsCalled}
 use Rattle.service.specs.declared.request.Report.{Report}
 use Rattle.book.specs.Counts.{made_by, IsFull, IsTurnedAway}
-use Rattle.slot_table.specs.declared.view.View.{View}
-use Rattle.slot_table.specs.Calls.{Called, CalledAfterTries}
-use Rattle.slot_table.specs.Rules.{missing, AreOfOne}
+use Rattle.book_slot.specs.declared.view.View.{View}
+use Rattle.book_slot.specs.Calls.{Called, CalledAfterTries}
+use Rattle.book_slot.specs.Rules.{missing, AreOfOne}
 use Rattle.slot_desk.specs.Seats.{SeatData, ChangesAt}
 
 -- a call of a seat of this number at a service, after as many failed tries as it took

@@ -3,11 +3,11 @@ use Rattle.std.specs.Prelude.{◌≡◌, ◌≢◌, ◌⊎◌, ℕ, ◌+◌, ◌
 use Rattle.std.specs.List.{AllByRecursion}
 use Rattle.refusals.specs.declared.RefusalNumber.{RefusalNumber}
 use Rattle.refusals.specs.declared.RefusalNumber.TheVariants as refusal
-use Rattle.slot_table.specs.Origins.{IsOf}
+use Rattle.book_slot.specs.Origins.{IsOf}
 use Rattle.service_profile.specs.Events.{History}
-use Rattle.slot_table.specs.Places.{SlotData}
-use Rattle.slot_table.specs.declared.view.Trace.{Trace}
-use Rattle.slot_table.specs.Rules.{Course, IsCourseOf, AllBegin, EachBegins, IsMadeBy, next_number, trace}
+use Rattle.book_slot.specs.Places.{SlotData}
+use Rattle.book_slot.specs.declared.view.Trace.{Trace}
+use Rattle.book_slot.specs.Rules.{Course, IsCourseOf, AllBegin, EachBegins, IsMadeBy, next_number, trace}
 use Rattle.slot_desk.specs.Seats.{SeatData}
 use Rattle.slot_desk.specs.Slots.{seen_of}
 

@@ -2,8 +2,8 @@
 use Rattle.std.specs.Prelude.{◌≡◌, ℕ, ◌+◌, List, [], ◌∷◌, length, map, Option, slice_get, slice_set, Some}
 use Rattle.atomic_table.specs.Seated.{TableId}
 use Rattle.service_profile.specs.Events.{History}
-use Rattle.slot_table.specs.declared.view.View.{View}
-use Rattle.slot_table.specs.Rules.{newcomer}
+use Rattle.book_slot.specs.declared.view.View.{View}
+use Rattle.book_slot.specs.Rules.{newcomer}
 use Rattle.slot_desk.specs.Desks.{DeskData}
 
 -- its number, how many entries its calls have made, and of each service the table of the book and what the seat knows of it

@@ -2,10 +2,10 @@
 use Rattle.std.specs.Prelude.{ℕ, List, Option}
 use Rattle.atomic_table.specs.Seated.{TableId}
 use Rattle.service_profile.specs.Events.{History}
-use Rattle.slot_table.specs.declared.view.Trace.{Trace}
-use Rattle.slot_table.specs.declared.view.View.{View}
-use Rattle.slot_table.specs.Rules.{trace}
-use Rattle.slot_table.specs.Places.{SlotData, PlaceData}
+use Rattle.book_slot.specs.declared.view.Trace.{Trace}
+use Rattle.book_slot.specs.declared.view.View.{View}
+use Rattle.book_slot.specs.Rules.{trace}
+use Rattle.book_slot.specs.Places.{SlotData, PlaceData}
 
 abbrev pub table_of : SlotData → TableId
 table_of slot = slot.table

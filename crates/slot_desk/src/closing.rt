@@ -1,7 +1,7 @@
 //! The end of a desk.
 ghost use Rattle.std.specs.Prelude.{◌≡◌, ◌<◌, ◌≤◌, ◌+◌, ◌++◌, List, suc, vec_len, vec_capacity, length, map, reverse, IfOk, IfErr};
 ghost use Rattle.std.specs.List.{AllByRecursion};
-ghost use Rattle.slot_table.specs.Rules.{Course};
+ghost use Rattle.book_slot.specs.Rules.{Course};
 ghost use Rattle.slot_desk.specs.Closing.{AreOf, HaveCourses, NumbersAgree, IsUnclosed, last_of, added, all_added, traces_row, Finished};
 ghost use Rattle.slot_desk.specs.Seats.{IsSeatOf, IsTallied};
 ghost use Rattle.slot_desk.specs.Slots.{table_of, origin_of, dealt_of, back_of, known_of, table_at, trace_at};
@@ -9,8 +9,8 @@ ghost use Rattle.slot_desk.specs.Slots.{table_of, origin_of, dealt_of, back_of, 
 use crate::desks::Desk;
 use crate::seats::Seat;
 use book::Book;
+use book_slot::{Place, Slot};
 use refusals::RefusalNumber;
-use slot_table::{Place, Slot};
 use std::alloc::Global;
 
 /// A desk that was not closed, with the seats that were given, and why: `SeatsMissing` where they are not

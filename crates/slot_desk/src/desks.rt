@@ -5,7 +5,7 @@ ghost use Rattle.slot_desk.specs.Slots.{origin_of, dealt_of, back_of, known_of};
 
 use crate::services::ServiceId;
 use book::Config;
-use slot_table::Slot;
+use book_slot::Slot;
 use std::alloc::{AllocError, Global};
 use std::marker::Model;
 use verifier::Verified;

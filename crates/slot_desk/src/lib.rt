@@ -14,10 +14,10 @@ mod services;
 mod sitting;
 mod trying;
 
+pub use book_slot::{Busy, Held};
 pub use closing::Unclosed;
 pub use desks::Desk;
 pub use seats::Seat;
 pub use service::Gate;
 pub use service_seat::ServiceSeat;
 pub use services::ServiceId;
-pub use slot_table::{Busy, Held};

@@ -2,7 +2,7 @@
 ghost use Rattle.std.specs.Prelude.{◌≡◌, []};
 ghost use Rattle.slot_desk.specs.Seats.{seat_of};
 
-use slot_table::Place;
+use book_slot::Place;
 use std::alloc::Global;
 use std::marker::Model;
 

@@ -6,8 +6,8 @@ ghost use Rattle.slot_desk.specs.Slots.{dealt_of, back_of, known_of, table_of, o
 
 use crate::desks::Desk;
 use crate::seats::Seat;
+use book_slot::{Place, Slot};
 use refusals::RefusalNumber;
-use slot_table::{Place, Slot};
 use std::alloc::Global;
 
 /// Takes a place of each slot, in their order.

@@ -10,7 +10,7 @@ use crate::desks::Desk;
 use crate::seats::Seat;
 use crate::services::ServiceId;
 use book::{Event, Reply};
-use slot_table::{Busy, Held};
+use book_slot::{Busy, Held};
 
 impl Desk {
     /// Applies an event at a moment, in milliseconds, where the service's book is in its slot. `Busy` where the one exchange

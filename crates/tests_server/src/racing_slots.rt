@@ -8,7 +8,7 @@ use crate::fixtures::pay_to_open;
 use crate::racing_workers::{OvertakingGate, Readings, are_recorded, connections, finishes};
 use book::Reply;
 use http_pool::{Worker, pool};
-use http_slots::SlotAnswerer;
+use http_seats::SeatedAnswerer;
 use slot_desk::{Desk, Seat};
 use std::alloc::Global;
 use std::net::{Net, TcpListener, TcpStream};
@@ -47,15 +47,15 @@ fn workers<'a, R: Wait + Abort>(
     first: Seat,
     second: Seat,
     gate: &'a OvertakingGate,
-) -> Vec<Worker<SlotAnswerer<'a, OvertakingGate, R>, Readings<'a>>>
+) -> Vec<Worker<SeatedAnswerer<'a, Desk, Seat, OvertakingGate, R>, Readings<'a>>>
     requires first { IsSeatOf desk.now first }
     requires second { IsSeatOf desk.now second }
 {
     let mut workers = Vec::new(alloc);
-    let first = SlotAnswerer::new(rt, alloc, desk, first, gate);
+    let first = SeatedAnswerer::new(rt, alloc, desk, first, gate);
     let pushed = workers.push(Worker::new(first, Readings::new(gate)));
     pushed.expect(rt, "ample memory");
-    let second = SlotAnswerer::new(rt, alloc, desk, second, gate);
+    let second = SeatedAnswerer::new(rt, alloc, desk, second, gate);
     let pushed = workers.push(Worker::new(second, Readings::new(gate)));
     pushed.expect(rt, "ample memory");
     workers

@@ -7,9 +7,9 @@ use crate::checks::{is_true, is_true_at, same};
 use crate::fixtures::{open_desk, pay_to_open};
 use book::{Config, Entry, Event, Reply};
 use desk::{Desk, Gate, Offered, Seat};
-use http_desk::SeatedAnswerer;
 use http_front::Clock;
 use http_pool::{Worker, pool};
+use http_seats::SeatedAnswerer;
 use std::alloc::Global;
 use std::io::{Read, Write};
 use std::marker::Brand;
@@ -185,7 +185,7 @@ fn workers<'a, L: Ledger, M: Ledger + Offered, R: Wait + Abort>(
     desk: &'a Desk<L, M>,
     seats: (Seat<L, M>, Seat<L, M>),
     gate: &'a OvertakingGate,
-) -> Vec<Worker<SeatedAnswerer<'a, L, M, OvertakingGate, R>, Readings<'a>>> {
+) -> Vec<Worker<SeatedAnswerer<'a, Desk<L, M>, Seat<L, M>, OvertakingGate, R>, Readings<'a>>> {
     let mut workers = Vec::new(alloc);
     let first = SeatedAnswerer::new(rt, alloc, desk, seats.0, gate);
     let pushed = workers.push(Worker::new(first, Readings::new(gate)));

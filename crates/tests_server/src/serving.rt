@@ -2,8 +2,8 @@
 use crate::checks::{same, same_at};
 use crate::fixtures::FailsAt;
 use counted_io::Counted;
+use http_connection::{Clock, Ended, HttpRequest, Responder, serve};
 use http_messages::Fault;
-use http_turns::{Clock, Ended, HttpRequest, Responder, serve};
 use std::alloc::{AllocError, Global};
 use std::process::Abort;
 use std::sync::Wait;

@@ -1,5 +1,6 @@
 //! A breaker by itself, with what it answers worked out by hand.
 use crate::checks::{same, same_at};
+use breaker::State::{Closed, Disabled, ForcedOpen, HalfOpen, MetricsOnly, Open};
 use breaker::{Breaker, Config, Fate, Metrics, Note, Permission, Standing, State};
 use service_profile::{ConfigParts, SlidingWindowType};
 use std::alloc::Global;
@@ -34,26 +35,64 @@ enum Step {
     GiveBack(u64),
     /// At a moment the breaker is moved to a state.
     Move(u64, State),
-    /// The state, its period, since when, and how many permissions are held.
-    Stands(State, u64, u64, u64),
-    /// What is measured at a moment.
-    Measures(u64, Metrics),
-    /// Whether a call at a moment would be permitted.
-    Permission(u64, Permission),
+    /// Where the breaker stands, and how many permissions are held.
+    Stands(At, u64),
+    /// What is measured at a moment: where the breaker stands, how many calls were noted and failed, none of them slow, and
+    /// the rate of failures, where rates are shown.
+    Measures(u64, At, u64, u64, Option<u64>),
+    /// Whether a call at a moment would be permitted, and where the breaker would stand.
+    Permission(u64, bool, At),
     TakePermission,
     ReturnPermission,
     AddNote(Note),
     /// How the breaker would stand after a note.
-    AfterNote(Note, Standing),
+    AfterNote(Note, At),
     /// A decision is followed, with its note.
-    Follow(Standing, Note),
-    BeginPeriod(Standing),
+    Follow(At, Note),
+    BeginPeriod(At),
     /// Where an event at a moment finds the breaker.
-    StandsAt(u64, Standing),
+    StandsAt(u64, At),
     /// A stay in HALF_OPEN ends, where it is over at a moment.
     Expire(u64),
     /// What a call at a moment hears that finds a new period.
-    PermissionInNewPeriod(Standing, u64, Permission),
+    PermissionInNewPeriod(At, u64, bool, At),
+}
+
+/// A state, its period, and since when.
+type At = (State, u64, u64);
+
+fn standing(at: At) -> Standing {
+    let (state, period, since) = at;
+    Standing {
+        state,
+        period,
+        since,
+    }
+}
+
+fn metrics(at: At, total: u64, failed: u64, failure_rate: Option<u64>) -> Metrics {
+    let (state, period, since) = at;
+    Metrics {
+        state,
+        period,
+        since,
+        total,
+        failed,
+        slow: 0,
+        failure_rate,
+        slow_rate: if failure_rate.is_some() {
+            Some(0)
+        } else {
+            None
+        },
+    }
+}
+
+fn permitted(given: bool, at: At) -> Permission {
+    Permission {
+        given,
+        standing: standing(at),
+    }
 }
 
 fn breaker(rt: &impl Abort, alloc: Global, parts: ConfigParts) -> Breaker {
@@ -82,33 +121,34 @@ fn take(rt: &impl Abort, breaker: &mut Breaker, step: Step, index: usize) {
         }
         Step::GiveBack(period) => give_back(rt, breaker, period),
         Step::Move(moment, state) => move_to(rt, breaker, moment, state),
-        Step::Stands(state, period, since, held) => {
-            let standing = Standing {
-                state,
-                period,
-                since,
-            };
-            same_at(rt, stands(breaker), (standing, held), index);
+        Step::Stands(at, held) => same_at(rt, stands(breaker), (standing(at), held), index),
+        Step::Measures(moment, at, total, failed, rate) => {
+            let wanted = metrics(at, total, failed, rate);
+            same_at(rt, measures(breaker, moment), wanted, index);
         }
-        Step::Measures(moment, metrics) => same_at(rt, measures(breaker, moment), metrics, index),
-        Step::Permission(moment, wanted) => {
-            same_at(rt, permission(rt, breaker, moment), wanted, index);
+        Step::Permission(moment, given, at) => {
+            same_at(
+                rt,
+                permission(rt, breaker, moment),
+                permitted(given, at),
+                index,
+            );
         }
         Step::TakePermission => take_permission(rt, breaker),
         Step::ReturnPermission => return_permission(rt, breaker),
         Step::AddNote(note) => add_note(rt, breaker, note),
-        Step::AfterNote(note, standing) => {
-            same_at(rt, after_note(rt, breaker, note), standing, index);
+        Step::AfterNote(note, at) => {
+            same_at(rt, after_note(rt, breaker, note), standing(at), index);
         }
-        Step::Follow(standing, note) => follow(rt, breaker, standing, note),
-        Step::BeginPeriod(standing) => begin_period(breaker, standing),
-        Step::StandsAt(moment, standing) => {
-            same_at(rt, standing_at(rt, breaker, moment), standing, index);
+        Step::Follow(at, note) => follow(rt, breaker, standing(at), note),
+        Step::BeginPeriod(at) => begin_period(breaker, standing(at)),
+        Step::StandsAt(moment, at) => {
+            same_at(rt, standing_at(rt, breaker, moment), standing(at), index);
         }
         Step::Expire(moment) => expire(rt, breaker, moment),
-        Step::PermissionInNewPeriod(standing, moment, wanted) => {
-            let found = permission_in_new_period(rt, breaker, standing, moment);
-            same_at(rt, found, wanted, index);
+        Step::PermissionInNewPeriod(new, moment, given, at) => {
+            let found = permission_in_new_period(rt, breaker, standing(new), moment);
+            same_at(rt, found, permitted(given, at), index);
         }
     }
 }
@@ -221,44 +261,32 @@ fn a_breaker_opens_and_closes_again(rt: HostRuntime) {
         rt.alloc(),
         PARTS,
         &[
-            Step::Stands(State::Closed, 1, 0, 0),
+            Step::Stands((Closed, 1, 0), 0),
             Step::Permit(5, Some(1)),
             Step::Permit(6, Some(1)),
             Step::Record(10, 1, true, Fate::Recorded),
-            Step::Stands(State::Closed, 1, 0, 1),
+            Step::Stands((Closed, 1, 0), 1),
             Step::Record(20, 1, false, Fate::Recorded),
-            Step::Stands(State::Open, 2, 20, 0),
+            Step::Stands((Open, 2, 20), 0),
             Step::Permit(1_019, None),
-            Step::Stands(State::Open, 2, 20, 0),
+            Step::Stands((Open, 2, 20), 0),
             Step::Permit(1_020, Some(3)),
-            Step::Stands(State::HalfOpen, 3, 1_020, 1),
+            Step::Stands((HalfOpen, 3, 1_020), 1),
             Step::Permit(1_021, Some(3)),
             Step::Permit(1_022, Some(3)),
             Step::Permit(1_023, None),
             Step::GiveBack(3),
-            Step::Stands(State::HalfOpen, 3, 1_020, 2),
+            Step::Stands((HalfOpen, 3, 1_020), 2),
             Step::Permit(1_024, Some(3)),
             Step::Record(1_030, 3, true, Fate::Recorded),
-            Step::Stands(State::HalfOpen, 3, 1_020, 2),
+            Step::Stands((HalfOpen, 3, 1_020), 2),
             Step::Record(1_031, 3, false, Fate::Recorded),
-            Step::Stands(State::HalfOpen, 3, 1_020, 1),
+            Step::Stands((HalfOpen, 3, 1_020), 1),
             Step::Record(1_032, 3, false, Fate::Recorded),
-            Step::Stands(State::Closed, 4, 1_032, 0),
+            Step::Stands((Closed, 4, 1_032), 0),
         ],
     );
 }
-
-/// What is measured of no call, in METRICS_ONLY as period 2.
-const NOTHING: Metrics = Metrics {
-    state: State::MetricsOnly,
-    period: 2,
-    since: 0,
-    total: 0,
-    failed: 0,
-    slow: 0,
-    failure_rate: None,
-    slow_rate: None,
-};
 
 #[test]
 fn a_stale_verdict_changes_nothing(rt: HostRuntime) {
@@ -268,24 +296,16 @@ fn a_stale_verdict_changes_nothing(rt: HostRuntime) {
         PARTS,
         &[
             Step::Permit(0, Some(1)),
-            Step::Move(7, State::HalfOpen),
-            Step::Stands(State::HalfOpen, 2, 7, 0),
+            Step::Move(7, HalfOpen),
+            Step::Stands((HalfOpen, 2, 7), 0),
             Step::Permit(8, Some(2)),
             Step::Record(9, 1, true, Fate::Stale),
             Step::GiveBack(1),
-            Step::Stands(State::HalfOpen, 2, 7, 1),
+            Step::Stands((HalfOpen, 2, 7), 1),
             Step::Record(9, 2, true, Fate::Recorded),
-            Step::Move(10, State::HalfOpen),
-            Step::Stands(State::HalfOpen, 3, 10, 0),
-            Step::Measures(
-                10,
-                Metrics {
-                    state: State::HalfOpen,
-                    period: 3,
-                    since: 10,
-                    ..NOTHING
-                },
-            ),
+            Step::Move(10, HalfOpen),
+            Step::Stands((HalfOpen, 3, 10), 0),
+            Step::Measures(10, (HalfOpen, 3, 10), 0, 0, None),
         ],
     );
 }
@@ -297,33 +317,15 @@ fn the_other_states(rt: HostRuntime) {
         rt.alloc(),
         PARTS,
         &[
-            Step::Move(2, State::Disabled),
+            Step::Move(2, Disabled),
             Step::Failures(3, 10, 2, Fate::Off),
-            Step::Stands(State::Disabled, 2, 2, 0),
-            Step::Measures(
-                10,
-                Metrics {
-                    state: State::Disabled,
-                    since: 2,
-                    ..NOTHING
-                },
-            ),
-            Step::Move(3, State::MetricsOnly),
+            Step::Stands((Disabled, 2, 2), 0),
+            Step::Measures(10, (Disabled, 2, 2), 0, 0, None),
+            Step::Move(3, MetricsOnly),
             Step::Failures(3, 10, 3, Fate::Recorded),
-            Step::Stands(State::MetricsOnly, 3, 3, 0),
-            Step::Measures(
-                10,
-                Metrics {
-                    period: 3,
-                    since: 3,
-                    total: 3,
-                    failed: 3,
-                    failure_rate: Some(100),
-                    slow_rate: Some(0),
-                    ..NOTHING
-                },
-            ),
-            Step::Move(30, State::ForcedOpen),
+            Step::Stands((MetricsOnly, 3, 3), 0),
+            Step::Measures(10, (MetricsOnly, 3, 3), 3, 3, Some(100)),
+            Step::Move(30, ForcedOpen),
             Step::Permit(u64::MAX, None),
         ],
     );
@@ -339,32 +341,16 @@ fn metrics_show_rates_from_the_minimum_on(rt: HostRuntime) {
         rt.alloc(),
         parts,
         &[
-            Step::Move(0, State::MetricsOnly),
-            Step::Measures(0, NOTHING),
+            Step::Move(0, MetricsOnly),
+            Step::Measures(0, (MetricsOnly, 2, 0), 0, 0, None),
             Step::Permit(1_000, Some(2)),
             Step::Record(1_000, 2, false, Fate::Recorded),
             Step::Permit(2_000, Some(2)),
             Step::Record(2_000, 2, true, Fate::Recorded),
             Step::Permit(4_999, Some(2)),
             Step::Record(4_999, 2, false, Fate::Recorded),
-            Step::Measures(
-                4_999,
-                Metrics {
-                    total: 3,
-                    failed: 1,
-                    failure_rate: Some(33),
-                    slow_rate: Some(0),
-                    ..NOTHING
-                },
-            ),
-            Step::Measures(
-                5_000,
-                Metrics {
-                    total: 2,
-                    failed: 1,
-                    ..NOTHING
-                },
-            ),
+            Step::Measures(4_999, (MetricsOnly, 2, 0), 3, 1, Some(33)),
+            Step::Measures(5_000, (MetricsOnly, 2, 0), 2, 1, None),
         ],
     );
 }
@@ -379,36 +365,22 @@ fn the_minimum_is_capped_by_the_window(rt: HostRuntime) {
         parts,
         &[
             Step::Failures(1, 1, 1, Fate::Recorded),
-            Step::Stands(State::Closed, 1, 0, 0),
+            Step::Stands((Closed, 1, 0), 0),
             Step::Failures(1, 2, 1, Fate::Recorded),
-            Step::Stands(State::Closed, 1, 0, 0),
+            Step::Stands((Closed, 1, 0), 0),
             Step::Failures(1, 3, 1, Fate::Recorded),
-            Step::Stands(State::Closed, 1, 0, 0),
+            Step::Stands((Closed, 1, 0), 0),
             Step::Failures(1, 4, 1, Fate::Recorded),
-            Step::Stands(State::Open, 2, 4, 0),
+            Step::Stands((Open, 2, 4), 0),
         ],
     );
 }
-
-/// How a new breaker stands.
-const FRESH: Standing = Standing {
-    state: State::Closed,
-    period: 1,
-    since: 0,
-};
 
 /// A call that failed.
 const FAILED: Note = Note {
     moment: 3,
     failed: true,
     slow: false,
-};
-
-/// How a breaker stands in the period that begins with that.
-const OPENED: Standing = Standing {
-    state: State::Open,
-    period: 2,
-    since: 3,
 };
 
 #[test]
@@ -418,57 +390,21 @@ fn a_decision_is_followed(rt: HostRuntime) {
         rt.alloc(),
         PARTS,
         &[
-            Step::Stands(State::Closed, 1, 0, 0),
-            Step::Permission(
-                3,
-                Permission {
-                    given: true,
-                    standing: FRESH,
-                },
-            ),
+            Step::Stands((Closed, 1, 0), 0),
+            Step::Permission(3, true, (Closed, 1, 0)),
             Step::TakePermission,
-            Step::Stands(State::Closed, 1, 0, 1),
+            Step::Stands((Closed, 1, 0), 1),
             Step::AddNote(FAILED),
-            Step::AfterNote(FAILED, OPENED),
+            Step::AfterNote(FAILED, (Open, 2, 3)),
             Step::ReturnPermission,
-            Step::Stands(State::Closed, 1, 0, 0),
-            Step::Follow(OPENED, FAILED),
-            Step::Stands(State::Open, 2, 3, 0),
-            Step::BeginPeriod(Standing {
-                state: State::Closed,
-                period: 3,
-                since: 4,
-            }),
-            Step::Stands(State::Closed, 3, 4, 0),
-            Step::Measures(
-                4,
-                Metrics {
-                    state: State::Closed,
-                    period: 3,
-                    since: 4,
-                    ..NOTHING
-                },
-            ),
+            Step::Stands((Closed, 1, 0), 0),
+            Step::Follow((Open, 2, 3), FAILED),
+            Step::Stands((Open, 2, 3), 0),
+            Step::BeginPeriod((Closed, 3, 4)),
+            Step::Stands((Closed, 3, 4), 0),
+            Step::Measures(4, (Closed, 3, 4), 0, 0, None),
         ],
     );
-}
-
-/// How a breaker stands that was moved to a state at 7, in its second period.
-fn moved_at_7(state: State) -> Standing {
-    Standing {
-        state,
-        period: 2,
-        since: 7,
-    }
-}
-
-/// How a breaker stands whose stay in HALF_OPEN ended at a moment, in its third period.
-fn ended_at(moment: u64) -> Standing {
-    Standing {
-        state: State::Open,
-        period: 3,
-        since: moment,
-    }
 }
 
 /// A stay in HALF_OPEN of half a second that began at 7 is over at 507.
@@ -481,32 +417,25 @@ fn a_longest_stay_ends(rt: HostRuntime) {
         rt.alloc(),
         parts,
         &[
-            Step::Move(7, State::HalfOpen),
+            Step::Move(7, HalfOpen),
             Step::Permit(8, Some(2)),
-            Step::StandsAt(0, moved_at_7(State::HalfOpen)),
-            Step::StandsAt(506, moved_at_7(State::HalfOpen)),
-            Step::StandsAt(507, ended_at(507)),
-            Step::StandsAt(508, ended_at(508)),
-            Step::Stands(State::HalfOpen, 2, 7, 1),
-            Step::PermissionInNewPeriod(
-                ended_at(507),
-                507,
-                Permission {
-                    given: false,
-                    standing: ended_at(507),
-                },
-            ),
+            Step::StandsAt(0, (HalfOpen, 2, 7)),
+            Step::StandsAt(506, (HalfOpen, 2, 7)),
+            Step::StandsAt(507, (Open, 3, 507)),
+            Step::StandsAt(508, (Open, 3, 508)),
+            Step::Stands((HalfOpen, 2, 7), 1),
+            Step::PermissionInNewPeriod((Open, 3, 507), 507, false, (Open, 3, 507)),
             Step::Expire(506),
-            Step::Stands(State::HalfOpen, 2, 7, 1),
+            Step::Stands((HalfOpen, 2, 7), 1),
             Step::Expire(507),
-            Step::Stands(State::Open, 3, 507, 0),
+            Step::Stands((Open, 3, 507), 0),
             Step::Expire(1_007),
-            Step::Stands(State::Open, 3, 507, 0),
+            Step::Stands((Open, 3, 507), 0),
             Step::Permit(1_507, Some(4)),
             Step::Expire(2_006),
-            Step::Stands(State::HalfOpen, 4, 1_507, 1),
+            Step::Stands((HalfOpen, 4, 1_507), 1),
             Step::Expire(3_000),
-            Step::Stands(State::Open, 5, 3_000, 0),
+            Step::Stands((Open, 5, 3_000), 0),
         ],
     );
 }
@@ -523,11 +452,11 @@ fn stays(rt: &impl Abort, alloc: Global, longest: u64, states: &[State]) {
             parts,
             &[
                 Step::Move(7, state),
-                Step::StandsAt(507, moved_at_7(state)),
+                Step::StandsAt(507, (state, 2, 7)),
                 Step::Expire(507),
-                Step::StandsAt(u64::MAX, moved_at_7(state)),
+                Step::StandsAt(u64::MAX, (state, 2, 7)),
                 Step::Expire(u64::MAX),
-                Step::Stands(state, 2, 7, 0),
+                Step::Stands((state, 2, 7), 0),
             ],
         );
     }
@@ -539,13 +468,7 @@ fn no_other_stay_ends(rt: HostRuntime) {
         &rt,
         rt.alloc(),
         500,
-        &[
-            State::Closed,
-            State::Open,
-            State::Disabled,
-            State::MetricsOnly,
-            State::ForcedOpen,
-        ],
+        &[Closed, Open, Disabled, MetricsOnly, ForcedOpen],
     );
-    stays(&rt, rt.alloc(), 0, &[State::HalfOpen, State::Closed]);
+    stays(&rt, rt.alloc(), 0, &[HalfOpen, Closed]);
 }

@@ -1,18 +1,18 @@
-//! Configurations with a field out of its range, which the error names, and with fields at the ends
-//! of their ranges.
+//! Configurations with a field out of its range, which the error names. Those that are accepted at the ends of their ranges
+//! stand in checks/rows.
 use crate::checks::{same, same_at};
 use service_profile::{Config, ConfigField, ConfigParts, SlidingWindowType};
 use std::process::Abort;
 use std::test::Fail;
 
 /// Parts, and the field that is out of its range.
-type Judged = (ConfigParts, Option<ConfigField>);
+type Judged = (ConfigParts, ConfigField);
 
-/// Each of these parts is refused by its field, or not.
+/// Each of these parts is refused by its field.
 fn are_judged(rt: &impl Abort, rows: &[Judged]) {
     for (index, row) in rows.iter().enumerate() {
         let (parts, field) = *row;
-        same_at(rt, refused(parts), field, index);
+        same_at(rt, refused(parts), Some(field), index);
     }
 }
 
@@ -31,48 +31,33 @@ fn fields_out_of_range_are_named(rt: HostRuntime) {
     are_judged(
         &rt,
         &[
-            (DEFAULT, None),
             (
                 ConfigParts {
                     failure_rate_threshold: 101,
                     ..DEFAULT
                 },
-                Some(ConfigField::FailureRateThreshold),
+                ConfigField::FailureRateThreshold,
             ),
             (
                 ConfigParts {
                     wait_duration_in_open_state: (1 << 40) + 1,
                     ..DEFAULT
                 },
-                Some(ConfigField::WaitDurationInOpenState),
+                ConfigField::WaitDurationInOpenState,
             ),
             (
                 ConfigParts {
                     max_wait_duration: 5,
                     ..DEFAULT
                 },
-                Some(ConfigField::MaxWaitDuration),
-            ),
-            (
-                ConfigParts {
-                    max_wait_duration_in_half_open_state: 1,
-                    ..DEFAULT
-                },
-                None,
-            ),
-            (
-                ConfigParts {
-                    max_wait_duration_in_half_open_state: 1 << 40,
-                    ..DEFAULT
-                },
-                None,
+                ConfigField::MaxWaitDuration,
             ),
             (
                 ConfigParts {
                     max_wait_duration_in_half_open_state: (1 << 40) + 1,
                     ..DEFAULT
                 },
-                Some(ConfigField::MaxWaitDurationInHalfOpenState),
+                ConfigField::MaxWaitDurationInHalfOpenState,
             ),
             (
                 ConfigParts {
@@ -80,15 +65,7 @@ fn fields_out_of_range_are_named(rt: HostRuntime) {
                     max_concurrent_calls: 0,
                     ..DEFAULT
                 },
-                Some(ConfigField::SlowCallRateThreshold),
-            ),
-            (
-                ConfigParts {
-                    sliding_window_type: SlidingWindowType::TimeBased,
-                    sliding_window_size: 3_600,
-                    ..DEFAULT
-                },
-                None,
+                ConfigField::SlowCallRateThreshold,
             ),
             (
                 ConfigParts {
@@ -96,14 +73,14 @@ fn fields_out_of_range_are_named(rt: HostRuntime) {
                     sliding_window_size: 3_601,
                     ..DEFAULT
                 },
-                Some(ConfigField::SlidingWindowSize),
+                ConfigField::SlidingWindowSize,
             ),
             (
                 ConfigParts {
                     sliding_window_size: 10_001,
                     ..DEFAULT
                 },
-                Some(ConfigField::SlidingWindowSize),
+                ConfigField::SlidingWindowSize,
             ),
         ],
     );

@@ -3,7 +3,11 @@ ghost use Rattle.std.specs.Prelude.{◌≡◌, map};
 ghost use Rattle.desk.specs.Services.{service_of};
 
 use crate::checks::same;
-use crate::wishes::{Wish, outcome_of, program, shared_program};
+use crate::desk_calls::make_each_call;
+use crate::desk_histories::go_through;
+use crate::gates::{Overtaking, overtake_at_a_gate, race};
+use crate::seats::{take_all_seats, use_four_seats};
+use crate::threads::call_from_four_threads;
 use book::{Book, Config, ConfigParts, Reply};
 use desk::{Desk, Gate, Offered, Seat, Unclosed};
 use refusals::RefusalNumber;
@@ -14,6 +18,7 @@ use std::sync::Wait;
 use std::sync::ledger::{Blank, Ledger};
 use std::thread::Threads;
 use verifier::Verified;
+use worked_histories::{History, Wish, outcome_of, program, shared_program};
 
 /// One seat, at its desk: what a thread takes along.
 #[derive(Drop)]
@@ -38,68 +43,74 @@ pub(crate) fn ask<L: Ledger, M: Ledger + Offered, R: Wait + Abort, G: Gate>(
     match wish {
         Wish::Acquire => desk.acquire(rt, seat, service, moment),
         Wish::Report(ticket, status) => {
-            let outcome = outcome_of(rt, alloc, status);
+            let outcome = outcome_of(alloc, status).expect(rt, "ample memory");
             desk.report(rt, seat, service, moment, ticket, outcome, gate)
         }
         Wish::Release(ticket) => desk.release(rt, seat, service, moment, ticket),
         Wish::InstallIgnoring => {
-            desk.install(rt, seat, service, moment, shared_program(rt, alloc, true))
+            let program = shared_program(alloc, true).expect(rt, "ample memory");
+            desk.install(rt, seat, service, moment, program)
         }
         Wish::InstallDefault => {
-            desk.install(rt, seat, service, moment, shared_program(rt, alloc, false))
+            let program = shared_program(alloc, false).expect(rt, "ample memory");
+            desk.install(rt, seat, service, moment, program)
         }
         Wish::Move(state) => desk.move_to(rt, seat, service, moment, state),
         Wish::Reset => desk.reset(rt, seat, service, moment),
     }
 }
 
-/// What a test plays at a desk.
-pub(crate) trait Play {
-    fn play<
-        L: Ledger + Send + Sync,
-        M: Ledger + Offered + Send + Sync,
-        R: Threads + Wait + Abort + Sync,
-    >(&self, rt: &R, alloc: Global, desk: Desk<L, M>);
+/// What a test plays at a new desk.
+#[derive(Clone, Copy)]
+pub(crate) enum Scene<'a> {
+    /// The only seat goes through a history.
+    Alone(&'a History<'a>),
+    /// One seat makes each call by its name.
+    EachCall,
+    AllSeats,
+    FourSeats,
+    FourThreads,
+    Overtaking(&'a Overtaking<'a>),
+    Race,
+}
+
+/// Plays at a desk.
+fn play<
+    L: Ledger + Send + Sync,
+    M: Ledger + Offered + Send + Sync,
+    R: Threads + Wait + Abort + Sync,
+>(rt: &R, alloc: Global, desk: Desk<L, M>, scene: Scene<'_>) {
+    match scene {
+        Scene::Alone(history) => go_through(rt, alloc, desk, history),
+        Scene::EachCall => make_each_call(rt, alloc, desk),
+        Scene::AllSeats => take_all_seats(rt, alloc, desk),
+        Scene::FourSeats => use_four_seats(rt, alloc, desk),
+        Scene::FourThreads => call_from_four_threads(rt, alloc, desk),
+        Scene::Overtaking(overtaking) => overtake_at_a_gate(rt, alloc, desk, overtaking),
+        Scene::Race => race(rt, alloc, desk),
+    }
 }
 
 /// Plays at a new desk with services of these names, of one configuration, with the default classifier.
-pub(crate) fn play_at_a_desk<P: Play, R: Threads + Wait + Abort + Sync>(
+pub(crate) fn play_at_a_desk<R: Threads + Wait + Abort + Sync>(
     rt: &R,
     alloc: Global,
     names: &[&str],
     parts: ConfigParts,
-    play: &P,
+    scene: Scene<'_>,
 ) {
-    play_at::<Brand, Brand, P, R>(
+    play_at::<Brand, Brand, R>(
         rt,
         alloc,
         Blank::new(193),
         Blank::new(193),
         services(rt, alloc, names, parts),
-        play,
+        scene,
     );
 }
 
-/// A new desk with these services.
-pub(crate) fn open_desk<L: Ledger, M: Ledger + Offered, R: Abort>(
-    rt: &R,
-    alloc: Global,
-    entries: Blank,
-    cuts: Blank,
-    services: Vec<(String, Config, Verified)>,
-) -> Desk<L, M>
-    requires entries_name { entries.name ≡ L.name }
-    requires entries_parts { (entries.parts ≡ L.parts) × (L.parts ≡ 193) }
-    requires cuts_name { cuts.name ≡ M.name }
-    requires cuts_parts { (cuts.parts ≡ M.parts) × (M.parts ≡ 193) }
-    requires offered { M.services ≡ map service_of services.items }
-{
-    assert!(rt; services.len() <= 64);
-    Desk::<L, M>::open(alloc, entries, cuts, services).expect(rt, "ample memory")
-}
-
 /// Services of these names, of one configuration, with the default classifier.
-pub(crate) fn services(
+fn services(
     rt: &impl Abort,
     alloc: Global,
     names: &[&str],
@@ -122,7 +133,8 @@ fn service(
 ) -> (String, Config, Verified) {
     let config = Config::new(parts).expect(rt, "parts in their ranges");
     let name = String::from_str(alloc, name).expect(rt, "ample memory");
-    (name, config, program(rt, alloc, false))
+    let classifier = program(alloc, false).expect(rt, "the default classifier");
+    (name, config, classifier)
 }
 
 /// Closes a desk, for which all its seats are given.
@@ -172,7 +184,6 @@ pub(crate) fn close_late<L: Ledger, M: Ledger + Offered>(
 fn play_at<
     L: Ledger + Send + Sync,
     M: Ledger + Offered + Send + Sync,
-    P: Play,
     R: Threads + Wait + Abort + Sync,
 >(
     rt: &R,
@@ -180,7 +191,7 @@ fn play_at<
     entries: Blank,
     cuts: Blank,
     services: Vec<(String, Config, Verified)>,
-    play: &P,
+    scene: Scene<'_>,
 )
     requires entries_name { entries.name ≡ L.name }
     requires entries_parts { (entries.parts ≡ L.parts) × (L.parts ≡ 193) }
@@ -188,6 +199,7 @@ fn play_at<
     requires cuts_parts { (cuts.parts ≡ M.parts) × (M.parts ≡ 193) }
     requires offered { M.services ≡ map service_of services.items }
 {
-    let desk = open_desk::<L, M, R>(rt, alloc, entries, cuts, services);
-    play.play(rt, alloc, desk);
+    assert!(rt; services.len() <= 64);
+    let desk = Desk::<L, M>::open(alloc, entries, cuts, services).expect(rt, "ample memory");
+    play(rt, alloc, desk, scene);
 }

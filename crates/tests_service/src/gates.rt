@@ -1,81 +1,16 @@
 //! Reports that other calls overtake between their look and their finish.
-ghost use Rattle.std.specs.Prelude.{◌≡◌, map};
-ghost use Rattle.desk.specs.Services.{service_of};
-
 use crate::checks::{is_true, same};
-use crate::desk_fixtures::{Caller, ask, close, open_desk, services};
-use crate::wishes::{Answer, FAILURE, SPENT, Wish, is_entry, reply};
-use book::{Book, Config, ConfigParts, Reply, State};
+use crate::desk_fixtures::{Caller, Scene, ask, close, play_at_a_desk};
+use book::{Book, ConfigParts, Reply};
 use desk::{Desk, Gate, Offered, Seat};
 use service::OpenGate;
 use std::alloc::{AllocError, Global};
-use std::marker::Brand;
 use std::process::Abort;
 use std::sync::Wait;
-use std::sync::atomic::{AtomicU64, Ordering};
-use std::sync::ledger::{Blank, Ledger};
+use std::sync::ledger::Ledger;
 use std::thread;
 use std::thread::Threads;
-use verifier::Verified;
-
-/// How often a thread looks whether another one is there yet.
-const MOST_TURNS: u32 = 1_000_000;
-
-/// Something that one thread says and another waits for.
-#[derive(Drop)]
-struct Flag(AtomicU64);
-
-impl Flag {
-    fn new() -> Flag {
-        Flag(AtomicU64::new(0))
-    }
-
-    fn raise(&self) {
-        self.0.store(1, Ordering::SeqCst);
-    }
-
-    fn is_raised(&self) -> bool {
-        self.0.load(Ordering::SeqCst) != 0
-    }
-
-    /// Gives way until it is raised, but not for ever.
-    fn wait(&self) {
-        for _ in 0..MOST_TURNS {
-            if self.is_raised() {
-                return;
-            }
-            thread::yield_now();
-        }
-    }
-}
-
-/// Holds a report between its look and its finish until another call was answered.
-#[derive(Drop)]
-struct HoldingGate {
-    reached: Flag,
-    answered: Flag,
-    overtaken: Flag,
-}
-
-impl HoldingGate {
-    fn new() -> HoldingGate {
-        HoldingGate {
-            reached: Flag::new(),
-            answered: Flag::new(),
-            overtaken: Flag::new(),
-        }
-    }
-}
-
-impl Gate for HoldingGate {
-    fn between(&self, _ticket: u64) {
-        self.reached.raise();
-        self.answered.wait();
-        if self.answered.is_raised() {
-            self.overtaken.raise();
-        }
-    }
-}
+use worked_histories::{Answer, Entered, FAILURE, HoldingGate, SPENT, Wish, are_entries, reply};
 
 /// A seat, with what its call was replied.
 #[derive(Drop)]
@@ -126,16 +61,9 @@ fn callers<'a, L: Ledger, M: Ledger + Offered>(
     desk: &'a Desk<L, M>,
     seats: (Seat<L, M>, Seat<L, M>),
 ) -> Result<Vec<Caller<'a, L, M>>, AllocError> {
-    let mut callers = Vec::new(alloc);
-    callers.push(Caller {
-        desk,
-        seat: seats.0,
-    })?;
-    callers.push(Caller {
-        desk,
-        seat: seats.1,
-    })?;
-    Ok(callers)
+    let (first, second) = seats;
+    let first = Caller { desk, seat: first };
+    Ok(Vec::from_array(alloc, [first, Caller { desk, seat: second }])?)
 }
 
 /// What both were answered, of the answers in the order of their seats.
@@ -202,28 +130,6 @@ fn close_both<L: Ledger, M: Ledger + Offered>(
     book
 }
 
-/// An entry: its number, its seat, and what that asked for, at which moment, with its answer.
-type Entered = (u64, u32, Wish, u64, Answer);
-
-/// A journal's entry is this one.
-fn check_entry(rt: &impl Abort, book: &Book, entered: Entered) {
-    let (number, seat, wish, moment, answer) = entered;
-    let entries = book.entries(number);
-    assert!(rt; !entries.is_empty());
-    same(rt, entries[0].number(), number);
-    is_true(
-        rt,
-        is_entry(rt, &entries[0], seat, wish, moment, reply(answer)),
-    );
-}
-
-/// A journal has these entries.
-fn check_entries(rt: &impl Abort, book: &Book, entries: &[Entered]) {
-    for entered in entries {
-        check_entry(rt, book, *entered);
-    }
-}
-
 /// A seat gets the ticket of this number.
 fn get_ticket<L: Ledger, M: Ledger + Offered, R: Wait + Abort>(
     rt: &R,
@@ -233,11 +139,7 @@ fn get_ticket<L: Ledger, M: Ledger + Offered, R: Wait + Abort>(
     number: u64,
 ) {
     let found = ask(rt, alloc, desk, seat, "pay", 0, Wish::Acquire, &OpenGate);
-    same(
-        rt,
-        found,
-        reply(Answer::Permitted(number, 1, State::Closed)),
-    );
+    same(rt, found, reply(Answer::Permitted(number)));
 }
 
 /// Two seats, of which the first has ticket 1, and the second ticket 2 where there are two tickets.
@@ -258,57 +160,46 @@ fn two_seats<L: Ledger, M: Ledger + Offered, R: Wait + Abort>(
 
 /// The first seat's report is held while the second seat makes a call.
 #[derive(Clone, Copy)]
-struct Overtaking<'a> {
+pub(crate) struct Overtaking<'a> {
     has_two_tickets: bool,
     wishes: (Wish, Wish),
     answers: (Answer, Answer),
-    /// The entries that there are then, of which the last one is the journal's.
+    /// The last entries that there are then, of which the last one is the journal's.
     entries: &'a [Entered],
     last_number: u64,
 }
 
-/// Holds a report at a new desk, and compares what comes of that.
-fn check_overtaking<
+/// Holds a report at a gate, and compares what comes of that.
+pub(crate) fn overtake_at_a_gate<
     L: Ledger + Send + Sync,
     M: Ledger + Offered + Send + Sync,
     R: Threads + Wait + Abort + Sync,
->(
-    rt: &R,
-    alloc: Global,
-    entries: Blank,
-    cuts: Blank,
-    services: Vec<(String, Config, Verified)>,
-    wanted: &Overtaking<'_>,
-)
-    requires entries_name { entries.name ≡ L.name }
-    requires entries_parts { (entries.parts ≡ L.parts) × (L.parts ≡ 193) }
-    requires cuts_name { cuts.name ≡ M.name }
-    requires cuts_parts { (cuts.parts ≡ M.parts) × (M.parts ≡ 193) }
-    requires offered { M.services ≡ map service_of services.items }
-{
-    let mut desk = open_desk::<L, M, R>(rt, alloc, entries, cuts, services);
+>(rt: &R, alloc: Global, desk: Desk<L, M>, wanted: &Overtaking<'_>) {
+    let mut desk = desk;
     let seats = two_seats(rt, alloc, &mut desk, wanted.has_two_tickets);
     let both = hold_and_overtake(rt, alloc, &desk, seats, wanted.wishes).expect(rt, "ample memory");
     same(rt, both.first, reply(wanted.answers.0));
     same(rt, both.second, reply(wanted.answers.1));
     let book = close_both(rt, alloc, desk, both.seats);
-    check_entries(rt, &book, wanted.entries);
+    has_last(rt, &book, wanted.entries);
     same(rt, book.last_number(), wanted.last_number);
 }
 
+/// The last entries of a journal are these.
+fn has_last(rt: &impl Abort, book: &Book, entries: &[Entered]) {
+    let (from, ..) = *entries.first().expect(rt, "an entry");
+    is_true(rt, are_entries(book.entries(from), entries));
+}
+
+/// Plays at a new desk with one service.
+fn play<R: Threads + Wait + Abort + Sync>(rt: &R, alloc: Global, scene: Scene<'_>) {
+    play_at_a_desk(rt, alloc, &["pay"], ConfigParts::DEFAULT, scene);
+}
+
 /// The report of ticket 2 is answered while that of ticket 1 is held: outcomes are judged under no lock.
-fn overtake_another_ticket<
-    L: Ledger + Send + Sync,
-    M: Ledger + Offered + Send + Sync,
-    R: Threads + Wait + Abort + Sync,
->(rt: &R, alloc: Global, entries: Blank, cuts: Blank, services: Vec<(String, Config, Verified)>)
-    requires entries_name { entries.name ≡ L.name }
-    requires entries_parts { (entries.parts ≡ L.parts) × (L.parts ≡ 193) }
-    requires cuts_name { cuts.name ≡ M.name }
-    requires cuts_parts { (cuts.parts ≡ M.parts) × (M.parts ≡ 193) }
-    requires offered { M.services ≡ map service_of services.items }
-{
-    let wanted = Overtaking {
+#[test]
+fn reports_overtake_one_another(rt: HostRuntime) {
+    let overtaking = Overtaking {
         has_two_tickets: true,
         wishes: (Wish::Report(1, 500), Wish::Report(2, 500)),
         answers: (FAILURE, FAILURE),
@@ -318,33 +209,13 @@ fn overtake_another_ticket<
         ],
         last_number: 4,
     };
-    check_overtaking::<L, M, R>(rt, alloc, entries, cuts, services, &wanted);
-}
-
-#[test]
-fn reports_overtake_one_another(rt: HostRuntime) {
-    overtake_another_ticket::<Brand, Brand, HostRuntime>(
-        &rt,
-        rt.alloc(),
-        Blank::new(193),
-        Blank::new(193),
-        services(&rt, rt.alloc(), &["pay"], ConfigParts::DEFAULT),
-    );
+    play(&rt, rt.alloc(), Scene::Overtaking(&overtaking));
 }
 
 /// Two reports of ticket 1: the one that finishes first is recorded.
-fn overtake_the_same_ticket<
-    L: Ledger + Send + Sync,
-    M: Ledger + Offered + Send + Sync,
-    R: Threads + Wait + Abort + Sync,
->(rt: &R, alloc: Global, entries: Blank, cuts: Blank, services: Vec<(String, Config, Verified)>)
-    requires entries_name { entries.name ≡ L.name }
-    requires entries_parts { (entries.parts ≡ L.parts) × (L.parts ≡ 193) }
-    requires cuts_name { cuts.name ≡ M.name }
-    requires cuts_parts { (cuts.parts ≡ M.parts) × (M.parts ≡ 193) }
-    requires offered { M.services ≡ map service_of services.items }
-{
-    let wanted = Overtaking {
+#[test]
+fn one_of_two_reports_is_recorded(rt: HostRuntime) {
+    let overtaking = Overtaking {
         has_two_tickets: false,
         wishes: (Wish::Report(1, 500), Wish::Report(1, 500)),
         answers: (SPENT, FAILURE),
@@ -354,61 +225,24 @@ fn overtake_the_same_ticket<
         ],
         last_number: 3,
     };
-    check_overtaking::<L, M, R>(rt, alloc, entries, cuts, services, &wanted);
-}
-
-#[test]
-fn one_of_two_reports_is_recorded(rt: HostRuntime) {
-    overtake_the_same_ticket::<Brand, Brand, HostRuntime>(
-        &rt,
-        rt.alloc(),
-        Blank::new(193),
-        Blank::new(193),
-        services(&rt, rt.alloc(), &["pay"], ConfigParts::DEFAULT),
-    );
+    play(&rt, rt.alloc(), Scene::Overtaking(&overtaking));
 }
 
 /// A program is installed while a report is held: the report is judged by its ticket's version.
-fn overtake_by_a_program<
-    L: Ledger + Send + Sync,
-    M: Ledger + Offered + Send + Sync,
-    R: Threads + Wait + Abort + Sync,
->(rt: &R, alloc: Global, entries: Blank, cuts: Blank, services: Vec<(String, Config, Verified)>)
-    requires entries_name { entries.name ≡ L.name }
-    requires entries_parts { (entries.parts ≡ L.parts) × (L.parts ≡ 193) }
-    requires cuts_name { cuts.name ≡ M.name }
-    requires cuts_parts { (cuts.parts ≡ M.parts) × (M.parts ≡ 193) }
-    requires offered { M.services ≡ map service_of services.items }
-{
-    let wanted = Overtaking {
+#[test]
+fn tickets_keep_their_version_while_another_is_installed(rt: HostRuntime) {
+    let overtaking = Overtaking {
         has_two_tickets: false,
         wishes: (Wish::Report(1, 500), Wish::InstallIgnoring),
         answers: (FAILURE, Answer::Installed(2, 2)),
         entries: &[
-            (
-                1,
-                1,
-                Wish::Acquire,
-                0,
-                Answer::Permitted(1, 1, State::Closed),
-            ),
+            (1, 1, Wish::Acquire, 0, Answer::Permitted(1)),
             (2, 2, Wish::InstallIgnoring, 2, Answer::Installed(2, 2)),
             (3, 1, Wish::Report(1, 500), 2, FAILURE),
         ],
         last_number: 3,
     };
-    check_overtaking::<L, M, R>(rt, alloc, entries, cuts, services, &wanted);
-}
-
-#[test]
-fn tickets_keep_their_version_while_another_is_installed(rt: HostRuntime) {
-    overtake_by_a_program::<Brand, Brand, HostRuntime>(
-        &rt,
-        rt.alloc(),
-        Blank::new(193),
-        Blank::new(193),
-        services(&rt, rt.alloc(), &["pay"], ConfigParts::DEFAULT),
-    );
+    play(&rt, rt.alloc(), Scene::Overtaking(&overtaking));
 }
 
 /// Two threads report ticket 1.
@@ -438,18 +272,12 @@ fn has_one_winner(first: Reply, second: Reply) -> bool {
 }
 
 /// Two reports of ticket 1 with nothing between them.
-fn race<
+pub(crate) fn race<
     L: Ledger + Send + Sync,
     M: Ledger + Offered + Send + Sync,
     R: Threads + Wait + Abort + Sync,
->(rt: &R, alloc: Global, entries: Blank, cuts: Blank, services: Vec<(String, Config, Verified)>)
-    requires entries_name { entries.name ≡ L.name }
-    requires entries_parts { (entries.parts ≡ L.parts) × (L.parts ≡ 193) }
-    requires cuts_name { cuts.name ≡ M.name }
-    requires cuts_parts { (cuts.parts ≡ M.parts) × (M.parts ≡ 193) }
-    requires offered { M.services ≡ map service_of services.items }
-{
-    let mut desk = open_desk::<L, M, R>(rt, alloc, entries, cuts, services);
+>(rt: &R, alloc: Global, desk: Desk<L, M>) {
+    let mut desk = desk;
     let seats = two_seats(rt, alloc, &mut desk, false);
     let both = report_twice(rt, alloc, &desk, seats).expect(rt, "ample memory");
     is_true(rt, has_one_winner(both.first, both.second));
@@ -460,12 +288,6 @@ fn race<
 #[test]
 fn races_have_one_winner(rt: HostRuntime) {
     for _ in 0..1000 {
-        race::<Brand, Brand, HostRuntime>(
-            &rt,
-            rt.alloc(),
-            Blank::new(193),
-            Blank::new(193),
-            services(&rt, rt.alloc(), &["pay"], ConfigParts::DEFAULT),
-        );
+        play(&rt, rt.alloc(), Scene::Race);
     }
 }

@@ -13,11 +13,11 @@ mod checks;
 #[cfg(test)]
 mod configurations;
 #[cfg(test)]
+mod desk_calls;
+#[cfg(test)]
 mod desk_fixtures;
 #[cfg(test)]
-mod desk_rows;
-#[cfg(test)]
-mod events;
+mod desk_histories;
 #[cfg(test)]
 mod gates;
 #[cfg(test)]
@@ -34,5 +34,3 @@ mod seats;
 mod sliding_windows;
 #[cfg(test)]
 mod threads;
-#[cfg(test)]
-mod wishes;

@@ -364,19 +364,10 @@ fn end_tickets(rt: &impl Abort, registry: &mut Registry) {
 fn tickets_end_in_another_order(rt: HostRuntime) {
     let mut registry = registry(&rt, rt.alloc());
     issue_tickets(&rt, &mut registry);
-    play_with(
-        &rt,
-        rt.alloc(),
-        &mut registry,
-        &[Step::Tickets(10_000, 10_001)],
-    );
+    same_at(&rt, tickets(&registry), (10_000, 10_001), 0);
     end_tickets(&rt, &mut registry);
-    play_with(
-        &rt,
-        rt.alloc(),
-        &mut registry,
-        &[Step::Tickets(0, 10_001), Step::Issue(9, (10_001, 1, 9))],
-    );
+    same_at(&rt, tickets(&registry), (0, 10_001), 0);
+    same_at(&rt, issue(&rt, &mut registry, 9), (10_001, 1, 9), 0);
 }
 
 #[test]

@@ -1,7 +1,6 @@
 //! The seats of a desk: how many there are, and that all are wanted at its end.
 use crate::checks::{is_true, same};
-use crate::desk_fixtures::{Play, ask, close, close_late, play_at_a_desk};
-use crate::wishes::Wish;
+use crate::desk_fixtures::{Scene, ask, close, close_late, play_at_a_desk};
 use book::ConfigParts;
 use desk::{Desk, Offered, Seat};
 use refusals::RefusalNumber;
@@ -10,24 +9,19 @@ use std::alloc::Global;
 use std::process::Abort;
 use std::sync::Wait;
 use std::sync::ledger::Ledger;
-use std::thread::Threads;
+use worked_histories::Wish;
 
 /// A desk with as many seats as it has.
-#[derive(Drop)]
-struct AllSeats;
-
-impl Play for AllSeats {
-    fn play<
-        L: Ledger + Send + Sync,
-        M: Ledger + Offered + Send + Sync,
-        R: Threads + Wait + Abort + Sync,
-    >(&self, rt: &R, alloc: Global, desk: Desk<L, M>) {
-        let mut desk = desk;
-        let seats = take_seats(rt, alloc, &mut desk);
-        same(rt, desk.sit().err(), Some(RefusalNumber::SeatsFull));
-        is_true(rt, desk.find("ship").is_none());
-        same(rt, close(rt, alloc, desk, seats).len(), 1);
-    }
+pub(crate) fn take_all_seats<L: Ledger, M: Ledger + Offered, R: Wait + Abort>(
+    rt: &R,
+    alloc: Global,
+    desk: Desk<L, M>,
+) {
+    let mut desk = desk;
+    let seats = take_seats(rt, alloc, &mut desk);
+    same(rt, desk.sit().err(), Some(RefusalNumber::SeatsFull));
+    is_true(rt, desk.find("ship").is_none());
+    same(rt, close(rt, alloc, desk, seats).len(), 1);
 }
 
 /// All seats of a new desk, in their order.
@@ -47,7 +41,13 @@ fn take_seats<L: Ledger, M: Ledger + Offered>(
 
 #[test]
 fn there_are_128_seats(rt: HostRuntime) {
-    play_at_a_desk(&rt, rt.alloc(), &["pay"], ConfigParts::DEFAULT, &AllSeats);
+    play_at_a_desk(
+        &rt,
+        rt.alloc(),
+        &["pay"],
+        ConfigParts::DEFAULT,
+        Scene::AllSeats,
+    );
 }
 
 /// A new seat, which makes these calls.
@@ -65,22 +65,17 @@ fn busy_seat<L: Ledger, M: Ledger + Offered, R: Wait + Abort>(
 }
 
 /// Four seats and two services: the desk is closed once all four are back.
-#[derive(Drop)]
-struct FourSeats;
-
-impl Play for FourSeats {
-    fn play<
-        L: Ledger + Send + Sync,
-        M: Ledger + Offered + Send + Sync,
-        R: Threads + Wait + Abort + Sync,
-    >(&self, rt: &R, alloc: Global, desk: Desk<L, M>) {
-        let mut desk = desk;
-        let seats = busy_seats(rt, alloc, &mut desk);
-        let books = close_late(rt, alloc, desk, seats);
-        assert_eq!(rt; books.len(), 2);
-        same(rt, books[0].last_number(), 3);
-        same(rt, books[1].last_number(), 4);
-    }
+pub(crate) fn use_four_seats<L: Ledger, M: Ledger + Offered, R: Wait + Abort>(
+    rt: &R,
+    alloc: Global,
+    desk: Desk<L, M>,
+) {
+    let mut desk = desk;
+    let seats = busy_seats(rt, alloc, &mut desk);
+    let books = close_late(rt, alloc, desk, seats);
+    assert_eq!(rt; books.len(), 2);
+    same(rt, books[0].last_number(), 3);
+    same(rt, books[1].last_number(), 4);
 }
 
 /// Three seats that ask both services, and a last one that asks one of them.
@@ -107,6 +102,6 @@ fn all_seats_are_wanted_to_close(rt: HostRuntime) {
         rt.alloc(),
         &["pay", "ship"],
         ConfigParts::DEFAULT,
-        &FourSeats,
+        Scene::FourSeats,
     );
 }

@@ -1,30 +1,17 @@
 //! Four threads with a seat each ask two services. All their calls are counted, and each journal has them
 //! as they were made and answered.
-ghost use Rattle.std.specs.Prelude.{◌≡◌, map};
-ghost use Rattle.desk.specs.Services.{service_of};
-
 use crate::checks::{is_true, same};
-use crate::desk_fixtures::{Caller, ask, close_late, open_desk, services};
-use crate::wishes::{Wish, is_entry};
-use book::{Book, Config, ConfigParts, Reply};
+use crate::desk_fixtures::{Caller, Scene, ask, close_late, play_at_a_desk};
+use book::{Book, ConfigParts, Reply};
 use desk::{Desk, Offered, Seat};
 use service::OpenGate;
 use std::alloc::{AllocError, Global};
-use std::marker::Brand;
 use std::process::Abort;
 use std::sync::Wait;
-use std::sync::ledger::{Blank, Ledger};
+use std::sync::ledger::Ledger;
 use std::thread;
 use std::thread::Threads;
-use verifier::Verified;
-
-/// A call, with its answer.
-#[derive(Clone, Copy, Drop)]
-struct Made {
-    wish: Wish,
-    moment: u64,
-    reply: Reply,
-}
+use worked_histories::{Made, Wish, are_calls};
 
 /// The calls that a seat made on both services.
 #[derive(Drop)]
@@ -114,23 +101,6 @@ fn work_at_once<
     thread::map_vec(rt, callers, &|caller| work(rt, alloc, caller))
 }
 
-/// The entries of a seat are its own calls, in its order, at raised moments, with the replies that it got.
-fn check_calls(rt: &impl Abort, book: &Book, seat: u32, made: &[Made]) {
-    let mut next = 0;
-    let mut greatest = 0;
-    for entry in book.entries(0) {
-        if entry.seat() == seat {
-            assert!(rt; next < made.len());
-            let call = made[next];
-            let raised = call.moment.max(greatest);
-            is_true(rt, is_entry(rt, entry, seat, call.wish, raised, call.reply));
-            next += 1;
-        }
-        greatest = entry.moment();
-    }
-    same(rt, next, made.len());
-}
-
 /// The journals of both services have the calls of each seat.
 fn check_books(rt: &impl Abort, books: &[Book], seats: &[u32], made: &[Calls]) {
     assert_eq!(rt; books.len(), 2);
@@ -138,8 +108,8 @@ fn check_books(rt: &impl Abort, books: &[Book], seats: &[u32], made: &[Calls]) {
     same(rt, books[1].last_number(), 400);
     same(rt, made.len(), seats.len());
     for (seat, calls) in seats.iter().zip(made) {
-        check_calls(rt, &books[0], *seat, &calls.pay);
-        check_calls(rt, &books[1], *seat, &calls.ship);
+        is_true(rt, are_calls(&[], books[0].entries(0), *seat, &calls.pay));
+        is_true(rt, are_calls(&[], books[1].entries(0), *seat, &calls.ship));
     }
 }
 
@@ -187,18 +157,12 @@ fn apart<L: Ledger, M: Ledger>(
 }
 
 /// Four threads, and a desk that is closed once all four seats are back.
-fn call_from_four_threads<
+pub(crate) fn call_from_four_threads<
     L: Ledger + Send + Sync,
     M: Ledger + Offered + Send + Sync,
     R: Threads + Wait + Abort + Sync,
->(rt: &R, alloc: Global, entries: Blank, cuts: Blank, services: Vec<(String, Config, Verified)>)
-    requires entries_name { entries.name ≡ L.name }
-    requires entries_parts { (entries.parts ≡ L.parts) × (L.parts ≡ 193) }
-    requires cuts_name { cuts.name ≡ M.name }
-    requires cuts_parts { (cuts.parts ≡ M.parts) × (M.parts ≡ 193) }
-    requires offered { M.services ≡ map service_of services.items }
-{
-    let mut desk = open_desk::<L, M, R>(rt, alloc, entries, cuts, services);
+>(rt: &R, alloc: Global, desk: Desk<L, M>) {
+    let mut desk = desk;
     let seats = four_seats(rt, alloc, &mut desk);
     let worked = work_at_once(rt, alloc, &desk, seats).expect(rt, "ample memory");
     let (mut seats, made) = apart(rt, alloc, worked);
@@ -210,11 +174,11 @@ fn call_from_four_threads<
 
 #[test]
 fn four_threads_make_all_entries(rt: HostRuntime) {
-    call_from_four_threads::<Brand, Brand, HostRuntime>(
+    play_at_a_desk(
         &rt,
         rt.alloc(),
-        Blank::new(193),
-        Blank::new(193),
-        services(&rt, rt.alloc(), &["pay", "ship"], ConfigParts::DEFAULT),
+        &["pay", "ship"],
+        ConfigParts::DEFAULT,
+        Scene::FourThreads,
     );
 }

@@ -2,6 +2,7 @@
 use Rattle.std.proofs.Common.{◌∙◌, ap, ℕ, Result, Ok, Err}
 use Rattle.bpf_profile.specs.Programs.{VerifiedProgram}
 use Rattle.refusals.specs.declared.RefusalNumber.{RefusalNumber}
+use Rattle.service_profile.specs.Calls.{CallData, CallAnswer}
 use Rattle.service_profile.specs.declared.replies.Reply.{Reply}
 use Rattle.service.specs.Asking.{IsFinishServed, IsReportServed}
 use Rattle.service.specs.declared.request.Report.{Report}
@@ -17,3 +18,6 @@ ended_stays desk service between moment report r after (Ok program) ended held =
 pub reported_stays : (desk : DeskData) (service : ℕ) (seat : SeatData) (moment : ℕ) (report : Report) (r : Reply) (after : SeatData) → IsReportServed (IsCalledAt service) seat moment report r after → IsSeatOf desk seat → IsSeatOf desk after
 reported_stays desk service seat moment report r after (found, between, look, ended) held =
     ended_stays desk service between moment report r after found ended (ap (λ (s : SeatData). s.tables) look.4 ∙ held)
+
+pub called_stays : (desk : DeskData) (service : ℕ) (seat : SeatData) (call : CallData) (answer : CallAnswer) (after : SeatData) → IsCalledAt service seat call answer after → IsSeatOf desk seat → IsSeatOf desk after
+called_stays desk service seat call answer after called held = ap (λ (s : SeatData). s.tables) called.4 ∙ held

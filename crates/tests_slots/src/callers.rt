@@ -2,8 +2,7 @@
 ghost use Rattle.std.specs.Prelude.{◌≡◌, ◌<◌, length};
 ghost use Rattle.slot_desk.specs.Seats.{IsSeatOf};
 
-use crate::wishes::{Wish, outcome_of, shared_program};
-use book::{Entry, Event, Reading, Reply, State};
+use book::{Entry, Event, Reading, Reply};
 use refusals::RefusalNumber;
 use service::{Gate, Request, Response};
 use slot_desk::{Busy, Desk, Held, Seat, ServiceId};
@@ -12,6 +11,7 @@ use std::marker::Model;
 use std::process::Abort;
 use std::sync::{Arc, Wait};
 use verifier::Verified;
+use worked_histories::{Wish, outcome_of, shared_program};
 
 /// More entries than a seat of a test makes.
 const MANY: u64 = 1_000_000;
@@ -78,72 +78,8 @@ impl<'a> Caller<'a> {
         self.desk.acquire(rt, &mut self.seat, service, moment)
     }
 
-    /// Reports a response; the report passes the gate.
-    fn report<R: Wait + Abort, G: Gate>(
-        &mut self,
-        rt: &R,
-        alloc: Global,
-        name: &str,
-        moment: u64,
-        ticket: u64,
-        status: u16,
-        gate: &G,
-    ) -> Reply
-        ensures { self.new ≡ self.old }
-    {
-        let service = self.service(rt, name);
-        let outcome = outcome_of(rt, alloc, status);
-        assert!(rt; self.seat.count() < MANY);
-        self.desk
-            .report(rt, &mut self.seat, service, moment, ticket, outcome, gate)
-    }
-
-    /// Ends a ticket without an outcome.
-    fn release<R: Wait + Abort>(&mut self, rt: &R, name: &str, moment: u64, ticket: u64) -> Reply
-        ensures { self.new ≡ self.old }
-    {
-        let service = self.service(rt, name);
-        assert!(rt; self.seat.count() < MANY);
-        self.desk
-            .release(rt, &mut self.seat, service, moment, ticket)
-    }
-
-    /// Installs a program.
-    fn install<R: Wait + Abort>(
-        &mut self,
-        rt: &R,
-        name: &str,
-        moment: u64,
-        program: Arc<Verified>,
-    ) -> Reply
-        ensures { self.new ≡ self.old }
-    {
-        let service = self.service(rt, name);
-        assert!(rt; self.seat.count() < MANY);
-        self.desk
-            .install(rt, &mut self.seat, service, moment, program)
-    }
-
-    /// Moves the breaker to a state.
-    fn move_to<R: Wait + Abort>(&mut self, rt: &R, name: &str, moment: u64, state: State) -> Reply
-        ensures { self.new ≡ self.old }
-    {
-        let service = self.service(rt, name);
-        assert!(rt; self.seat.count() < MANY);
-        self.desk
-            .move_to(rt, &mut self.seat, service, moment, state)
-    }
-
-    /// Moves the breaker to CLOSED.
-    fn reset<R: Wait + Abort>(&mut self, rt: &R, name: &str, moment: u64) -> Reply
-        ensures { self.new ≡ self.old }
-    {
-        let service = self.service(rt, name);
-        assert!(rt; self.seat.count() < MANY);
-        self.desk.reset(rt, &mut self.seat, service, moment)
-    }
-
-    /// Asks the service of a name for what makes an entry; a report passes the gate.
+    /// Asks the service of a name for what makes an entry, by the call of that name; a report passes the gate.
+    #[tactic(auto, using(crate::proofs::Keeping::called_stays, crate::proofs::Keeping::reported_stays))]
     pub(crate) fn call<R: Wait + Abort, G: Gate>(
         &mut self,
         rt: &R,
@@ -155,18 +91,24 @@ impl<'a> Caller<'a> {
     ) -> Reply
         ensures { self.new ≡ self.old }
     {
+        let service = self.service(rt, name);
+        assert!(rt; self.seat.count() < MANY);
+        let Caller { desk, seat } = self;
         match wish {
-            Wish::Acquire => self.acquire(rt, name, moment),
-            Wish::Report(ticket, status) => self.report(
-                rt, alloc, name, moment, ticket, status, gate,
-            ),
-            Wish::Release(ticket) => self.release(rt, name, moment, ticket),
-            Wish::Install => self.install(rt, name, moment, shared_program(rt, alloc, true)),
-            Wish::InstallDefault => {
-                self.install(rt, name, moment, shared_program(rt, alloc, false))
+            Wish::Acquire => desk.acquire(rt, seat, service, moment),
+            Wish::Report(ticket, status) => {
+                let outcome = outcome_of(alloc, status).expect(rt, "ample memory");
+                desk.report(rt, seat, service, moment, ticket, outcome, gate)
             }
-            Wish::Move(state) => self.move_to(rt, name, moment, state),
-            Wish::Reset => self.reset(rt, name, moment),
+            Wish::Release(ticket) => desk.release(rt, seat, service, moment, ticket),
+            Wish::InstallIgnoring => {
+                desk.install(rt, seat, service, moment, shared(rt, alloc, true))
+            }
+            Wish::InstallDefault => {
+                desk.install(rt, seat, service, moment, shared(rt, alloc, false))
+            }
+            Wish::Move(state) => desk.move_to(rt, seat, service, moment, state),
+            Wish::Reset => desk.reset(rt, seat, service, moment),
         }
     }
 
@@ -272,4 +214,9 @@ impl<'a> Caller<'a> {
         let service = self.service(rt, name);
         self.desk.meet(&mut self.seat, &mut other.seat, service);
     }
+}
+
+/// The program that ignores every outcome, or the default classifier.
+fn shared<R: Abort>(rt: &R, alloc: Global, ignoring: bool) -> Arc<Verified> {
+    shared_program(alloc, ignoring).expect(rt, "ample memory")
 }

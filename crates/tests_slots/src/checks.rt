@@ -8,16 +8,6 @@ pub(crate) fn same<R: Abort, T: Debug + PartialEq + Drop>(rt: &R, found: T, want
     assert_eq!(rt; found, wanted);
 }
 
-/// Stops the test where two values differ, and shows for what. It promises nothing.
-pub(crate) fn same_at<R: Abort, T: Debug + PartialEq + Drop, A: Debug + Drop>(
-    rt: &R,
-    found: T,
-    wanted: T,
-    at: A,
-) {
-    assert_eq!(rt; found, wanted, "{at:?}");
-}
-
 /// Stops the test where this does not hold. It promises nothing, so that the proof of a test stays short.
 pub(crate) fn is_true<R: Abort>(rt: &R, found: bool) {
     assert!(rt; found);

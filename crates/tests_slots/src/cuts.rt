@@ -5,7 +5,6 @@ ghost use Rattle.std.specs.Prelude.{◌≡◌};
 use crate::callers::Caller;
 use crate::checks::same;
 use crate::fixtures::{close, open_desk, seats_of};
-use crate::flags::Flag;
 use crate::workers::{Done, Log, Work, check_calls, count_of, make_calls, work_at_once};
 use book::{Book, Entry};
 use refusals::RefusalNumber;
@@ -13,6 +12,7 @@ use std::alloc::Global;
 use std::process::Abort;
 use std::sync::Wait;
 use std::thread;
+use worked_histories::Flag;
 
 /// How often a cut is tried.
 const MOST_TRIES: u32 = 20_000_000;

@@ -4,12 +4,12 @@ ghost use Rattle.std.specs.List.{AllByRecursion};
 ghost use Rattle.slot_desk.specs.Seats.{IsSeatOf};
 
 use crate::checks::{is_true, same};
-use crate::wishes::{Answer, Wish, is_entry, program, reply};
 use book::{Book, Config, ConfigParts, Entry};
 use slot_desk::{Desk, Seat};
 use std::alloc::Global;
 use std::process::Abort;
 use verifier::Verified;
+use worked_histories::{Entered, program};
 
 /// A new desk with services of these names, with the default configuration and the default classifier.
 pub(crate) fn open_desk<R: Abort>(rt: &R, alloc: Global, names: &[&str]) -> Desk {
@@ -52,7 +52,8 @@ fn service<R: Abort>(
 ) -> (String, Config, Verified) {
     let config = Config::new(parts).expect(rt, "parts in their ranges");
     let name = String::from_str(alloc, name).expect(rt, "ample memory");
-    (name, config, program(rt, alloc, false))
+    let classifier = program(alloc, false).expect(rt, "the default classifier");
+    (name, config, classifier)
 }
 
 /// A new seat of a desk.
@@ -118,17 +119,9 @@ pub(crate) fn close_both<R: Abort>(
     close_one(rt, alloc, desk, seats)
 }
 
-/// An entry: its number, its seat, and what that asked for, at which moment, with its answer.
-pub(crate) type Entered = (u64, u32, Wish, u64, Answer);
-
 /// Entries are these.
 pub(crate) fn are_entries<R: Abort>(rt: &R, entries: &[Entry], wanted: &[Entered]) {
-    same(rt, entries.len(), wanted.len());
-    for (entry, entered) in entries.iter().zip(wanted) {
-        let (number, seat, wish, moment, answer) = *entered;
-        same(rt, entry.number(), number);
-        is_true(rt, is_entry(rt, entry, seat, wish, moment, reply(answer)));
-    }
+    is_true(rt, worked_histories::are_entries(entries, wanted));
 }
 
 /// A book has these entries since it was opened, of which the last one is its last.

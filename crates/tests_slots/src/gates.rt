@@ -3,44 +3,15 @@ ghost use Rattle.std.specs.Prelude.{◌≡◌};
 
 use crate::callers::Caller;
 use crate::checks::{is_true, same};
-use crate::fixtures::{Entered, close_one, has_entries, open_desk, seats_of};
-use crate::flags::Flag;
-use crate::wishes::{Answer, FAILURE, SPENT, Wish, reply};
-use crate::workers::{Done, Log, Made, Work, count_of, make, work_at_once};
+use crate::fixtures::{close_one, has_entries, open_desk, seats_of};
+use crate::workers::{Done, Log, Work, count_of, make, work_at_once};
 use book::Reply;
-use service::{Gate, OpenGate};
+use service::OpenGate;
 use std::alloc::Global;
 use std::process::Abort;
 use std::sync::Wait;
 use std::thread::Threads;
-
-/// Holds a report between its look and its finish until other calls were answered.
-#[derive(Drop)]
-struct HoldingGate {
-    reached: Flag,
-    answered: Flag,
-    overtaken: Flag,
-}
-
-impl HoldingGate {
-    fn new() -> HoldingGate {
-        HoldingGate {
-            reached: Flag::new(),
-            answered: Flag::new(),
-            overtaken: Flag::new(),
-        }
-    }
-}
-
-impl Gate for HoldingGate {
-    fn between(&self, _ticket: u64) {
-        self.reached.raise();
-        self.answered.wait();
-        if self.answered.is_raised() {
-            self.overtaken.raise();
-        }
-    }
-}
+use worked_histories::{Answer, Entered, FAILURE, Flag, HoldingGate, Made, SPENT, Wish, reply};
 
 /// The first seat gets ticket 1 and reports it. While its report is held at the gate, the second seat makes these calls.
 #[derive(Drop)]
@@ -134,10 +105,10 @@ fn tickets_keep_their_version_while_another_is_installed(rt: HostRuntime) {
     check_overtaking(
         &rt,
         rt.alloc(),
-        &[Wish::Install],
+        &[Wish::InstallIgnoring],
         &[
             (1, 1, Wish::Acquire, 0, Answer::Permitted(1)),
-            (2, 2, Wish::Install, 2, Answer::Installed(2)),
+            (2, 2, Wish::InstallIgnoring, 2, Answer::Installed(2, 2)),
             (3, 1, Wish::Report(1, 500), 2, FAILURE),
         ],
     );

@@ -2,6 +2,8 @@
 #![tactic(auto)]
 
 #[cfg(test)]
+mod alone;
+#[cfg(test)]
 mod callers;
 #[cfg(test)]
 mod calls;
@@ -12,22 +14,16 @@ mod cuts;
 #[cfg(test)]
 mod fixtures;
 #[cfg(test)]
-mod flags;
-#[cfg(test)]
 mod gates;
 #[cfg(test)]
 mod histories;
 #[cfg(test)]
 mod meetings;
 #[cfg(test)]
-mod rows;
-#[cfg(test)]
 mod seats;
 #[cfg(test)]
 mod threads;
 #[cfg(test)]
 mod tries;
-#[cfg(test)]
-mod wishes;
 #[cfg(test)]
 mod workers;

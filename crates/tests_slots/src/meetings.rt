@@ -4,14 +4,16 @@ ghost use Rattle.std.specs.Prelude.{◌≡◌};
 use crate::callers::Caller;
 use crate::checks::same;
 use crate::fixtures::{are_entries, close_both, has_entries, open_desk, two_seats};
-use crate::wishes::{Answer, Wish, reply};
-use book::Reply;
+use book::{Reply, State};
 use service::OpenGate;
 use std::alloc::Global;
 use std::process::Abort;
 use std::sync::Wait;
 use std::thread;
 use std::thread::Threads;
+use worked_histories::Answer::{Permitted, Released};
+use worked_histories::Wish::{Acquire, Release};
+use worked_histories::{Answer, Wish, reply};
 
 /// Makes a call, which is answered so.
 fn call<R: Wait + Abort>(
@@ -37,22 +39,8 @@ fn two_seats_meet(rt: HostRuntime) {
     let mut first = Caller::new(&desk, first);
     let mut second = Caller::new(&desk, second);
     first.meet(rt, &mut second, "pay");
-    call(
-        rt,
-        alloc,
-        &mut first,
-        1,
-        Wish::Acquire,
-        Answer::Permitted(1),
-    );
-    call(
-        rt,
-        alloc,
-        &mut second,
-        2,
-        Wish::Acquire,
-        Answer::Permitted(2),
-    );
+    call(rt, alloc, &mut first, 1, Acquire, Permitted(1));
+    call(rt, alloc, &mut second, 2, Acquire, Permitted(2));
     first.meet(rt, &mut second, "pay");
     let (first, second) = (first.into_seat(), second.into_seat());
     let book = close_both(rt, alloc, desk, first, second);
@@ -60,8 +48,8 @@ fn two_seats_meet(rt: HostRuntime) {
         rt,
         &book,
         &[
-            (1, 1, Wish::Acquire, 1, Answer::Permitted(1)),
-            (2, 2, Wish::Acquire, 2, Answer::Permitted(2)),
+            (1, 1, Acquire, 1, Permitted(1)),
+            (2, 2, Acquire, 2, Permitted(2)),
         ],
         2,
     );
@@ -99,14 +87,14 @@ fn acquire_and_meet<R: Threads + Wait + Abort + Sync>(
 
 /// Whether the two answers are tickets 1 and 2, in whichever order.
 fn has_both_tickets(first: Option<Reply>, second: Option<Reply>) -> bool {
-    let one = Some(reply(Answer::Permitted(1)));
-    let two = Some(reply(Answer::Permitted(2)));
+    let one = Some(reply(Permitted(1)));
+    let two = Some(reply(Permitted(2)));
     first == one && second == two || first == two && second == one
 }
 
 /// The seat that got the ticket of this number.
 fn winner(first: Option<Reply>, ticket: u64) -> u32 {
-    if first == Some(reply(Answer::Permitted(ticket))) {
+    if first == Some(reply(Permitted(ticket))) {
         1
     } else {
         2
@@ -143,8 +131,8 @@ fn seats_meet_after_two_threads(rt: HostRuntime) {
         rt,
         &book,
         &[
-            (1, winner(one, 1), Wish::Acquire, 3, Answer::Permitted(1)),
-            (2, winner(one, 2), Wish::Acquire, 3, Answer::Permitted(2)),
+            (1, winner(one, 1), Acquire, 3, Permitted(1)),
+            (2, winner(one, 2), Acquire, 3, Permitted(2)),
         ],
         2,
     );
@@ -158,8 +146,8 @@ fn cut<R: Wait + Abort>(rt: &R, caller: &mut Caller<'_>)
         rt,
         &caller.cut(rt, "pay").expect(rt, "no open tickets"),
         &[
-            (1, 1, Wish::Acquire, 1, Answer::Permitted(1)),
-            (2, 2, Wish::Release(1), 2, Answer::Released),
+            (1, 1, Acquire, 1, Permitted(1)),
+            (2, 2, Release(1), 2, Released(State::Closed)),
         ],
     );
 }
@@ -172,41 +160,22 @@ fn seats_meet_after_a_cut(rt: HostRuntime) {
     let (first, second) = two_seats(rt, alloc, &mut desk);
     let mut first = Caller::new(&desk, first);
     let mut second = Caller::new(&desk, second);
-    call(
-        rt,
-        alloc,
-        &mut first,
-        1,
-        Wish::Acquire,
-        Answer::Permitted(1),
-    );
+    call(rt, alloc, &mut first, 1, Acquire, Permitted(1));
     call(
         rt,
         alloc,
         &mut second,
         2,
-        Wish::Release(1),
-        Answer::Released,
+        Release(1),
+        Released(State::Closed),
     );
     cut(rt, &mut first);
     first.meet(rt, &mut second, "pay");
-    call(
-        rt,
-        alloc,
-        &mut second,
-        3,
-        Wish::Acquire,
-        Answer::Permitted(2),
-    );
+    call(rt, alloc, &mut second, 3, Acquire, Permitted(2));
     first.meet(rt, &mut second, "pay");
     same(rt, first.read(rt, "pay", 3).entries, 3);
     second.meet(rt, &mut first, "pay");
     let (first, second) = (first.into_seat(), second.into_seat());
     let book = close_both(rt, alloc, desk, first, second);
-    has_entries(
-        rt,
-        &book,
-        &[(3, 2, Wish::Acquire, 3, Answer::Permitted(2))],
-        3,
-    );
+    has_entries(rt, &book, &[(3, 2, Acquire, 3, Permitted(2))], 3);
 }

@@ -6,7 +6,6 @@ ghost use Rattle.slot_desk.specs.Seats.{IsSeatOf};
 use crate::callers::Caller;
 use crate::checks::same;
 use crate::fixtures::{close, open_desk, seats_of};
-use crate::wishes::{Answer, Wish, reply};
 use crate::workers::{Log, Work, work_at_once};
 use book::{Book, Reply};
 use refusals::RefusalNumber;
@@ -15,6 +14,7 @@ use slot_desk::{Desk, Seat, Unclosed};
 use std::alloc::Global;
 use std::process::Abort;
 use std::sync::Wait;
+use worked_histories::{Answer, Wish, reply};
 
 /// The seats have the numbers from 1 on, and have made so many entries.
 fn check_seats<R: Abort>(rt: &R, seats: &[Seat], count: u64) {

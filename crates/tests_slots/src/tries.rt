@@ -4,7 +4,6 @@ ghost use Rattle.std.specs.Prelude.{◌≡◌};
 use crate::callers::Caller;
 use crate::checks::{is_true, same};
 use crate::fixtures::{are_entries, close_one, has_entries, open_desk, seat_of, two_seats};
-use crate::wishes::{Answer, FAILURE, FRESH, SPENT, Wish, outcome_of, reply, shared_program};
 use book::{Event, Reading, Reply};
 use bpf_run::judge;
 use refusals::RefusalNumber;
@@ -13,6 +12,9 @@ use slot_desk::{Busy, Held};
 use std::alloc::Global;
 use std::process::Abort;
 use std::sync::Wait;
+use worked_histories::{
+    Answer, Entered, FAILURE, FRESH, SPENT, Wish, outcome_of, reply, shared_program,
+};
 
 /// How many entries a journal holds at most.
 const MOST_ENTRIES: u64 = 65_536;
@@ -37,12 +39,13 @@ fn succeed<R: Abort>(rt: &R, caller: &mut Caller<'_>, moment: u64, event: Event)
 
 /// A response with this status under a ticket, as the default classifier judges it.
 fn finish<R: Abort>(rt: &R, alloc: Global, ticket: u64, status: u16) -> Event {
-    let program = shared_program(rt, alloc, false);
-    Event::Finish(judge(program, outcome_of(rt, alloc, status)), ticket)
+    let program = shared_program(alloc, false).expect(rt, "ample memory");
+    let outcome = outcome_of(alloc, status).expect(rt, "ample memory");
+    Event::Finish(judge(program, outcome), ticket)
 }
 
 /// The entries of a ticket that is finished twice.
-const FINISHED_TWICE: &[(u64, u32, Wish, u64, Answer)] = &[
+const FINISHED_TWICE: &[Entered] = &[
     (1, 1, Wish::Acquire, 1000, Answer::Permitted(1)),
     (2, 1, Wish::Report(1, 500), 1020, FAILURE),
     (3, 1, Wish::Report(1, 500), 1020, SPENT),

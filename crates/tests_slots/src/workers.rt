@@ -5,8 +5,7 @@ ghost use Rattle.slot_desk.specs.Seats.{IsSeatOf};
 ghost use Rattle.tests_slots.specs.Crews.{IsAtDesk};
 
 use crate::callers::Caller;
-use crate::checks::{is_true, same};
-use crate::wishes::{Wish, is_entry};
+use crate::checks::is_true;
 use book::{Book, Entry, Reply};
 use service::OpenGate;
 use slot_desk::{Desk, Gate, Seat};
@@ -16,14 +15,7 @@ use std::process::Abort;
 use std::sync::Wait;
 use std::thread;
 use std::thread::Threads;
-
-/// A call, with its answer.
-#[derive(Clone, Copy, Drop)]
-pub(crate) struct Made {
-    pub wish: Wish,
-    pub moment: u64,
-    pub reply: Reply,
-}
+use worked_histories::{Made, Wish, are_calls};
 
 /// What a caller did on both services, and what a cut handed out to it.
 #[derive(Drop)]
@@ -236,8 +228,7 @@ pub(crate) fn count_of(done: &[Done]) -> u64 {
     count
 }
 
-/// The entries of a seat, among those that were handed out and those of the book, are its own calls, in its order, at
-/// raised moments, with the replies that it got.
+/// The entries of a seat, among those that were handed out and those of the book, are its own calls.
 pub(crate) fn check_calls<R: Abort>(
     rt: &R,
     handed_out: &[Entry],
@@ -245,17 +236,5 @@ pub(crate) fn check_calls<R: Abort>(
     seat: u32,
     made: &[Made],
 ) {
-    let mut next = 0;
-    let mut greatest = 0;
-    for entry in handed_out.iter().chain(book.entries(0)) {
-        if entry.seat() == seat {
-            assert!(rt; next < made.len());
-            let call = made[next];
-            let raised = call.moment.max(greatest);
-            is_true(rt, is_entry(rt, entry, seat, call.wish, raised, call.reply));
-            next += 1;
-        }
-        greatest = entry.moment();
-    }
-    same(rt, next, made.len());
+    is_true(rt, are_calls(handed_out, book.entries(0), seat, made));
 }

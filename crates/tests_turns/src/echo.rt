@@ -1,8 +1,9 @@
 //! A responder, a clock, and serving an input turn by turn or by `serve`.
-use counted_io::Counted;
+use counted_io::{Counted, Stream, Wire};
+use http_connection::{
+    Clock, Connection, Ended, HttpRequest, Intake, Responder, Turned, serve, turn,
+};
 use http_messages::Fault;
-use http_turns::{Clock, Connection, Ended, HttpRequest, Intake, Responder, Turned, serve, turn};
-use polled_io::{Stream, Wire};
 use std::alloc::{AllocError, Global};
 use std::process::Abort;
 use std::sync::Wait;

@@ -2,8 +2,8 @@
 use crate::checks::same;
 use crate::echo::{Asked, Echo, Readings};
 use crate::streams::Slow;
-use http_turns::{Connection, Ended, Intake, Phase, Turned, Want, turn};
-use polled_io::{Halves, Stream, Wire};
+use counted_io::{Halves, Stream, Wire};
+use http_connection::{Connection, Ended, Intake, Phase, Turned, Want, turn};
 use std::alloc::Global;
 use std::process::Abort;
 

@@ -1,8 +1,8 @@
 //! A turn of a session over a stream in memory, whose bytes are known.
 ghost use Rattle.tests_turns.specs.Memory.{HasTakenTurn};
 
-use http_turns::{Clock, Intake, Responder, Session, Turned};
-use polled_io::Halves;
+use counted_io::Halves;
+use http_connection::{Clock, Intake, Responder, Session, Turned};
 
 /// Gives a session over bytes in memory a turn. Here the clause of `Session::turn` speaks of known bytes.
 pub fn turn_in_memory<'a, S, P: Responder<S>, C: Clock>(

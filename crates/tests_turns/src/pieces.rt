@@ -2,8 +2,8 @@
 use crate::checks::same_at;
 use crate::echo::{by_serve, play};
 use crate::streams::Slow;
-use http_turns::Ended;
-use polled_io::{Halves, Wire};
+use counted_io::{Halves, Wire};
+use http_connection::Ended;
 use std::alloc::Global;
 use std::process::Abort;
 use std::sync::Wait;

@@ -1,7 +1,7 @@
 //! Calls that are interrupted, would have to wait, or fail.
 use crate::checks::same;
 use crate::streams::{Interrupted, Slow};
-use polled_io::{Halves, Polling, Wire};
+use counted_io::{Halves, Polling, Wire};
 use std::alloc::Global;
 
 /// A stream each of whose directions is interrupted so often.

@@ -1,8 +1,8 @@
 //! Two sessions side by side.
 use crate::memory::turn_in_memory;
+use counted_io::Halves;
+use http_connection::{Clock, HttpRequest, Intake, Responder, Session};
 use http_messages::Fault;
-use http_turns::{Clock, HttpRequest, Intake, Responder, Session};
-use polled_io::Halves;
 use std::alloc::{AllocError, Global};
 use std::process::Abort;
 

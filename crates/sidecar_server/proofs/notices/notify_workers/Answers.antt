@@ -1,5 +1,5 @@
 use Rattle.std.proofs.Common.{◌≡◌, inr, rules}
-use Rattle.server_lines.specs.Lines.{workers_line}
+use Rattle.server_output.specs.Lines.{workers_line}
 use Rattle.sidecar_server.proofs.notices.notify_workers.Goals as goal
 
 pub returns : goal.returns

@@ -1,6 +1,6 @@
 use Rattle.std.proofs.Common.{◌≡◌, length, arith}
 use Rattle.sidecar_server.proofs.Crews.{as_many_back, over}
-use Rattle.server_lines.proofs.Silence.{quiet_without_memory}
+use Rattle.server_output.proofs.Silence.{quiet_without_memory}
 use Rattle.sidecar_server.proofs.pooling.serve_by_pool.Goals as goal
 
 pub returns-in_err-notify_workers-clause-quiet : goal.returns-in_err-notify_workers-clause-quiet

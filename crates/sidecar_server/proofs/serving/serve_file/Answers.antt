@@ -1,7 +1,7 @@
 use Rattle.std.proofs.Common.{◌∙◌, Some, None, sym, subst}
 use Rattle.service_file.specs.Settled.{IsRead}
 use Rattle.refusals.specs.declared.RefusalNumber.TheVariants.{BadConfig}
-use Rattle.server_lines.specs.Lines.{IsCutShort}
+use Rattle.server_output.specs.Lines.{IsCutShort}
 use Rattle.sidecar_server.specs.Server.{IsAddressOf, IsFileRefused}
 use Rattle.sidecar_server.proofs.Cutting.{ended_short, refused_file, refused_short}
 use Rattle.sidecar_server.proofs.Endings.{served_listens}

@@ -1,7 +1,7 @@
 use Rattle.std.proofs.Common.{sym, subst}
 use Rattle.std.specs.Bool.{⊤}
 use Rattle.refusals.specs.declared.RefusalNumber.TheVariants.{BadConfig}
-use Rattle.server_lines.specs.Lines.{IsCutShort}
+use Rattle.server_output.specs.Lines.{IsCutShort}
 use Rattle.sidecar_server.specs.Server.{IsServerRefusal}
 use Rattle.sidecar_server.proofs.Cutting.{is_server_refusal, path_short, refused_short}
 use Rattle.sidecar_server.proofs.serving.serve_path.Goals as goal

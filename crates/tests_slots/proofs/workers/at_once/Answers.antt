@@ -12,9 +12,9 @@ use Rattle.bpf_run.specs.contracts.work.Judged as judged
 use Rattle.service_profile.specs.contracts.replies.Reply as reply
 use Rattle.slot_desk.proofs.Showing.{seat_field_send, desk_field_sync}
 use Rattle.tests_slots.specs.contracts.callers.Caller as caller
-use Rattle.tests_slots.specs.contracts.wishes.Wish as wish
+use Rattle.worked_histories.specs.contracts.wishes.Wish as wish
 use Rattle.tests_slots.specs.contracts.workers.Log as log
-use Rattle.tests_slots.specs.contracts.workers.Made as made
+use Rattle.worked_histories.specs.contracts.entries.Made as made
 use Rattle.tests_slots.specs.contracts.workers.Worker as worker
 use Rattle.tests_slots.proofs.workers.at_once.Goals as goal
 

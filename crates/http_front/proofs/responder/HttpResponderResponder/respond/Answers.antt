@@ -1,6 +1,6 @@
 use Rattle.std.proofs.Common.{◌≡◌, inr, rules}
 use Rattle.service.specs.Asked.{request_data, response_data}
-use Rattle.http_turns.specs.Requests.{http_request_data}
+use Rattle.http_connection.specs.Requests.{http_request_data}
 use Rattle.http_front.specs.Asked.{asked, asks}
 use Rattle.http_front.proofs.LostAnswers.{has_answer, on_err}
 use Rattle.http_front.proofs.responder.HttpResponderResponder.respond.Goals as goal

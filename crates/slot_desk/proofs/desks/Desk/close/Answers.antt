@@ -2,7 +2,7 @@ use Rattle.std.proofs.Common.{rules, arith, sym, ap, ◌∙◌, subst, ◌≡◌
 use Rattle.std.specs.List.{AllByRecursion}
 use Rattle.std.proofs.lemmas.List.{length-map, reverse-reverse}
 use Rattle.service_profile.specs.Events.{History}
-use Rattle.slot_table.specs.Places.{SlotData}
+use Rattle.book_slot.specs.Places.{SlotData}
 use Rattle.slot_desk.specs.Desks.{DeskData}
 use Rattle.slot_desk.specs.Slots.{table_of, back_of, dealt_of, known_of, origin_of}
 use Rattle.slot_desk.specs.Closing.{Finished, AreOf, AreCourses, CoursesAreMadeBy, NumbersAgree, traces_row, all_added, last_of}

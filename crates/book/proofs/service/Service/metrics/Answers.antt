@@ -1,5 +1,0 @@
-use Rattle.book.specs.Situations.{breaker_of}
-use Rattle.book.proofs.service.Service.metrics.Goals as goal
-
-pub returns : goal.returns
-returns c = λ held s stands before. c.metrics.ensures (breaker_of s) stands.stands before

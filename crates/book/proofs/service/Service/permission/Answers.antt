@@ -1,5 +1,0 @@
-use Rattle.book.specs.Situations.{breaker_of}
-use Rattle.book.proofs.service.Service.permission.Goals as goal
-
-pub returns : goal.returns
-returns c = λ held s stands. c.permission.ensures.exact (breaker_of s) stands.stands

@@ -1,6 +1,0 @@
-use Rattle.std.proofs.Common.{◌∙◌}
-use Rattle.book.proofs.Versions.{held_count}
-use Rattle.book.proofs.service.Service.version_count.Goals as goal
-
-pub returns : goal.returns
-returns c = λ held s stands. c.version_count.ensures.count ∙ held_count c.args.self.now.registry s stands.registered

@@ -1,0 +1,3 @@
+pub mod Sending
+mod LockSeats
+mod SlotSeats

@@ -1,0 +1,3 @@
+pub mod Seated
+pub mod Locks
+pub mod Slots

@@ -1,0 +1,81 @@
+//! An answerer with a seat at a desk.
+ghost use Rattle.std.specs.Prelude.{◌≡◌};
+ghost use Rattle.http_seats.specs.Seated.{seated};
+
+use crate::seats::DeskSeat;
+use http_front::Answerer;
+use service::{Gate, Request, Response};
+use std::alloc::Global;
+use std::marker::Model;
+use std::sync::Wait;
+
+/// Answers for the services of a desk, by one seat. Contracts see the desk and the seat.
+#[derive(Drop)]
+pub struct SeatedAnswerer<'a, D, S: DeskSeat<D>, G: Gate, R: Wait> {
+    rt: &'a R,
+    alloc: Global,
+    desk: &'a D,
+    seat: S,
+    gate: &'a G,
+}
+
+impl<'a, D, S: DeskSeat<D>, G: Gate, R: Wait> Model for SeatedAnswerer<'a, D, S, G, R> {
+    ghost use Rattle.http_seats.specs.Seated.{SeatedData, seated};
+
+    ghost Value = { SeatedData D S };
+
+    ghost view = { λ answerer. seated answerer.desk.now answerer.seat };
+
+    ghost invariant = { λ answerer. S.sits_at answerer.desk.now answerer.seat };
+}
+
+impl<'a, D, S: DeskSeat<D>, G: Gate, R: Wait> SeatedAnswerer<'a, D, S, G, R> {
+    /// Answers for a desk, by this seat of it. A report passes the gate in its middle.
+    pub fn new(rt: &'a R, alloc: Global, desk: &'a D, seat: S, gate: &'a G) -> Self
+        requires seat { S.sits_at desk.now seat }
+        ensures { result ≡ seated desk.now seat }
+    {
+        SeatedAnswerer {
+            rt,
+            alloc,
+            desk,
+            seat,
+            gate,
+        }
+    }
+
+    /// Gives the seat back.
+    pub fn into_seat(self) -> S
+        ensures seat { result ≡ self.entry.seat }
+        // It is still one of its desk's.
+        ensures held { S.sits_at self.entry.desk result }
+    {
+        let SeatedAnswerer { seat, .. } = self;
+        seat
+    }
+}
+
+impl<'a, D, S: DeskSeat<D>, G: Gate, R: Wait> Answerer for SeatedAnswerer<'a, D, S, G, R> {
+    ghost use Rattle.http_seats.specs.Seated.{place_by, has_by, asks_by};
+
+    ghost place_of = { place_by S.place_of };
+
+    ghost has = { has_by S.has };
+
+    ghost answers = { asks_by S.asks };
+
+    fn find(&self, service: &str) -> Option<usize> {
+        S::find(self.desk, service)
+    }
+
+    fn ask(&mut self, place: usize, moment: u64, request: Request) -> Response {
+        let SeatedAnswerer {
+            rt,
+            alloc,
+            desk,
+            seat,
+            gate,
+        } = self;
+        seat.ask(*rt, *alloc, *desk, place, moment, request, *gate)
+    }
+}

@@ -1,7 +1,0 @@
-//! The services of a desk with slots, as an answerer over HTTP: each worker asks by a
-//! seat of its own.
-#![tactic(auto)]
-
-mod seated;
-
-pub use seated::SlotAnswerer;

@@ -1,6 +1,0 @@
-use Rattle.std.proofs.Common.{rules}
-use Rattle.http_turns.proofs.Lingering.{finished_by}
-use Rattle.http_turns.proofs.connection.Connection.is_finished.Goals as goal
-
-pub returns-then-matches : goal.returns-then-matches
-returns-then-matches c = finished_by c.args.self.now.stage c.self.inside.text.items c.args.self.now.pending c.self.inside.sent c.len.result (search rules) (search rules) (search rules) (search rules)

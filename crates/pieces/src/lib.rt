@@ -1,7 +1,0 @@
-//! A list that only proofs read: what a program gave away, piece after piece, is remembered by it without
-//! a byte.
-#![tactic(auto)]
-
-mod pieces;
-
-pub use pieces::Pieces;

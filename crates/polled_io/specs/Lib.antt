@@ -1,4 +1,0 @@
-pub mod Calls
-pub mod Wires
-pub mod Counts
-pub mod Polling

@@ -1,5 +1,0 @@
-use Rattle.std.proofs.Common.{rules}
-use Rattle.server_lines.proofs.listening.listen.Goals as goal
-
-pub returns-clause-listening : goal.returns-clause-listening
-returns-clause-listening g c = search rules

@@ -1,6 +1,0 @@
-use Rattle.std.proofs.Common.{◌∙◌, ap}
-use Rattle.slot_desk.specs.Seats.{SeatData}
-use Rattle.tests_slots.proofs.callers.Caller.release.Goals as goal
-
-pub invariant_of-self : goal.invariant_of-self
-invariant_of-self g c = ap (λ (s : SeatData). s.tables) c.release.ensures.called.4 ∙ c.self.invariant
