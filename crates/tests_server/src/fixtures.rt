@@ -146,44 +146,6 @@ pub(crate) fn is_answered(
     same_at(rt, ended, end, input);
 }
 
-/// The same over a service of its own, whose journal then has so many entries.
-pub(crate) fn makes_entries(
-    rt: &(impl Wait + Abort),
-    alloc: Global,
-    input: &[u8],
-    text: &str,
-    end: Ended,
-    count: u64,
-) {
-    let mut books = pay(rt, alloc);
-    is_answered(rt, alloc, &mut books, input, text, end);
-    same_at(rt, entries(&books), count, input);
-}
-
-/// An input, its answer, and how serving it ends.
-pub(crate) type Answered<'a> = (&'a str, &'a str, Ended);
-
-/// Each input is answered over a service of its own.
-pub(crate) fn are_answered(rt: &(impl Wait + Abort), alloc: Global, rows: &[Answered<'_>]) {
-    for row in rows {
-        let (input, text, end) = *row;
-        is_answered(rt, alloc, &mut pay(rt, alloc), input.as_bytes(), text, end);
-    }
-}
-
-/// The inputs are answered one after another over one service, and none ends its connection.
-pub(crate) fn are_answered_in_turn(
-    rt: &(impl Wait + Abort),
-    alloc: Global,
-    books: &mut Books,
-    rows: &[(&str, &str)],
-) {
-    for row in rows {
-        let (input, text) = *row;
-        is_answered(rt, alloc, books, input.as_bytes(), text, Ended::Closed);
-    }
-}
-
 /// Texts, one behind another.
 pub(crate) fn joined(rt: &impl Abort, alloc: Global, texts: &[&str]) -> String {
     let mut all = String::new(alloc);

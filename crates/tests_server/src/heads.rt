@@ -96,34 +96,6 @@ fn heads_come_in_parts(rt: HostRuntime) {
     comes_in_parts(&rt, rt.alloc(), b"\r\n\nGET / HTTP/1.1\nHost:\n\nx", 25);
 }
 
-/// What is no head at all.
-fn are_bad(rt: &impl Abort, alloc: Global, texts: &[&str]) {
-    for text in texts {
-        let found = front(rt, alloc, text.as_bytes());
-        same_at(rt, found, refused(RefusalNumber::BadHead), text);
-    }
-}
-
-#[test]
-fn what_is_no_head_is_refused(rt: HostRuntime) {
-    are_bad(
-        &rt,
-        rt.alloc(),
-        &[
-            "GET  / HTTP/1.1\r\n\r\n",
-            "G\u{e4}T / HTTP/1.1",
-            "GET / HTTP/2.0\r\n\r\n",
-            "GET / HTTP/1.1\r\nHost a\r\n\r\n",
-            "GET / HTTP/1.1\r\nHost : a\r\n\r\n",
-            "GET / HTTP/1.1\r\n Host: a\r\n\r\n",
-            "GET / HTTP/1.1\r\nHost: a\rb\r\n\r\n",
-        ],
-    );
-    // A target that is no UTF-8 is seen where it ends.
-    let found = front(&rt, rt.alloc(), b"GET /\xff HTTP/1.1\r\n\r\n");
-    same(&rt, found, refused(RefusalNumber::BadHead));
-}
-
 /// A head of 8,192 bytes is whole, and a part where its last byte is missing.
 fn is_a_long_head(rt: &impl Abort, alloc: Global, fields: usize) {
     let long = long_head(rt, alloc, 8_192, fields);
@@ -168,55 +140,6 @@ fn heads_have_at_most_32_fields(rt: HostRuntime) {
     has_too_many_fields(rt, alloc, 1_000);
 }
 
-/// Fields, with the refusal of a request that has them.
-fn are_refused(rt: &impl Abort, alloc: Global, rows: &[(&str, RefusalNumber)]) {
-    for row in rows {
-        let (fields, number) = *row;
-        same_at(rt, with_fields(rt, alloc, fields), refused(number), fields);
-    }
-}
-
-#[test]
-fn fields_are_refused_in_order(rt: HostRuntime) {
-    are_refused(
-        &rt,
-        rt.alloc(),
-        &[
-            (
-                "Transfer-Encoding: chunked\r\nContent-Length: x\r\n",
-                RefusalNumber::TransferCoding,
-            ),
-            (
-                "Content-Length: 65537\r\ntransfer-encoding:\r\n",
-                RefusalNumber::TransferCoding,
-            ),
-            ("Content-Length: +5\r\n", RefusalNumber::BadContentLength),
-            ("Content-Length: -5\r\n", RefusalNumber::BadContentLength),
-            ("Content-Length:\r\n", RefusalNumber::BadContentLength),
-            ("Content-Length: 5 5\r\n", RefusalNumber::BadContentLength),
-            ("Content-Length: 5, 5\r\n", RefusalNumber::BadContentLength),
-            ("Content-Length: 0x5\r\n", RefusalNumber::BadContentLength),
-            (
-                "Content-Length: 18446744073709551616\r\n",
-                RefusalNumber::BadContentLength,
-            ),
-            (
-                "Content-Length: 5\r\ncontent-length: 6\r\n",
-                RefusalNumber::BadContentLength,
-            ),
-            (
-                "Content-Length: 65537\r\nContent-Length: 5\r\n",
-                RefusalNumber::BadContentLength,
-            ),
-            ("Content-Length: 65537\r\n", RefusalNumber::BodyTooLarge),
-            (
-                "Content-Length: 18446744073709551615\r\n",
-                RefusalNumber::BodyTooLarge,
-            ),
-        ],
-    );
-}
-
 /// Fields, with the length of the body that they tell.
 fn are_lengths(rt: &impl Abort, alloc: Global, rows: &[(&str, usize)]) {
     for row in rows {
@@ -239,35 +162,6 @@ fn lengths_are_read(rt: HostRuntime) {
             ("X-Content-Length: x\r\n", 0),
         ],
     );
-}
-
-/// Fields, and whether the connection ends behind a request that has them.
-fn are_closing(rt: &impl Abort, alloc: Global, rows: &[(&str, bool)]) {
-    for row in rows {
-        let (fields, closes) = *row;
-        let found = head_with_fields(rt, alloc, fields).closes;
-        same_at(rt, found, closes, fields);
-    }
-}
-
-#[test]
-fn connections_end_where_they_are_asked_to(rt: HostRuntime) {
-    let rt = &rt;
-    are_closing(
-        rt,
-        rt.alloc(),
-        &[
-            ("", false),
-            ("Connection: close\r\n", true),
-            ("connection: CLOSE \r\n", true),
-            ("Connection: keep-alive\r\nConnection: close\r\n", true),
-            ("Connection: close, x\r\n", false),
-            ("Connection: closed\r\n", false),
-            ("X: close\r\n", false),
-        ],
-    );
-    let old = "GET / HTTP/1.0\r\nConnection: keep-alive\r\n\r\n";
-    is_true(rt, head(rt, rt.alloc(), old).expect(rt, "a head").closes);
 }
 
 /// A message that is refused, and whether its method is HEAD.

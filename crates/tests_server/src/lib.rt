@@ -3,8 +3,6 @@
 #![tactic(auto)]
 
 #[cfg(test)]
-mod answer_messages;
-#[cfg(test)]
 mod answerers;
 #[cfg(test)]
 mod checks;
@@ -18,8 +16,6 @@ mod file_layouts;
 mod fixtures;
 #[cfg(test)]
 mod heads;
-#[cfg(test)]
-mod hostile_messages;
 #[cfg(test)]
 mod longest_stays;
 #[cfg(test)]
