@@ -1,29 +1,21 @@
 -- A path whose segments name a route asks for it.
-use Rattle.std.proofs.Common.{◌≡◌, ℕ, ◌<◌, List, [], ◌∷◌, ◌++◌, false, cond, ◌==◌, Option, Some, None, option_map, refl, ap, subst, ◌∙◌, arith, codes}
+use Rattle.std.proofs.Common.{◌≡◌, ℕ, ◌<◌, List, [], ◌∷◌, ◌++◌, false, cond, ◌==◌, Option, Some, None, option_map, inl, inr, refl, ap, sym, subst, ◌∙◌, arith, codes, append-nil}
 use Rattle.std.specs.Prelude.{option_and_then}
 use Rattle.std.specs.Str.{IsUtf8}
 use Rattle.std.proofs.lemmas.Str.{is_utf8-from_IsUtf8}
 use Rattle.std.proofs.lemmas.Bool.Decides.{nat_tests}
-use Rattle.matchit.specs.Rows.{RowsOf, param_token}
+use Rattle.matchit.specs.Rows.{RowsOf}
 use Rattle.matchit.specs.Router.{RouteOf}
-use Rattle.matchit.specs.Seek.{has_slash, seek, first, param_step}
+use Rattle.matchit.specs.Seek.{has_slash, seek, first}
 use Rattle.http_routes.specs.declared.table.Route.{Route}
 use Rattle.http_routes.specs.declared.table.Route.TheVariants as route
 use Rattle.http_routes.specs.Finding.{Asked, asked_of, asked_at}
-use Rattle.http_routes.specs.Patterns.{IsSegment, IsRead, IsBytes}
+use Rattle.http_routes.specs.Patterns.{IsSegment, HasNumber, IsRead, IsBytes}
 use Rattle.http_routes.specs.Routing.{row, journal_row, routes, route_of}
 use Rattle.http_routes.specs.Table.{word_of}
 use Rattle.http_routes.proofs.Completeness.{steps, seek-bytes, seek-param, seek-last}
+use Rattle.http_routes.proofs.Plain.{word_rows, plain_or_journal}
 use Rattle.http_routes.proofs.Readings.{asks, read-asked}
-
--- what is left of a route's pattern behind the service
-abbrev word_row : Route → List ℕ × RouteOf Route
-word_row r = (word_of r, (row r).1)
-
-abbrev word_rows : RowsOf (RouteOf Route)
-word_rows =
-    word_row route.Acquire ∷ word_row route.Cut ∷ (codes "journal/" ++ (param_token ∷ []), journal_row.1) ∷ word_row route.Program
-    ∷ word_row route.Release ∷ word_row route.Report ∷ word_row route.Reset ∷ word_row route.Roll ∷ word_row route.State ∷ word_row route.Transition ∷ []
 
 abbrev below : RowsOf (RouteOf Route)
 below = steps (codes "/v1/services/") routes
@@ -65,28 +57,18 @@ number-bytes service number path bytes e =
     bytes-behind (codes "/journal/") number (bytes-behind service (codes "/journal/" ++ number) tail)
 
 finds-named : (r : Route) (service : List ℕ) (number : Option (List ℕ)) (path : List ℕ) → IsBytes path → IsRead path (asks r service number) → Finds path r
-unfolding seek param_step
-finds-named route.Acquire service None path bytes read = ((row route.Acquire).1, under service (codes "acquire") path bytes read.1 read.0, refl)
-finds-named route.Acquire service (Some number) path bytes read = absurd read.2
-finds-named route.Report service None path bytes read = ((row route.Report).1, under service (codes "report") path bytes read.1 read.0, refl)
-finds-named route.Report service (Some number) path bytes read = absurd read.2
-finds-named route.Release service None path bytes read = ((row route.Release).1, under service (codes "release") path bytes read.1 read.0, refl)
-finds-named route.Release service (Some number) path bytes read = absurd read.2
-finds-named route.Transition service None path bytes read = ((row route.Transition).1, under service (codes "transition") path bytes read.1 read.0, refl)
-finds-named route.Transition service (Some number) path bytes read = absurd read.2
-finds-named route.Reset service None path bytes read = ((row route.Reset).1, under service (codes "reset") path bytes read.1 read.0, refl)
-finds-named route.Reset service (Some number) path bytes read = absurd read.2
-finds-named route.Cut service None path bytes read = ((row route.Cut).1, under service (codes "cut") path bytes read.1 read.0, refl)
-finds-named route.Cut service (Some number) path bytes read = absurd read.2
-finds-named route.Roll service None path bytes read = ((row route.Roll).1, under service (codes "roll") path bytes read.1 read.0, refl)
-finds-named route.Roll service (Some number) path bytes read = absurd read.2
-finds-named route.Program service None path bytes read = ((row route.Program).1, under service (codes "program") path bytes read.1 read.0, refl)
-finds-named route.Program service (Some number) path bytes read = absurd read.2
-finds-named route.State service None path bytes read = ((row route.State).1, under service (codes "state") path bytes read.1 read.0, refl)
-finds-named route.State service (Some number) path bytes read = absurd read.2
-finds-named route.Journal service None path bytes read = absurd read.2
-finds-named route.Journal service (Some number) path bytes read =
-    (journal_row.1, under service (codes "journal/" ++ number) path bytes read.1 read.0 ∙ number-found number (number-bytes service number path bytes read.0) read.2, refl)
+finds-named r service None path bytes read =
+    elim (plain_or_journal r) [
+      | inl is ↦ ((row r).1, under service (word_of r) path bytes read.1 (read.0 ∙ ap (λ w. codes "/v1/services/" ++ (service ++ (47 ∷ w))) (append-nil (word_of r))) ∙ is.found, refl)
+      | inr is ↦ absurd (subst (λ q. HasNumber q None) is read.2)
+    ]
+finds-named r service (Some number) path bytes read =
+    elim (plain_or_journal r) [
+      | inl is ↦ absurd (is.some number read.2)
+      | inr is ↦
+          let journal = subst (λ q. IsRead path (asks q service (Some number))) is read in
+          (journal_row.1, under service (codes "journal/" ++ number) path bytes journal.1 journal.0 ∙ number-found number (number-bytes service number path bytes journal.0) journal.2, sym is)
+    ]
 
 pub named-asked : (path : List ℕ) (asked : Asked) → IsBytes path → IsUtf8 path → IsRead path asked → asked_at path ≡ Some asked
 named-asked path asked bytes text read =

@@ -1,5 +1,5 @@
 -- The route that the search finds is the one that the segments of the path name.
-use Rattle.std.proofs.Common.{◌≡◌, ℕ, zero, suc, ◌<◌, get_or, take, List, [], ◌∷◌, ◌++◌, Bool, true, false, cond, ◌&&◌, ltb, ◌==◌, Option, Some, None, option_map, inl, inr, refl, ap, sym, subst, ◌∙◌, arith, codes, append-nil}
+use Rattle.std.proofs.Common.{◌≡◌, ℕ, zero, suc, ◌<◌, get_or, take, List, [], ◌∷◌, ◌++◌, Bool, true, false, cond, ◌&&◌, ltb, ◌==◌, Option, Some, None, option_map, map, inl, inr, refl, ap, sym, subst, ◌∙◌, arith, codes, append-nil}
 use Rattle.std.proofs.lemmas.Bool.{ltb-true}
 use Rattle.std.proofs.lemmas.Bool.Decides.{nat_tests}
 use Rattle.matchit.specs.Rows.{param_token}
@@ -10,16 +10,13 @@ use Rattle.http_routes.specs.declared.table.Route.TheVariants as route
 use Rattle.http_routes.specs.Finding.{Asked, asked_of, asked_at}
 use Rattle.http_routes.specs.Paths.{path_of, segments}
 use Rattle.http_routes.specs.Patterns.{IsSegment, HasNumber, IsRead, IsBytes}
-use Rattle.http_routes.specs.Routing.{Row, row, journal_row, routes, route_of}
+use Rattle.http_routes.specs.Routing.{Row, row, row_of, all_routes, routes, route_of}
 use Rattle.http_routes.specs.Table.{word_of}
 use Rattle.std.specs.List.{slice_split, onto_first, position_or_len}
 use Rattle.std.specs.Prelude.{slice_get, option_and_then}
 use Rattle.std.specs.Str.{is_utf8}
-use Rattle.http_routes.proofs.Searches.{Fits, first-reads}
-
-abbrev is_plain : List ℕ → Bool
-is_plain [] = true
-is_plain (x ∷ w) = ltb x 256 && is_plain w
+use Rattle.http_routes.proofs.Plain.{is_plain, is_slash, IsPlain, plain_or_journal}
+use Rattle.http_routes.proofs.Searches.{Fits, HasRow, first-reads}
 
 pub and-both : (a b : Bool) → a && b ≡ true → (a ≡ true) × (b ≡ true)
 and-both true b e = (refl, e)
@@ -52,12 +49,13 @@ abbrev Asks : List ℕ → Route → Type 0
 Asks path r = (asked : Asked) × (asked.route ≡ r) × IsRead path asked
 
 -- a route without a number
-plain-asks : (r : Route) (path : List ℕ) → is_plain (word_of r) ≡ true → HasNumber r None → Fits (codes "/v1/services/" ++ (param_token ∷ (47 ∷ word_of r ++ []))) path → Asks path r
-plain-asks r path plain none fits =
-    let found = under (47 ∷ word_of r ++ []) path fits in
-    let word = fits-text (47 ∷ word_of r) [] found.1 plain found.4 in
+plain-asks : (r : Route) (path : List ℕ) → IsPlain r → Fits (row r).0 path → Asks path r
+plain-asks r path is fits =
+    let found = under (47 ∷ word_of r) path fits in
+    let spelled = subst (λ w. Fits (47 ∷ w) found.1) (sym (append-nil (word_of r))) found.4 in
+    let word = fits-text (47 ∷ word_of r) [] found.1 is.plain spelled in
     let end : found.1 ≡ 47 ∷ (word_of r ++ []) = word.1 ∙ ap (λ l. 47 ∷ (word_of r ++ l)) word.2 in
-    (record { route = r; service = found.0; number = None }, refl, (found.2 ∙ ap (λ l. codes "/v1/services/" ++ (found.0 ++ l)) end, found.3, none))
+    (record { route = r; service = found.0; number = None }, refl, (found.2 ∙ ap (λ l. codes "/v1/services/" ++ (found.0 ++ l)) end, found.3, is.none))
 
 journal-asks : (path : List ℕ) → Fits (codes "/v1/services/" ++ (param_token ∷ (codes "/journal/" ++ (param_token ∷ [])))) path → Asks path route.Journal
 journal-asks path fits =
@@ -68,52 +66,26 @@ journal-asks path fits =
     let end : found.1 ≡ codes "/journal/" ++ last.0 = word.1 ∙ ap (λ l. codes "/journal/" ++ l) number in
     (record { route = route.Journal; service = found.0; number = Some last.0 }, refl, (found.2 ∙ ap (λ l. codes "/v1/services/" ++ (found.0 ++ l)) end, found.3, last.3))
 
-by-row : (x : Row) (path t : List ℕ) (r : RouteOf Route) → (x.0 ≡ t) × (x.1 ≡ r) → (Fits x.0 path → Asks path x.1.value) → Fits t path → Asks path r.value
-by-row x path t r same asks fits =
-    let P : List ℕ → Type 0 = λ u. Fits u path in
-    let Q : RouteOf Route → Type 0 = λ l. Asks path l.value in
-    subst Q same.1 (asks (subst P (sym same.0) fits))
+-- a path that fits the row of a route asks for it
+row-asks : (r : Route) (path : List ℕ) → Fits (row_of r).0 path → Asks path (row_of r).1.value
+row-asks r path fits =
+    elim (plain_or_journal r) [
+      | inl is ↦ rw is.its_row (plain-asks r path is (subst (λ (x : Row). Fits x.0 path) is.its_row fits))
+      | inr is ↦ rw is (journal-asks path (subst (λ q. Fits (row_of q).0 path) is fits))
+    ]
+
+rows-ask : (all : List Route) (path t : List ℕ) (r : RouteOf Route) → HasRow t r (map row_of all) → Fits t path → Asks path r.value
+rows-ask (q ∷ all) path t r (inl same) fits = subst (λ (l : RouteOf Route). Asks path l.value) same.1 (row-asks q path (subst (λ u. Fits u path) (sym same.0) fits))
+rows-ask (q ∷ all) path t r (inr has) fits = rows-ask all path t r has fits
+rows-ask [] path t r has fits = absurd has
 
 route-asks : (path : List ℕ) (r : RouteOf Route) → IsBytes path → first routes path ≡ Some r → Asks path r.value
 unfolding routes
 route-asks path r bytes e =
     let found = first-reads path routes r bytes e in
-    elim found.1 [
-      | inl h ↦ by-row (row route.Acquire) path found.0 r h (plain-asks route.Acquire path refl tt) found.2
-      | inr h1 ↦ elim h1 [
-        | inl h ↦ by-row (row route.Cut) path found.0 r h (plain-asks route.Cut path refl tt) found.2
-        | inr h2 ↦ elim h2 [
-          | inl h ↦ by-row journal_row path found.0 r h (journal-asks path) found.2
-          | inr h3 ↦ elim h3 [
-            | inl h ↦ by-row (row route.Program) path found.0 r h (plain-asks route.Program path refl tt) found.2
-            | inr h4 ↦ elim h4 [
-              | inl h ↦ by-row (row route.Release) path found.0 r h (plain-asks route.Release path refl tt) found.2
-              | inr h5 ↦ elim h5 [
-                | inl h ↦ by-row (row route.Report) path found.0 r h (plain-asks route.Report path refl tt) found.2
-                | inr h6 ↦ elim h6 [
-                  | inl h ↦ by-row (row route.Reset) path found.0 r h (plain-asks route.Reset path refl tt) found.2
-                  | inr h7 ↦ elim h7 [
-                    | inl h ↦ by-row (row route.Roll) path found.0 r h (plain-asks route.Roll path refl tt) found.2
-                    | inr h8 ↦ elim h8 [
-                      | inl h ↦ by-row (row route.State) path found.0 r h (plain-asks route.State path refl tt) found.2
-                      | inr h9 ↦ elim h9 [
-                        | inl h ↦ by-row (row route.Transition) path found.0 r h (plain-asks route.Transition path refl tt) found.2
-                        | inr none ↦ absurd none
-                      ]
-                    ]
-                  ]
-                ]
-              ]
-            ]
-          ]
-        ]
-      ]
-    ]
+    rows-ask all_routes path found.0 r found.1 found.2
 
 -- ---- segments
-
-abbrev is_slash : ℕ → Bool
-is_slash b = b == 47
 
 pub byte-of : (c : Bool) (rest : Bool) → cond c true rest ≡ false → (c ≡ false) × (rest ≡ false)
 byte-of true rest e = absurd (let never : true ≡ false = e in cc)
@@ -146,31 +118,24 @@ places-plain asked path word is e whole none =
 abbrev pub asks : Route → List ℕ → Option (List ℕ) → Asked
 asks r service number = record { route = r; service = service; number = number }
 
-places-of : (r : Route) (service : List ℕ) (number : Option (List ℕ)) (path : List ℕ) → IsRead path (asks r service number) → Places path (asks r service number)
-places-of route.Acquire service None path read = places-plain (asks route.Acquire service None) path (codes "acquire") read.1 read.0 refl refl
-places-of route.Acquire service (Some number) path read = absurd read.2
-places-of route.Report service None path read = places-plain (asks route.Report service None) path (codes "report") read.1 read.0 refl refl
-places-of route.Report service (Some number) path read = absurd read.2
-places-of route.Release service None path read = places-plain (asks route.Release service None) path (codes "release") read.1 read.0 refl refl
-places-of route.Release service (Some number) path read = absurd read.2
-places-of route.Transition service None path read = places-plain (asks route.Transition service None) path (codes "transition") read.1 read.0 refl refl
-places-of route.Transition service (Some number) path read = absurd read.2
-places-of route.Reset service None path read = places-plain (asks route.Reset service None) path (codes "reset") read.1 read.0 refl refl
-places-of route.Reset service (Some number) path read = absurd read.2
-places-of route.Cut service None path read = places-plain (asks route.Cut service None) path (codes "cut") read.1 read.0 refl refl
-places-of route.Cut service (Some number) path read = absurd read.2
-places-of route.Roll service None path read = places-plain (asks route.Roll service None) path (codes "roll") read.1 read.0 refl refl
-places-of route.Roll service (Some number) path read = absurd read.2
-places-of route.Program service None path read = places-plain (asks route.Program service None) path (codes "program") read.1 read.0 refl refl
-places-of route.Program service (Some number) path read = absurd read.2
-places-of route.State service None path read = places-plain (asks route.State service None) path (codes "state") read.1 read.0 refl refl
-places-of route.State service (Some number) path read = absurd read.2
-places-of route.Journal service None path read = absurd read.2
-places-of route.Journal service (Some number) path read =
+journal-places : (service number path : List ℕ) → IsRead path (asks route.Journal service (Some number)) → Places path (asks route.Journal service (Some number))
+journal-places service number path read =
     let rest : slice_split is_slash (codes "journal/" ++ number) ≡ codes "journal" ∷ number ∷ [] =
     ap (λ l. onto_first 106 (onto_first 111 (onto_first 117 (onto_first 114 (onto_first 110 (onto_first 97 (onto_first 108 ([] ∷ l)))))))) (split-last number read.2.whole) in
     let parts = ap segments read.0 ∙ segments-under service (codes "journal/" ++ number) read.1 ∙ ap (λ l. [] ∷ codes "v1" ∷ codes "services" ∷ service ∷ l) rest in
     (ap (λ l. slice_get l 3) parts, ap (λ l. slice_get l 5) parts)
+
+places-of : (r : Route) (service : List ℕ) (number : Option (List ℕ)) (path : List ℕ) → IsRead path (asks r service number) → Places path (asks r service number)
+places-of r service None path read =
+    elim (plain_or_journal r) [
+      | inl is ↦ places-plain (asks r service None) path (word_of r) read.1 (read.0 ∙ ap (λ w. codes "/v1/services/" ++ (service ++ (47 ∷ w))) (append-nil (word_of r))) is.whole refl
+      | inr is ↦ absurd (subst (λ q. HasNumber q None) is read.2)
+    ]
+places-of r service (Some number) path read =
+    elim (plain_or_journal r) [
+      | inl is ↦ absurd (is.some number read.2)
+      | inr is ↦ subst (λ q. Places path (asks q service (Some number))) (sym is) (journal-places service number path (subst (λ q. IsRead path (asks q service (Some number))) is read))
+    ]
 
 -- a path that is read so asks for that
 pub read-asked : (path : List ℕ) (asked : Asked) → IsRead path asked → asked_of path asked.route ≡ Some asked

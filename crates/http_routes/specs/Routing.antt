@@ -1,5 +1,5 @@
 -- The routes as `matchit` keeps them, and which one its search finds.
-use Rattle.std.specs.Prelude.{ℕ, List, [], ◌∷◌, ◌++◌, Option, None, option_map, if◌then◌else◌, codes}
+use Rattle.std.specs.Prelude.{ℕ, List, [], ◌∷◌, ◌++◌, map, Option, None, option_map, if◌then◌else◌, codes}
 use Rattle.std.specs.Str.{is_utf8}
 use Rattle.matchit.specs.Rows.{RowsOf, param_token}
 use Rattle.matchit.specs.Router.{RouteOf}
@@ -23,11 +23,16 @@ journal_row =
     let pattern = codes "/v1/services/" ++ param_token ∷ codes "/journal/" ++ param_token ∷ [] in
     (pattern, record { pattern = pattern; text = codes "/v1/services/{service}/journal/{from}"; names = (14, 21) ∷ (32, 36) ∷ []; value = route.Journal })
 
+abbrev pub row_of : Route → Row
+row_of route.Journal = journal_row
+row_of other = row other
+
 -- the ten routes, in the order of their patterns
+abbrev pub all_routes : List Route
+all_routes = route.Acquire ∷ route.Cut ∷ route.Journal ∷ route.Program ∷ route.Release ∷ route.Report ∷ route.Reset ∷ route.Roll ∷ route.State ∷ route.Transition ∷ []
+
 unfoldable pub routes : RowsOf (RouteOf Route)
-routes =
-    row route.Acquire ∷ row route.Cut ∷ journal_row ∷ row route.Program ∷ row route.Release ∷ row route.Report
-    ∷ row route.Reset ∷ row route.Roll ∷ row route.State ∷ row route.Transition ∷ []
+routes = map row_of all_routes
 
 -- the route that a path finds; one that is no UTF-8 finds none
 abbrev pub route_of : List ℕ → Option Route
