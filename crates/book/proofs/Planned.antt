@@ -16,7 +16,7 @@ use Rattle.service_profile.specs.declared.replies.Reply.TheVariants as reply
 use Rattle.service_profile.specs.Rates.{after_notes}
 use Rattle.service_profile.specs.declared.standings.Standing.{Standing}
 use Rattle.service_profile.specs.declared.tickets.OpenTicket.{OpenTicket}
-use Rattle.service_profile.specs.Events.{EventData, acquires, finishes, releases, installs}
+use Rattle.service_profile.specs.Events.{EventData, acquires, finishes, installs}
 use Rattle.service_profile.specs.Machine.{Situation, refused, permission_in, permissions_held, acquired, current_version, judged_as, fate_of, note_of, concluded, same_program, program_from, is_issued, open_ticket, finished, finished_by, finished_under, released, released_under, installed, is_full, decided, at_moment, decision, meant, decision_by}
 use Rattle.book.specs.declared.plans.Plan.{Plan}
 use Rattle.book.specs.Effects.{planned, permitted_plan, refused_plan, reported_plan}

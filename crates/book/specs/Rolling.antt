@@ -1,5 +1,5 @@
 -- What rolls leave of a history, and what is asked of a service with rolls among it.
-use Rattle.std.specs.Prelude.{◌≡◌, ℕ, suc, ◌+◌, ◌-◌, ◌≤◌, List, [], ◌∷◌, ◌++◌, length, Result, Ok, Err}
+use Rattle.std.specs.Prelude.{◌≡◌, ℕ, suc, ◌+◌, ◌-◌, ◌≤◌, List, [], ◌∷◌, ◌++◌, Result, Ok, Err}
 use Rattle.std.specs.List.{fold}
 use Rattle.bpf_profile.specs.Programs.{VerifiedProgram}
 use Rattle.refusals.specs.declared.RefusalNumber.{RefusalNumber}
@@ -9,7 +9,7 @@ use Rattle.service_profile.specs.declared.readings.Reading.{Reading}
 use Rattle.service_profile.specs.declared.replies.Reply.{Reply}
 use Rattle.service_profile.specs.declared.replies.Reply.TheVariants as reply
 use Rattle.service_profile.specs.Answers.{answer, applied, looked, reading, page_from, least_needed, roll, after_roll}
-use Rattle.service_profile.specs.Events.{EventData, EntryData, Rolled, History, rolled_to}
+use Rattle.service_profile.specs.Events.{EventData, EntryData, Rolled, History}
 use Rattle.service_profile.specs.Histories.{Past, past_of, situation_of, raised}
 use Rattle.service_profile.specs.Machine.{Situation, current_version, decision}
 

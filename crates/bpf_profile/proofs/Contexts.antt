@@ -1,5 +1,5 @@
 -- What a program does on a record depends on a context of the given size, the facts and the tag alone.
-use Rattle.std.proofs.Common.{◌≡◌, ℕ, zero, suc, ◌+◌, ◌*◌, ◌%◌, ◌==◌, ◌<◌, ◌≤◌, nat_le, nat_lt, Bool, true, false, List, take, drop, slice_index, ◌↔◌, Option, Some, None, Result, Ok, Err, refl, sym, ap, ◌∙◌, subst, arith}
+use Rattle.std.proofs.Common.{◌≡◌, ℕ, zero, suc, ◌+◌, ◌*◌, ◌%◌, ◌==◌, ◌<◌, ◌≤◌, nat_le, nat_lt, Bool, true, false, List, take, drop, slice_index, ◌↔◌, Option, Some, None, Result, Ok, Err, refl, sym, ap, ◌∙◌, arith}
 use Rattle.std.proofs.lemmas.Bool.Decides.{nat_tests}
 use Rattle.std.proofs.lemmas.List.{drop-take, get_or-take, take-take}
 use Rattle.byteorder.specs.Endian.{little_number}
@@ -19,7 +19,7 @@ use Rattle.bpf_profile.specs.declared.machine.Verdict.{Verdict}
 use Rattle.bpf_profile.specs.declared.slot.Slot.{Slot}
 use Rattle.bpf_profile.specs.Helpers.{Answer, fact, front_byte, copy_tag, tag_starts, helper_of, answered_by, called, after_call, number_argument}
 use Rattle.bpf_profile.specs.Limits.{front_offset}
-use Rattle.bpf_profile.specs.Machine.{State, Effect, goes, Address, ◌>>=◌, ensured, address_of, loaded, load_value, place_for, place_of, read_register, region_size}
+use Rattle.bpf_profile.specs.Machine.{State, goes, Address, ◌>>=◌, ensured, address_of, loaded, load_value, place_for, place_of, read_register, region_size}
 use Rattle.bpf_profile.specs.Meaning.{answer_of, effect_at, effect_of, entry, instruction_at, sets, step, Ends, Reaches, Judges}
 use Rattle.bpf_profile.specs.Outcomes.{AgreeOn, Outcome, shortened}
 use Rattle.bpf_profile.specs.Words.{bytes_in, extended}

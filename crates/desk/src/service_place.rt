@@ -43,7 +43,11 @@ impl<'a, L: Ledger, M: Ledger + Offered, R: Wait> ServicePlace<'a, L, M, R> {
 
 impl<'a, L: Ledger, M: Ledger + Offered, R: Wait> BookCalls<ServicePlace<'a, L, M, R>>
     for Seat<L, M> {
+    ghost use Rattle.std.specs.Prelude.{⊤};
     ghost use Rattle.desk.specs.Calls.{IsCalledAt};
+
+    // its types name the desk's ledgers, and no more is asked of a seat
+    ghost fits = { λ _ _. ⊤ };
 
     ghost calls = { IsCalledAt };
 

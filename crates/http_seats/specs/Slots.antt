@@ -5,7 +5,6 @@ use Rattle.service.specs.Asked.{RequestData, ResponseData}
 use Rattle.service.specs.Asking.{IsServedBy}
 use Rattle.service_profile.specs.Events.{History}
 use Rattle.slot_desk.specs.Calls as seats
-use Rattle.slot_desk.specs.Calls.{service_seat}
 use Rattle.slot_desk.specs.Closing.{AreOf, HaveCourses, NumbersAgree}
 use Rattle.slot_desk.specs.Desks.{DeskData}
 use Rattle.slot_desk.specs.Seats.{SeatData, new_seat}
@@ -16,7 +15,7 @@ place_at desk name = position (λ other. bytes_eq other name) desk.names
 
 -- the calls that a request stands for are those of the seat at the service of this place
 abbrev pub asks : DeskData → SeatData → ℕ → ℕ → RequestData → ResponseData → SeatData → Type 0
-asks desk old place moment wanted given new = IsServedBy seats.IsAskedAt (service_seat place old) moment wanted given (service_seat place new)
+asks desk old place moment wanted given new = IsServedBy (seats.IsAskedAt place) old moment wanted given new
 
 -- so many seats at books that lie in these tables and opened so, from this number on, that have made no call
 abbrev pub seats_of : List TableId → List (Option History) → ℕ → ℕ → List SeatData

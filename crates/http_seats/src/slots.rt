@@ -7,8 +7,8 @@ ghost use Rattle.http_seats.specs.Slots.{AreClosed, closes, counts_of, dealt, se
 use crate::seats::DeskSeat;
 use book::Book;
 use refusals::RefusalNumber;
-use service::{Gate, Request, Response};
-use slot_desk::{Desk, Seat, ServiceId};
+use service::{Gate, Request, Response, ask};
+use slot_desk::{Desk, Seat, ServiceId, ServicePlace};
 use std::alloc::{AllocError, Global};
 use std::sync::Wait;
 
@@ -80,7 +80,8 @@ impl DeskSeat<Desk> for Seat {
         request: Request,
         gate: &G,
     ) -> Response {
-        desk.ask(rt, alloc, self, ServiceId::at(place), moment, request, gate)
+        let service = ServicePlace::new(rt, desk, ServiceId::at(place));
+        ask(alloc, self, &service, moment, request, gate)
     }
 
     fn deal(alloc: Global, desk: &mut Desk, count: u64) -> Result<Vec<Seat>, AllocError> {

@@ -6,9 +6,7 @@ use Rattle.bpf_profile.specs.Safety.{IsSafe}
 use Rattle.bpf_profile.specs.JudgedWork.{JudgedData, IsTied}
 use Rattle.bpf_profile.specs.Programs.{VerifiedProgram}
 use Rattle.refusals.specs.declared.RefusalNumber.{RefusalNumber}
-use Rattle.verifier.specs.declared.refusal.Refusal.{Refusal}
 use Rattle.verifier.specs.Verifying.{IsVerification, IsRefused, fault_of, out_of_memory}
-use Rattle.service_profile.specs.declared.readings.Reading.{Reading}
 use Rattle.service_profile.specs.declared.replies.Reply.{Reply}
 use Rattle.service_profile.specs.declared.replies.Reply.TheVariants as reply
 use Rattle.service_profile.specs.Calls.{CallData, CallAnswer, applies, looks, reads, pages, cuts, rolls, finds, IsCalled}

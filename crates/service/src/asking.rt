@@ -26,8 +26,10 @@ pub fn report<P, B: BookCalls<P>, G: Gate>(
     report: Report,
     gate: &G,
 ) -> Reply
+    requires fits { B.fits place.now book.old }
     // The reply is that to the finish, with the verdict of the program that the look found, or why it found none.
-    ensures { IsReportServed (B.calls place.now) book.old moment report result book.new }
+    ensures reported { IsReportServed (B.calls place.now) book.old moment report result book.new }
+    ensures fits { B.fits place.now book.new }
 {
     let Report { ticket, outcome } = report;
     match book.call(place, Look(ticket)) {
@@ -50,7 +52,9 @@ fn install<P, B: BookCalls<P>>(
     bytes: &[u8],
     layout: Layout,
 ) -> Response
-    ensures { IsInstalled (B.calls place.now) book.old moment bytes.now layout (response_data result) book.new }
+    requires fits { B.fits place.now book.old }
+    ensures installed { IsInstalled (B.calls place.now) book.old moment bytes.now layout (response_data result) book.new }
+    ensures fits { B.fits place.now book.new }
 {
     let program = match verify(alloc, bytes, layout) {
         Ok(program) => program,
@@ -93,9 +97,11 @@ pub fn ask<P, B: BookCalls<P>, G: Gate>(
     request: Request,
     gate: &G,
 ) -> Response
+    requires fits { B.fits place.now book.old }
     // What is answered, and what the caller of the book is after it, are made of the calls that the request stands for. Where
     // the book itself is called, these are the documented machine's (`IsServed`).
-    ensures { IsServedBy (B.calls place.now) book.old moment (request_data request) (response_data result) book.new }
+    ensures asked { IsServedBy (B.calls place.now) book.old moment (request_data request) (response_data result) book.new }
+    ensures fits { B.fits place.now book.new }
 {
     match request {
         Request::Acquire => Response::Reply(book.call(place, Apply(moment, Event::Acquire))),

@@ -6,11 +6,10 @@ use Rattle.service_profile.specs.Events.{History}
 use Rattle.service_profile.specs.declared.configuration.Config.{Config}
 use Rattle.verifier.specs.declared.verified.Verified.{Verified}
 use Rattle.book_slot.specs.Rules.{Course}
-use Rattle.slot_desk.specs.Calls.{service_seat}
 use Rattle.slot_desk.specs.Closing.{SeatBegins, NumbersAgree, last_number, first_number}
 use Rattle.slot_desk.specs.Desks.{DeskData, name_of, first_of}
 use Rattle.slot_desk.specs.Seats.{SeatData}
-use Rattle.slot_desk.proofs.Backwards.{served_keeps}
+use Rattle.slot_desk.proofs.Backwards.{served_back}
 use Rattle.http_seats.specs.Seated.{SeatedData, seated, place_by, asks_by}
 use Rattle.http_seats.specs.Slots.{asks, closes, counts_of, deals, place_at}
 use Rattle.http_pool.specs.declared.workers.Worker.{Worker}
@@ -24,9 +23,7 @@ use Rattle.sidecar_server.proofs.Along.{worker}
 
 module _ {C : Type 0} (ticks : C → ℕ → C → Type 0) where
   answered_within : (courses : List Course) (s : SeatedData DeskData SeatData) (place moment : ℕ) (wanted : RequestData) (given : ResponseData) (t : SeatedData DeskData SeatData) → asks_by asks s place moment wanted given t → SeatBegins courses t.seat → SeatBegins courses s.seat × IsAskedWithin courses s place moment wanted given t
-  answered_within courses s place moment wanted given t is begins =
-      let keeps = served_keeps (service_seat place s.seat) moment wanted given (service_seat place t.seat) is.1 in
-      (keeps.begins courses begins, (is, begins))
+  answered_within courses s place moment wanted given t is begins = (served_back courses place s.seat moment wanted given t.seat is.1 begins, (is, begins))
 
   pub worked_within : (courses : List Course) (workers later : List (Worker (SeatedData DeskData SeatData) C)) → HaveWorked (place_by place_at) (asks_by asks) ticks workers later → AllByRecursion (SeatBegins courses) (seats_with later) → HaveWorked (place_by place_at) (IsAskedWithin courses) ticks workers later
   worked_within courses [] [] worked begin = tt

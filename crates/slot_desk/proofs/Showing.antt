@@ -4,7 +4,6 @@ use Rattle.std.proofs.Crossing.{crosses, frees}
 use Rattle.book_slot.proofs.Showing.{slot_sync, slot_field_sync, place_send, place_field_send}
 use Rattle.slot_desk.specs.contracts.desks.Desk as desk
 use Rattle.slot_desk.specs.contracts.seats.Seat as seat
-use Rattle.slot_desk.specs.contracts.laws.Asking as asking
 
 pub desk_sync : IsSync desk.the_row
 desk_sync = search (sendable, crosses, frees, slot_sync, slot_field_sync) depth 40 fits 20000

@@ -7,7 +7,8 @@ use Rattle.book.specs.Counts.{made_by, IsFull, IsTurnedAway}
 use Rattle.book_slot.specs.declared.view.View.{View}
 use Rattle.book_slot.specs.Calls.{Called, CalledAfterTries}
 use Rattle.book_slot.specs.Rules.{missing, AreOfOne}
-use Rattle.slot_desk.specs.Seats.{SeatData, ChangesAt}
+use Rattle.slot_desk.specs.Desks.{DeskData}
+use Rattle.slot_desk.specs.Seats.{SeatData, IsSeatOf, ChangesAt}
 
 -- a call of a seat of this number at a service, after as many failed tries as it took
 abbrev pub IsCalledAt : ℕ → SeatData → CallData → CallAnswer → SeatData → Type 0
@@ -25,19 +26,21 @@ IsMissedAt service seat after = ChangesAt service 0 (λ v w. w ≡ missing v) se
 abbrev pub AgreeAt : ℕ → SeatData → SeatData → Type 0
 AgreeAt service one other = (v w : View) × (slice_get one.views service ≡ Some v) × (slice_get other.views service ≡ Some w) × AreOfOne v.seen w.seen
 
--- a seat at this service of its desk
-pub record ServiceSeatData : Type 0 where
+-- this service of a desk
+pub record ServicePlaceData : Type 0 where
+  pub desk : DeskData
   pub service : ℕ
-  pub seat : SeatData
 
-abbrev pub service_seat : ℕ → SeatData → ServiceSeatData
-service_seat service seat = record { service = service; seat = seat }
+abbrev pub service_place : DeskData → ℕ → ServicePlaceData
+service_place desk service = record { desk = desk; service = service }
 
--- its calls as whoever asks a service makes them: it stays at its service. A seat whose count is full isn't let make an event, which may make an entry: the journal is said to be full, and nothing changes
-abbrev pub IsAskedAt : ServiceSeatData → CallData → CallAnswer → ServiceSeatData → Type 0
-IsAskedAt at call answer after =
-    (after.service ≡ at.service)
-    × ((IsFull at.seat.count × IsTurnedAway call answer × (after.seat ≡ at.seat)) ⊎ IsCalledAt at.service at.seat call answer after.seat)
+-- a seat is lent the services of its own desk alone
+abbrev pub fits : ServicePlaceData → SeatData → Type 0
+fits place seat = IsSeatOf place.desk seat
+
+-- the calls of a seat at a service as whoever asks it makes them. A seat whose count is full isn't let make an event, which may make an entry: the journal is said to be full, and nothing changes
+abbrev pub IsAskedAt : ℕ → SeatData → CallData → CallAnswer → SeatData → Type 0
+IsAskedAt service seat call answer after = (IsFull seat.count × IsTurnedAway call answer × (after ≡ seat)) ⊎ IsCalledAt service seat call answer after
 
 abbrev pub report_of : ℕ → Outcome → Report
 report_of ticket outcome = record { ticket = ticket; outcome = outcome }

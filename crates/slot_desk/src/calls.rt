@@ -19,7 +19,7 @@ use verifier::Verified;
 
 // Of each call: the answer is the named service's book's to this seat, after a good history that begins with all that the seat
 // has seen of that service and has just its own entries; what the call left is what the seat has seen after it; what it knows of
-// the other services stays. The functions behind `call` make one kind of call each; the program asks through `Desk::ask`,
+// the other services stays. The functions behind `call` make one kind of call each; the program asks through `service::ask`,
 // and calls none of them.
 impl Desk {
     /// Makes a call of a service by a seat. It waits until the service's book is in its slot.

@@ -2,14 +2,13 @@
 //! it by one exchange; and each seat knows what it has seen of each service.
 #![tactic(auto)]
 
-mod asking;
 mod calls;
 mod closing;
 mod desks;
 pub mod laws;
 mod reports;
 mod seats;
-mod service_seat;
+mod service_place;
 mod services;
 mod sitting;
 mod trying;
@@ -19,5 +18,5 @@ pub use closing::Unclosed;
 pub use desks::Desk;
 pub use seats::Seat;
 pub use service::Gate;
-pub use service_seat::ServiceSeat;
+pub use service_place::ServicePlace;
 pub use services::ServiceId;

@@ -8,12 +8,11 @@ ghost use Rattle.slot_desk.specs.Seats.{IsSeatOf};
 
 use crate::desks::Desk;
 use crate::seats::Seat;
-use crate::service_seat::ServiceSeat;
+use crate::service_place::ServicePlace;
 use crate::services::ServiceId;
 use book::Reply;
 use packed_outcomes::PackedOutcome;
 use service::{Gate, Report, report};
-use std::mem;
 use std::sync::Wait;
 
 impl Desk {
@@ -35,10 +34,7 @@ impl Desk {
         ensures reported { IsReportServed (IsCalledAt service) seat.old moment (report_of ticket outcome) result seat.new }
         ensures counted { IsCounted seat.old.count result seat.new.count }
     {
-        let nobody = Seat::nobody(*seat.places.allocator());
-        let mut at = ServiceSeat::new(rt, self, service, mem::replace(seat, nobody));
-        let reply = report(&mut at, &(), moment, Report { ticket, outcome }, gate);
-        *seat = at.into_seat();
-        reply
+        let place = ServicePlace::new(rt, self, service);
+        report(seat, &place, moment, Report { ticket, outcome }, gate)
     }
 }

@@ -1,9 +1,7 @@
 //! Seats: who makes calls.
-ghost use Rattle.std.specs.Prelude.{◌≡◌, []};
-ghost use Rattle.slot_desk.specs.Seats.{seat_of};
+ghost use Rattle.std.specs.Prelude.{◌≡◌};
 
 use book_slot::Place;
-use std::alloc::Global;
 use std::marker::Model;
 
 /// Who makes calls at a desk, by a place at each service. Contracts see its number, how many entries its calls have made, and of
@@ -29,17 +27,6 @@ impl Model for Seat {
 }
 
 impl Seat {
-    /// A seat with no places.
-    pub(crate) fn nobody(alloc: Global) -> Seat
-        ensures { result ≡ seat_of 0 0 [] [] }
-    {
-        Seat {
-            number: 0,
-            count: 0,
-            places: Vec::new(alloc),
-        }
-    }
-
     /// Its number at its desk, from 1 on: the entries of its calls carry it.
     pub fn number(&self) -> u32
         ensures { result ≡ self.now.number }

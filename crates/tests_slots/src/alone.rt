@@ -58,6 +58,8 @@ impl Alone {
 impl<R: Wait> BookCalls<R> for Alone {
     ghost use Rattle.std.specs.Prelude.{⊤};
 
+    ghost fits = { λ _ _. ⊤ };
+
     ghost calls = { λ _ _ _ _ _. ⊤ };
 
     fn call<C: Call>(&mut self, rt: &R, call: C) -> C::Answer {

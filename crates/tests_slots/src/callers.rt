@@ -4,8 +4,8 @@ ghost use Rattle.slot_desk.specs.Seats.{IsSeatOf};
 
 use book::{Entry, Event, Reading, Reply};
 use refusals::RefusalNumber;
-use service::{Gate, Request, Response};
-use slot_desk::{Busy, Desk, Held, Seat, ServiceId};
+use service::{Gate, Request, Response, ask};
+use slot_desk::{Busy, Desk, Held, Seat, ServiceId, ServicePlace};
 use std::alloc::Global;
 use std::marker::Model;
 use std::process::Abort;
@@ -165,8 +165,8 @@ impl<'a> Caller<'a> {
         ensures { self.new ≡ self.old }
     {
         let service = self.service(rt, name);
-        self.desk
-            .ask(rt, alloc, &mut self.seat, service, moment, request, gate)
+        let place = ServicePlace::new(rt, self.desk, service);
+        ask(alloc, &mut self.seat, &place, moment, request, gate)
     }
 
     /// Tries to apply an event, and waits for nobody. There is no answer where the desk has no service of the name.

@@ -1,5 +1,6 @@
 //! How a history is gone through by whoever calls a service's book. Each call goes the way that a front takes, by `service::ask`.
-//! None of these functions has a clause: they show what comes of a step, and stop at the first one that isn't met.
+//! What they say of their caller is that it still fits its place: they show what comes of a step, and stop at the first one that
+//! isn't met.
 use crate::answers::{Answer, SUCCESS, reply};
 use crate::asking::{outcome_of, request_of, shared_program};
 use crate::entries::{Entered, are_entries};
@@ -40,7 +41,10 @@ pub fn play<P, B: BookCalls<P>>(
     book: &mut B,
     place: &P,
     steps: &[Step<'_>],
-) -> Result<(), Missed> {
+) -> Result<(), Missed>
+    requires fits { B.fits place.now book.old }
+    ensures fits { B.fits place.now book.new }
+{
     let mut greatest = 0;
     for (step, row) in steps.iter().enumerate() {
         match take(alloc, book, place, *row, greatest) {
@@ -58,7 +62,10 @@ fn take<P, B: BookCalls<P>>(
     place: &P,
     step: Step<'_>,
     greatest: u64,
-) -> Result<u64, Found> {
+) -> Result<u64, Found>
+    requires fits { B.fits place.now book.old }
+    ensures fits { B.fits place.now book.new }
+{
     match step {
         Step::Call(moment, wish, answer) => {
             return call(alloc, book, place, moment, wish, answer, greatest);
@@ -80,7 +87,10 @@ fn make<P, B: BookCalls<P>>(
     book: &mut B,
     place: &P,
     step: Step<'_>,
-) -> Result<(), Found> {
+) -> Result<(), Found>
+    requires fits { B.fits place.now book.old }
+    ensures fits { B.fits place.now book.new }
+{
     let (moment, request) = asked(alloc, step).ok_or(Found::Other)?;
     is_answered(&ask(alloc, book, place, moment, request, &OpenGate), step)
 }
@@ -95,7 +105,10 @@ fn call<P, B: BookCalls<P>>(
     wish: Wish,
     answer: Answer,
     greatest: u64,
-) -> Result<u64, Found> {
+) -> Result<u64, Found>
+    requires fits { B.fits place.now book.old }
+    ensures fits { B.fits place.now book.new }
+{
     let next = last_number(alloc, book, place).saturating_add(1);
     make(alloc, book, place, Step::Call(moment, wish, answer))?;
     if last_number(alloc, book, place) < next {
@@ -115,7 +128,10 @@ fn make_calls<P, B: BookCalls<P>>(
     first: u64,
     last: u64,
     greatest: u64,
-) -> Result<u64, Found> {
+) -> Result<u64, Found>
+    requires fits { B.fits place.now book.old }
+    ensures fits { B.fits place.now book.new }
+{
     for ticket in first..=last {
         let permitted = Answer::Permitted(ticket);
         make(
@@ -140,7 +156,10 @@ fn report_as_stranger<P, B: BookCalls<P>>(
     ticket: u64,
     answer: Answer,
     greatest: u64,
-) -> Result<u64, Found> {
+) -> Result<u64, Found>
+    requires fits { B.fits place.now book.old }
+    ensures fits { B.fits place.now book.new }
+{
     let before = last_number(alloc, book, place);
     let event = finish_of_stranger(alloc, ticket).ok_or(Found::Other)?;
     let found = book.call(place, Apply(moment, event));
@@ -167,7 +186,10 @@ fn install_versions<P, B: BookCalls<P>>(
     place: &P,
     first: u64,
     last: u64,
-) -> Result<(), Found> {
+) -> Result<(), Found>
+    requires fits { B.fits place.now book.old }
+    ensures fits { B.fits place.now book.new }
+{
     for version in first..=last {
         let installed = Answer::Installed(version, 2);
         make(
@@ -181,7 +203,10 @@ fn install_versions<P, B: BookCalls<P>>(
 }
 
 /// The number of the last entry.
-fn last_number<P, B: BookCalls<P>>(alloc: Global, book: &mut B, place: &P) -> u64 {
+fn last_number<P, B: BookCalls<P>>(alloc: Global, book: &mut B, place: &P) -> u64
+    requires fits { B.fits place.now book.old }
+    ensures fits { B.fits place.now book.new }
+{
     match ask(alloc, book, place, 0, Request::Read, &OpenGate) {
         Response::Reading(reading) => reading.entries,
         _ => 0,
@@ -189,7 +214,10 @@ fn last_number<P, B: BookCalls<P>>(alloc: Global, book: &mut B, place: &P) -> u6
 }
 
 /// How many entries the page from a number on has, and the number of the last one.
-fn page<P, B: BookCalls<P>>(alloc: Global, book: &mut B, place: &P, from: u64) -> (usize, u64) {
+fn page<P, B: BookCalls<P>>(alloc: Global, book: &mut B, place: &P, from: u64) -> (usize, u64)
+    requires fits { B.fits place.now book.old }
+    ensures fits { B.fits place.now book.new }
+{
     match ask(alloc, book, place, 0, Request::Page(from), &OpenGate) {
         Response::Page { entries, .. } => {
             let (count, number, _) = counted(&entries);
@@ -206,7 +234,10 @@ fn has_count<P, B: BookCalls<P>>(
     place: &P,
     from: u64,
     wanted: u64,
-) -> Result<(), Found> {
+) -> Result<(), Found>
+    requires fits { B.fits place.now book.old }
+    ensures fits { B.fits place.now book.new }
+{
     let mut next = from;
     let mut count: u64 = 0;
     for _ in 0..MANY_PAGES {

@@ -4,7 +4,7 @@ use Rattle.serde_json.specs.Data.{string}
 use Rattle.answers.specs.Entries.{event_name, named}
 use Rattle.answers.specs.Texts.{count, reply_data}
 use Rattle.answers.specs.Writing.{Adds, tokens_of, field_tokens, last_tokens}
-use Rattle.answers.proofs.Listed.{adds_then, adds_end}
+use Rattle.answers.proofs.Listed.{adds_end}
 use Rattle.answers.proofs.entries.entry.Goals as goal
 
 pub returns : goal.returns

@@ -1,4 +1,4 @@
-use Rattle.std.proofs.Common.{List, [], ◌∷◌, ◌++◌, map, flat_map, OnOk, subst, sym, rules}
+use Rattle.std.proofs.Common.{List, [], ◌∷◌, map, flat_map, OnOk, subst, sym, rules}
 use Rattle.json.specs.Token.{Token, begin_object, end_object}
 use Rattle.answers.specs.Members.{field_of}
 use Rattle.answers.specs.Texts.{Field}

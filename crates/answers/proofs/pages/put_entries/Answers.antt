@@ -1,4 +1,4 @@
-use Rattle.std.proofs.Common.{take_all, List, [], ◌∷◌, ◌++◌, flat_map, OnOk, subst, sym}
+use Rattle.std.proofs.Common.{take_all, List, ◌∷◌, flat_map, OnOk, subst, sym}
 use Rattle.json.specs.Token.{Token, begin_array, end_array}
 use Rattle.answers.specs.Entries.{entry_data}
 use Rattle.answers.specs.Writing.{Adds, tokens_of}

@@ -1,6 +1,5 @@
-use Rattle.std.proofs.Common.{◌≡◌, List, [], ◌++◌, ℕ, ap, ◌∙◌, rules}
+use Rattle.std.proofs.Common.{◌≡◌, [], ◌++◌, ◌∙◌, rules}
 use Rattle.json.specs.Print.{print}
-use Rattle.json.specs.Token.{Token}
 use Rattle.serde_json.proofs.Texts.{print-outline}
 use Rattle.service.specs.Asked.{response_data}
 use Rattle.answers.specs.Responses.{response_json}

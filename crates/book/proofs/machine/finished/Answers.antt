@@ -1,6 +1,5 @@
 use Rattle.std.proofs.Common.{◌≡◌, ◌+◌, ◌≤◌, ◌∙◌, Some, Ok, Err, ap, sym}
 use Rattle.service_profile.specs.declared.standings.Standing.{Standing}
-use Rattle.service_profile.specs.declared.decisions.Decision.{Decision}
 use Rattle.service_profile.specs.declared.tickets.OpenTicket.{OpenTicket}
 use Rattle.service_profile.specs.Events.{finishes}
 use Rattle.service_profile.specs.Machine.{meant, finished_under}

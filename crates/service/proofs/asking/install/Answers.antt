@@ -1,8 +1,8 @@
 use Rattle.std.proofs.Common.{rules}
 use Rattle.service.proofs.asking.install.Goals as goal
 
-pub returns-in-Err : goal.returns-in-Err
-returns-in-Err g c = search rules
+pub returns-in-Err-clause-installed : goal.returns-in-Err-clause-installed
+returns-in-Err-clause-installed g c = search rules
 
-pub returns-in-Ok-new : goal.returns-in-Ok-new
-returns-in-Ok-new g c = search rules
+pub returns-in-Ok-new-clause-installed : goal.returns-in-Ok-new-clause-installed
+returns-in-Ok-new-clause-installed g c = search rules

@@ -1,11 +1,10 @@
 use mir.Syntax.{static}
 use denote.Exit.{yes}
 use denote.Param.Send.{param_send, arg_send}
-use Rattle.std.proofs.Common.{◌≡◌, ◌∙◌, ap, length, map, sym, subst, arith}
+use Rattle.std.proofs.Common.{◌≡◌, ◌∙◌, ap, length, sym, subst, arith}
 use Rattle.std.specs.List.{AllByRecursion}
 use Rattle.http_seats.proofs.Sending.{answerer_send, gate_sync}
 use Rattle.http_seats.specs.Seated.{seated, place_by, asks_by}
-use Rattle.sidecar_server.specs.Seats.{seats_with, workers_of}
 use Rattle.sidecar_server.proofs.Crews.{all_back, as_many_workers}
 use Rattle.sidecar_server.proofs.Endings.{over_by}
 use Rattle.sidecar_server.proofs.Seating.{back_here}

@@ -1,5 +1,4 @@
-use Rattle.std.proofs.Common.{◌≡◌, ◌∙◌, ap, refl, sym}
-use Rattle.service_profile.specs.declared.tickets.OpenTicket.{OpenTicket}
+use Rattle.std.proofs.Common.{◌∙◌, refl}
 use Rattle.service_profile.specs.Machine.{Situation}
 use Rattle.book.specs.Finding.{ticket_in}
 use Rattle.book.proofs.Finds.{part}

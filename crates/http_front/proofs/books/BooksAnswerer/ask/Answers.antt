@@ -6,4 +6,4 @@ use Rattle.http_front.proofs.books.BooksAnswerer.ask.Goals as goal
 pub returns : goal.returns
 returns c =
     let at : slice_get c.args.self.now.services.items c.args.place ≡ Some c.index_mut-named.result.now = slice_get_read c.args.self.now.services.items (length c.args.self.now.services.items) c.args.place c.index_mut-named.result.now refl c.requires.held c.index_mut-named.ensures.value in
-    (c.index_mut-named.result.now, c.ask.new.book, at, c.ask.ensures, refl)
+    (c.index_mut-named.result.now, c.ask.new.book, at, c.ask.ensures.asked, refl)
