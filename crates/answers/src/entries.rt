@@ -1,6 +1,6 @@
 //! The entries of the journal. Every error is want of memory, and leaves a part of what was to be written.
 ghost use Rattle.std.specs.Prelude.{◌≡◌, OnOk};
-ghost use Rattle.book.specs.Seen.{seen};
+ghost use Rattle.book.specs.Accepted.{seen};
 ghost use Rattle.answers.specs.Entries.{entry_data, event_name, named};
 ghost use Rattle.answers.specs.Writing.{Adds, tokens_of, last_tokens};
 

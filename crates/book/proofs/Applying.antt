@@ -18,14 +18,15 @@ use Rattle.book.specs.Books.{IsBook, opening_of, journal, rolled_of}
 use Rattle.service_profile.specs.Machine.{is_refused_call, Situation, decision, is_entered}
 use Rattle.book.specs.Following.{followed, refused_after, situation_after}
 use Rattle.service_profile.specs.Histories.{Stage, Past, install_by, situation_of, machine, opened, passed, past_of, greatest, raised, next_line, refused_of, Follows, AreLegal, IsLegal}
-use Rattle.book.specs.Safe.{IsSafeEvent}
+use Rattle.book.specs.Accepted.{IsSafeProgram, IsEvent, seen}
 use Rattle.book.specs.declared.books.Start.{Start}
 use Rattle.book.specs.declared.plans.Effects.{Effects}
 use Rattle.book.specs.declared.plans.Plan.{Plan}
 use Rattle.book.specs.Effects.{effects_of, is_some, planned}
-use Rattle.book.specs.Seen.{seen}
 use Rattle.book.specs.Situations.{AreEffects, CanFollow, HasSituation, IsOrderly, StandsFor}
-use Rattle.book.specs.Sound.{IsSound, LeavesRoom}
+use Rattle.book.specs.Sound.{IsSound}
+use Rattle.book.specs.Room.{LeavesRoom}
+use Rattle.book.proofs.Accepting.{themselves}
 use Rattle.book.proofs.Deciding.{decision_near}
 use Rattle.book.proofs.Effected.{before_then, effects_there, few_there, notes_before}
 use Rattle.windows.specs.Notes.{AreNotAfter}
@@ -115,7 +116,7 @@ follows_there opening service moment lines rolled number seat raw now e d book n
 
 pub book_step : (opening : Opening) (service after : Parts) (moment : ℕ) (lines : List EntryData) (rolled : Rolled) (number seat raw now : ℕ) (e : Event) (d : Decision)
     → IsBook opening service moment lines rolled → number ≡ opening.line + length lines → now ≡ max raw moment → d ≡ decision (situation_of (past_of (journal opening lines rolled))) now (seen e) → is_entered d.reply ≡ true → now < 2 ^ 64 → seat < 2 ^ 32
-    → IsSafeEvent (seen e) → StandsFor after (length lines - rolled.lines + 1) (situation_after (situation_of (past_of (journal opening lines rolled))) (line number seat (seen e) now d.reply) d.next)
+    → IsEvent IsSafeProgram (seen e) → StandsFor after (length lines - rolled.lines + 1) (situation_after (situation_of (past_of (journal opening lines rolled))) (line number seat (seen e) now d.reply) d.next)
     → after.refused ≡ refused_after (past_of (journal opening lines rolled)).standing d.next service.refused (is_refused_call d.reply)
     → IsBook opening after now (lines ++ line number seat (seen e) now d.reply ∷ []) rolled
 book_step opening service after moment lines rolled number seat raw now e d book numbered raised_ decided entered word bits safe_ stands_ refused_ =
@@ -131,7 +132,7 @@ book_step opening service after moment lines rolled number seat raw now e d book
     ap (λ (n : Standing). situation_after (situation_of past) l n) next ∙ sym (situated_step past l book.sound held_there follows) ∙ ap situation_of (sym with_) in
     record {
       legal = legal_step opening lines rolled l book.legal follows;
-      sound = subst (λ (p : Past). IsSound p) (sym with_) (sound_step past l book.sound follows (record { word = word; seat = bits; event = safe_ }));
+      sound = subst (λ (p : Past). IsSound IsSafeProgram p) (sym with_) (sound_step IsSafeProgram themselves past l book.sound follows (record { word = word; seat = bits; event = safe_ }));
       there = omega (arith, book.there, length-append lines (l ∷ []));
       room = subst (λ (p : Past). LeavesRoom p) (sym with_) (room_step past l book.sound held_there follows book.room);
       situated = subst (λ (n : ℕ). StandsFor after n (situation_of (past_of (journal opening (lines ++ l ∷ []) rolled)))) (omega (arith, book.there, length-append lines (l ∷ []))) (subst (λ (s : Situation). StandsFor after (length lines - rolled.lines + 1) s) there stands_);
@@ -181,7 +182,7 @@ can_follow opening service moment lines rolled raw now e plan book raised_ plann
 -- the parts after a plan are those of the book with its line
 pub taken_there : (start : Start) (service after : Parts) (moment : ℕ) (lines entries : List EntryData) (rolled : Rolled) (number seat raw now : ℕ) (e : Event) (plan : Plan)
     → IsBook (opening_of service.config start) service moment lines rolled → number ≡ start.line + length lines → now ≡ max raw moment
-    → plan ≡ planned service.config now (seen e) (decision (situation_of (past_of (journal (opening_of service.config start) lines rolled))) now (seen e)) → is_entered plan.decision.reply ≡ true → now < 2 ^ 64 → seat < 2 ^ 32 → IsSafeEvent (seen e)
+    → plan ≡ planned service.config now (seen e) (decision (situation_of (past_of (journal (opening_of service.config start) lines rolled))) now (seen e)) → is_entered plan.decision.reply ≡ true → now < 2 ^ 64 → seat < 2 ^ 32 → IsEvent IsSafeProgram (seen e)
     → ((held : ℕ) (s : Situation) → StandsFor service held s → IsOrderly s → AreEffects s plan.decision.next plan.effects → StandsFor after (held + 1) (followed s plan.decision.next plan.effects (install_by (seen e) plan.decision.reply)))
     → ((held : ℕ) (s : Situation) → StandsFor service held s → after.refused ≡ refused_after s.standing plan.decision.next service.refused plan.effects.refuses_call)
     → after.config ≡ service.config → entries ≡ lines ++ line number seat (seen e) now plan.decision.reply ∷ []

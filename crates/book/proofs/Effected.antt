@@ -13,6 +13,7 @@ use Rattle.service_profile.specs.Histories.{Past, Stage, note_at, note_by, notes
 use Rattle.service_profile.specs.Limits.{most_versions}
 use Rattle.service_profile.specs.Machine.{Situation}
 use Rattle.windows.specs.Notes.{AreNotAfter}
+use Rattle.book.specs.Accepted.{Accepting}
 use Rattle.book.specs.Effects.{effects_of}
 use Rattle.book.specs.Situations.{AreEffects, next_open}
 use Rattle.book.specs.Sound.{IsSound}
@@ -73,7 +74,7 @@ before_then first later notes le h = all_weaken (λ (n : Note). n.moment ≤ fir
 
 -- ---- the effects of a decision
 
-pub effects_there : (past : Past) (now : ℕ) (event : EventData) → IsSound past → greatest past ≤ now → AreEffects (situation_of past) (machine past now event).next (effects_of past.opening.config now event (machine past now event))
+pub effects_there : {accepts : Accepting} (past : Past) (now : ℕ) (event : EventData) → IsSound accepts past → greatest past ≤ now → AreEffects (situation_of past) (machine past now event).next (effects_of past.opening.config now event (machine past now event))
 effects_there past now event sound le =
     let s : Situation = situation_of past in
     let d : Decision = machine past now event in
@@ -85,5 +86,5 @@ effects_there past now event sound le =
       note = λ n e. before_then (greatest past) n.moment (notes_of past) (omega (arith, le, note_moment past.opening.config now event d.reply n e)) (notes_before past);
     }
 
-pub few_there : (past : Past) (now : ℕ) (event : EventData) (program : VerifiedProgram) → IsSound past → install_by event (machine past now event).reply ≡ Some program → length (situation_of past).programs - (situation_of past).dropped < most_versions
+pub few_there : {accepts : Accepting} (past : Past) (now : ℕ) (event : EventData) (program : VerifiedProgram) → IsSound accepts past → install_by event (machine past now event).reply ≡ Some program → length (situation_of past).programs - (situation_of past).dropped < most_versions
 few_there past now event program sound h = installs_few (situation_of past) event (machine past now event) program (decision_shape (situation_of past) now event (open_are_issued past sound)) h

@@ -4,7 +4,7 @@ use Rattle.std.specs.List.{filter, AllByRecursion}
 use Rattle.std.proofs.lemmas.Bool.Decides.{Decides-eqb}
 use Rattle.service_profile.specs.declared.tickets.OpenTicket.{OpenTicket}
 use Rattle.service_profile.specs.Machine.{open_ticket, permissions_held}
-use Rattle.service_profile.specs.Windows.{one_where}
+use Rattle.service_profile.specs.RunningTotals.{one_where}
 use Rattle.std.specs.List.Sorted.{IsStrictlySortedBy}
 use Rattle.std.specs.Ordering.{nat_cmp}
 use Rattle.std.proofs.lemmas.Map.Keys.{sorted_from_strictly_increasing}

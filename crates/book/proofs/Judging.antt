@@ -1,5 +1,6 @@
 -- The verdict of a safe program is the meaning's, and judged work carries it.
 use Rattle.std.proofs.Common.{◌≡◌, ◌&&◌, ◌==◌, ℕ, zero, suc, ◌-◌, ◌<◌, nat_le, Bool, true, if◌then◌else◌, List, slice_get, Option, Some, None, Ok, arith, ap, sym, ◌∙◌, subst, rules}
+use Rattle.std.specs.List.{AllByRecursion}
 use Rattle.std.specs.Option.{option_map_or}
 use Rattle.bpf_profile.specs.declared.layout.Layout.{Layout}
 use Rattle.bpf_profile.specs.declared.machine.Verdict.{Verdict}
@@ -18,7 +19,7 @@ use Rattle.bpf_decode.proofs.Spelled.{same_slots}
 use Rattle.bpf_profile.specs.Programs.{VerifiedProgram}
 use Rattle.service_profile.specs.declared.decisions.Judgement.{Judgement}
 use Rattle.service_profile.specs.Machine.{program_from}
-use Rattle.book.specs.Safe.{IsSafeProgram, AreSafePrograms}
+use Rattle.book.specs.Accepted.{Accepting, IsSafeProgram}
 use Rattle.book.proofs.Lists.{got}
 use Rattle.service_profile.specs.Verdicts.{Ending, one_later, ending_of, ending_within, verdict_of, judged_as, judgement}
 
@@ -82,9 +83,9 @@ judgement_judges program outcome safe_ fits =
     let same = judgement_is program outcome name.0 ends.1 safe_.safe fits judges in
     subst (λ (j : Judgement). Judges (context_size program.layout) program.slots outcome j.verdict j.steps) (sym same) judges
 
-program_by : (test : Bool) (programs : List VerifiedProgram) (place : ℕ) (program : VerifiedProgram) → AreSafePrograms programs → (if test then slice_get programs place else None) ≡ Some program → IsSafeProgram program
-program_by test programs place program all e = search (rules, got)
+program_by : (accepts : Accepting) (test : Bool) (programs : List VerifiedProgram) (place : ℕ) (program : VerifiedProgram) → AllByRecursion accepts programs → (if test then slice_get programs place else None) ≡ Some program → accepts program
+program_by accepts test programs place program all e = search (rules, got)
 
--- the program of a version that is held is safe
-pub program_safe : (first : ℕ) (programs : List VerifiedProgram) (version : ℕ) (program : VerifiedProgram) → AreSafePrograms programs → program_from first programs version ≡ Some program → IsSafeProgram program
-program_safe first programs version program all e = program_by (nat_le first version) programs (version - first) program all e
+-- the program of a version that is held is accepted
+pub program_accepted : (accepts : Accepting) (first : ℕ) (programs : List VerifiedProgram) (version : ℕ) (program : VerifiedProgram) → AllByRecursion accepts programs → program_from first programs version ≡ Some program → accepts program
+program_accepted accepts first programs version program all e = program_by accepts (nat_le first version) programs (version - first) program all e

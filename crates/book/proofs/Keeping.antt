@@ -16,11 +16,13 @@ use Rattle.service_profile.specs.Events.{EventData, acquires, finishes, releases
 use Rattle.book.specs.Following.{is_number, tickets_after, one_where_some, notes_after, situation_after}
 use Rattle.service_profile.specs.Histories.{Stage, Past, issue_by, issue_at, issued, end_by, end_at, ended, open_of, install_by, install_at, programs_of, notes_of, situation_of, machine, passed, Follows, note_by}
 use Rattle.service_profile.specs.Machine.{Situation, used, is_open, is_entered, permissions_held}
-use Rattle.book.specs.Safe.{IsSafeProgram, AreSafePrograms, IsSafeEvent, IsSafeLine}
+use Rattle.book.specs.Accepted.{Accepting, IsSafeProgram, IsEvent, IsLine}
 use Rattle.service_profile.specs.MeantVerdicts.{IsMeantLine}
-use Rattle.book.specs.Sound.{IsSound, LeavesRoom, next_ticket}
+use Rattle.book.specs.Sound.{IsSound, next_ticket}
+use Rattle.book.specs.Room.{LeavesRoom}
 use Rattle.book.proofs.Deciding.{Shape, refuses, permits, concludes, lets_go, takes_in, turns, decision_shape, decision_near, OpenAreIssued}
 use Rattle.service_profile.specs.Standings.{is_half_open}
+use Rattle.book.proofs.Accepting.{Safely, programs_safe, event_safe}
 use Rattle.book.proofs.Configured.{ranges, within_least}
 use Rattle.book.proofs.Meaning.{still_meant, meant_by}
 use Rattle.book.proofs.Permissions.{permissions_after}
@@ -112,21 +114,21 @@ all_issued : (next : ℕ) (tickets : List OpenTicket) (number : ℕ) → AllByRe
 all_issued next [] number h e = let bad : ◌≡◌ {A = Bool} false true = e in cc
 all_issued next (t ∷ tickets) number h e = search (rules, all_issued next tickets number h.1)
 
-pub open_are_issued : (past : Past) → IsSound past → OpenAreIssued (situation_of past)
+pub open_are_issued : {accepts : Accepting} (past : Past) → IsSound accepts past → OpenAreIssued (situation_of past)
 open_are_issued past sound = λ number e.
     let range = all_issued (next_ticket past) (open_of past.stages) number sound.open_issued e in
     in_range (next_ticket past) number range.0 range.1
 
-pub shape_there : (past : Past) (line : EntryData) → IsSound past → Shape (situation_of past) line.event (machine past line.moment line.event)
+pub shape_there : {accepts : Accepting} (past : Past) (line : EntryData) → IsSound accepts past → Shape (situation_of past) line.event (machine past line.moment line.event)
 shape_there past line sound = decision_shape (situation_of past) line.moment line.event (open_are_issued past sound)
 
-pub move_there : (past : Past) (line : EntryData) → IsSound past → Follows past line → IsMove (length past.stages - past.rolled.lines) (open_of past.stages) (next_ticket past) (length (programs_of past) - past.rolled.programs) line.event line.reply (next_standing past line).period
+pub move_there : {accepts : Accepting} (past : Past) (line : EntryData) → IsSound accepts past → Follows past line → IsMove (length past.stages - past.rolled.lines) (open_of past.stages) (next_ticket past) (length (programs_of past) - past.rolled.programs) line.event line.reply (next_standing past line).period
 move_there past line sound follows =
     let entered = subst (λ (r : Reply). is_entered r ≡ true) follows.replied follows.entered in
     let move = move_of (situation_of past) line.event (machine past line.moment line.event) (shape_there past line sound) entered sound.used sound.versions in
     subst (λ (r : Reply). IsMove (length past.stages - past.rolled.lines) (open_of past.stages) (next_ticket past) (length (programs_of past) - past.rolled.programs) line.event r (next_standing past line).period) (sym follows.replied) move
 
-pub situated_step : (past : Past) (line : EntryData) → IsSound past → past.rolled.lines ≤ length past.stages → Follows past line → situation_of (passed past line) ≡ situation_after (situation_of past) line (next_standing past line)
+pub situated_step : {accepts : Accepting} (past : Past) (line : EntryData) → IsSound accepts past → past.rolled.lines ≤ length past.stages → Follows past line → situation_of (passed past line) ≡ situation_after (situation_of past) line (next_standing past line)
 situated_step past line sound held_there follows =
     let near = decision_near (situation_of past) line.moment line.event in
     let move = move_there past line sound follows in
@@ -140,7 +142,7 @@ situated_step past line sound held_there follows =
 abbrev Before : ℕ → Stage → Type 0
 Before period stage = (stage.before.period ≤ period) × (stage.after.period ≤ period)
 
-periods_step : (past : Past) (line : EntryData) → IsSound past → AreBefore (next_standing past line).period (past.stages ++ stage_of past line ∷ [])
+periods_step : {accepts : Accepting} (past : Past) (line : EntryData) → IsSound accepts past → AreBefore (next_standing past line).period (past.stages ++ stage_of past line ∷ [])
 periods_step past line sound = grind (arith, common_steps, decision_near, all_weaken)
 
 ended_there : (next later : ℕ) (tickets : List OpenTicket) (o : Option ℕ) → next ≤ later → AllByRecursion (λ ticket. (1 ≤ ticket.number) × (ticket.number < next)) tickets
@@ -148,7 +150,7 @@ ended_there : (next later : ℕ) (tickets : List OpenTicket) (o : Option ℕ) �
 ended_there next later tickets None le issued_ there = tt
 ended_there next later tickets (Some n) le issued_ there = (omega (arith, le, (all_issued next tickets n issued_ (there n refl)).1), tt)
 
-ended_step : (past : Past) (line : EntryData) → IsSound past → Follows past line → next_ticket past ≤ next_ticket (passed past line) → AllByRecursion (λ number. number < next_ticket (passed past line)) (ended (passed past line).stages)
+ended_step : {accepts : Accepting} (past : Past) (line : EntryData) → IsSound accepts past → Follows past line → next_ticket past ≤ next_ticket (passed past line) → AllByRecursion (λ number. number < next_ticket (passed past line)) (ended (passed past line).stages)
 ended_step past line sound follows le =
     let move = move_there past line sound follows in
     let later : ℕ = next_ticket (passed past line) in
@@ -160,7 +162,7 @@ ended_step past line sound follows le =
 issued_there : (next later : ℕ) (o : Option OpenTicket) (e : Option ℕ) → 1 ≤ next → IsFresh next e o → next + one_where_some o ≡ later → AllByRecursion (λ ticket. (1 ≤ ticket.number) × (ticket.number < later)) (option_to_list o)
 issued_there next later o e first fresh le = search rules
 
-open_issued_step : (past : Past) (line : EntryData) → IsSound past → Follows past line → next_ticket past + one_where_some (issue_by line.reply (next_standing past line).period) ≡ next_ticket (passed past line)
+open_issued_step : {accepts : Accepting} (past : Past) (line : EntryData) → IsSound accepts past → Follows past line → next_ticket past + one_where_some (issue_by line.reply (next_standing past line).period) ≡ next_ticket (passed past line)
     → AllByRecursion (λ ticket. (1 ≤ ticket.number) × (ticket.number < next_ticket (passed past line))) (open_of (passed past line).stages)
 open_issued_step past line sound follows next =
     let move = move_there past line sound follows in
@@ -179,23 +181,37 @@ places_after : (s : Situation) (event : EventData) (d : Decision) → Shape s ev
 places_after s event d a le = search (rules, untouched, one_more, one_less)
 
 -- the tickets after a line, as the machine's reply has them
-tickets_there : (past : Past) (line : EntryData) → IsSound past → Follows past line
+tickets_there : {accepts : Accepting} (past : Past) (line : EntryData) → IsSound accepts past → Follows past line
     → open_of (passed past line).stages ≡ tickets_after (open_of past.stages) (end_by line.event (machine past line.moment line.event).reply) (issue_by (machine past line.moment line.event).reply (next_standing past line).period)
 tickets_there past line sound follows =
     open_step past.stages (stage_of past line) (next_ticket past) sound.ended (move_there past line sound follows).fresh
     ∙ ap (λ (r : Reply). tickets_after (open_of past.stages) (end_by line.event r) (issue_by r (next_standing past line).period)) follows.replied
 
-places_step : (past : Past) (line : EntryData) → IsSound past → Follows past line → length (open_of (passed past line).stages) ≤ past.opening.config.max_concurrent_calls
+places_step : {accepts : Accepting} (past : Past) (line : EntryData) → IsSound accepts past → Follows past line → length (open_of (passed past line).stages) ≤ past.opening.config.max_concurrent_calls
 places_step past line sound follows =
     omega (arith, ap length (tickets_there past line sound follows), places_after (situation_of past) line.event (machine past line.moment line.event) (shape_there past line sound) sound.places)
 
-ticket_periods_step : (past : Past) (line : EntryData) → IsSound past → Follows past line → AllByRecursion (λ ticket. ticket.period ≤ (next_standing past line).period) (open_of (passed past line).stages)
-ticket_periods_step past line sound follows = grind (arith, common_steps, decision_near, all_weaken, all_kept_by, tickets_there)
+issued_period : (r : Reply) (period : ℕ) → AllByRecursion (λ ticket. ticket.period ≤ period) (option_to_list (issue_by r period))
+issued_period r period = search rules
 
-some_permitted : (past : Past) → IsSound past → 1 ≤ past.opening.config.permitted_number_of_calls_in_half_open_state
+periods_after : (before period : ℕ) (tickets : List OpenTicket) (over : Option ℕ) (r : Reply) → before ≤ period → AllByRecursion (λ ticket. ticket.period ≤ before) tickets
+    → AllByRecursion (λ ticket. ticket.period ≤ period) (tickets_after tickets over (issue_by r period))
+periods_after before period tickets over r le all =
+    let Before : OpenTicket → Type 0 = λ ticket. ticket.period ≤ before in
+    let After : OpenTicket → Type 0 = λ ticket. ticket.period ≤ period in
+    let kept = all_kept_by After (λ (ticket : OpenTicket). not (is_number over ticket.number)) tickets (all_weaken Before After (λ ticket early. omega (arith, early, le)) tickets all) in
+    all_append After (filter (λ (ticket : OpenTicket). not (is_number over ticket.number)) tickets) (option_to_list (issue_by r period)) kept (issued_period r period)
+
+ticket_periods_step : {accepts : Accepting} (past : Past) (line : EntryData) → IsSound accepts past → Follows past line → AllByRecursion (λ ticket. ticket.period ≤ (next_standing past line).period) (open_of (passed past line).stages)
+ticket_periods_step past line sound follows =
+    let near = decision_near (situation_of past) line.moment line.event in
+    subst (λ (ts : List OpenTicket). AllByRecursion (λ ticket. ticket.period ≤ (next_standing past line).period) ts) (sym (tickets_there past line sound follows))
+    (periods_after past.standing.period (next_standing past line).period (open_of past.stages) (end_by line.event (machine past line.moment line.event).reply) (machine past line.moment line.event).reply near.least sound.ticket_periods)
+
+some_permitted : {accepts : Accepting} (past : Past) → IsSound accepts past → 1 ≤ past.opening.config.permitted_number_of_calls_in_half_open_state
 some_permitted past sound = within_least 1 10000 past.opening.config.permitted_number_of_calls_in_half_open_state (ranges past.opening.config sound.opening.config).permitted
 
-permissions_step : (past : Past) (line : EntryData) → IsSound past → Follows past line → is_half_open (next_standing past line).state ≡ true
+permissions_step : {accepts : Accepting} (past : Past) (line : EntryData) → IsSound accepts past → Follows past line → is_half_open (next_standing past line).state ≡ true
     → permissions_held (next_standing past line).period (open_of (passed past line).stages) + length (notes_of (passed past line)) ≤ past.opening.config.permitted_number_of_calls_in_half_open_state
 permissions_step past line sound follows half =
     let d : Decision = machine past line.moment line.event in
@@ -209,34 +225,34 @@ permissions_step past line sound follows half =
 one_at_most : {A : Type 0} (o : Option A) → one_where_some o ≤ 1
 one_at_most o = search rules
 
-installed_safe : (event : EventData) (o : Option VerifiedProgram) → ((p : VerifiedProgram) → o ≡ Some p → event ≡ installs p) → IsSafeEvent event → AreSafePrograms (option_to_list o)
-installed_safe event None from safe_ = tt
-installed_safe event (Some p) from safe_ = (safe_.installs_safe p (from p refl), tt)
+installed_accepted : (accepts : Accepting) (event : EventData) (o : Option VerifiedProgram) → ((p : VerifiedProgram) → o ≡ Some p → event ≡ installs p) → IsEvent accepts event → AllByRecursion accepts (option_to_list o)
+installed_accepted accepts event None from good = tt
+installed_accepted accepts event (Some p) from good = (good.installs_accepted p (from p refl), tt)
 
 -- what came before still carries the meaning's verdicts, and so does the line that comes
-meant_step : (past : Past) (line : EntryData) (programs : List VerifiedProgram) (tickets : List OpenTicket) → IsSound past → Follows past line → IsSafeEvent line.event
+meant_step : {accepts : Accepting} (past : Past) (line : EntryData) (programs : List VerifiedProgram) (tickets : List OpenTicket) → IsSound accepts past → AllByRecursion IsSafeProgram (programs_of past) → Follows past line → IsEvent IsSafeProgram line.event
     → AllByRecursion (λ stage. IsMeantLine past.opening.version (programs_of past ++ programs) (issued past.stages ++ tickets) stage.line) (past.stages ++ stage_of past line ∷ [])
-meant_step past line programs tickets sound follows safe_ =
+meant_step past line programs tickets sound held follows safe_ =
     let Before : Stage → Type 0 = λ stage. IsMeantLine past.opening.version (programs_of past) (issued past.stages) stage.line in
     let After : Stage → Type 0 = λ stage. IsMeantLine past.opening.version (programs_of past ++ programs) (issued past.stages ++ tickets) stage.line in
     let earlier = all_weaken Before After (λ (stage : Stage) meant work ticket f v steps version st e r. still_meant past.opening.version (programs_of past) programs (issued past.stages) tickets work ticket v steps version (meant work ticket f v steps version st e r)) past.stages sound.verdicts in
     all_append After past.stages (stage_of past line ∷ []) earlier (
       (λ work ticket f v steps version st e r. still_meant past.opening.version (programs_of past) programs (issued past.stages) tickets work ticket v steps version
-          (meant_by past line.event (machine past line.moment line.event) work ticket f v steps version st sound.programs (safe_.judged work ticket e) (shape_there past line sound) e (sym follows.replied ∙ r))),
+          (meant_by past line.event (machine past line.moment line.event) work ticket f v steps version st held (safe_.judged work ticket e) (shape_there past line sound) e (sym follows.replied ∙ r))),
       tt,
     )
 
-verdicts_step : (past : Past) (line : EntryData) → IsSound past → Follows past line → IsSafeEvent line.event
+verdicts_step : {accepts : Accepting} (past : Past) (line : EntryData) → IsSound accepts past → AllByRecursion IsSafeProgram (programs_of past) → Follows past line → IsEvent IsSafeProgram line.event
     → AllByRecursion (λ stage. IsMeantLine past.opening.version (programs_of (passed past line)) (issued (passed past line).stages) stage.line) (passed past line).stages
-verdicts_step past line sound follows safe_ =
+verdicts_step past line sound held follows safe_ =
     let programs : programs_of (passed past line) ≡ programs_of past ++ option_to_list (install_by line.event line.reply) = ap (λ (ps : List VerifiedProgram). past.opening.program ∷ ps) (map_with install_at past.stages (stage_of past line)) in
     let tickets : issued (passed past line).stages ≡ issued past.stages ++ option_to_list (issue_at (stage_of past line)) = map_with issue_at past.stages (stage_of past line) in
-    let all = meant_step past line (option_to_list (install_by line.event line.reply)) (option_to_list (issue_at (stage_of past line))) sound follows safe_ in
+    let all = meant_step past line (option_to_list (install_by line.event line.reply)) (option_to_list (issue_at (stage_of past line))) sound held follows safe_ in
     subst (λ (ps : List VerifiedProgram). AllByRecursion (λ stage. IsMeantLine past.opening.version ps (issued (passed past line).stages) stage.line) (passed past line).stages) (sym programs)
     (subst (λ (ts : List OpenTicket). AllByRecursion (λ stage. IsMeantLine past.opening.version (programs_of past ++ option_to_list (install_by line.event line.reply)) ts stage.line) (passed past line).stages) (sym tickets) all)
 
-pub sound_step : (past : Past) (line : EntryData) → IsSound past → Follows past line → IsSafeLine line → IsSound (passed past line)
-sound_step past line sound follows safe_ =
+pub sound_step : (accepts : Accepting) → Safely accepts → (past : Past) (line : EntryData) → IsSound accepts past → Follows past line → IsLine accepts line → IsSound accepts (passed past line)
+sound_step accepts safely past line sound follows good =
     let near = decision_near (situation_of past) line.moment line.event in
     let move = move_there past line sound follows in
     let held : length (passed past line).stages ≡ length past.stages + 1 = length-append past.stages (stage_of past line ∷ []) in
@@ -256,10 +272,10 @@ sound_step past line sound follows safe_ =
       permissions = permissions_step past line sound follows;
       used = omega (arith, held, ap length tickets, move.room);
       versions = omega (arith, ap length programs, length-append (programs_of past) (option_to_list (install_by line.event line.reply)), move.versions_held);
-      programs = subst (λ (ps : List VerifiedProgram). AreSafePrograms ps) (sym programs) (all_append IsSafeProgram (programs_of past) (option_to_list (install_by line.event line.reply)) sound.programs (installed_safe line.event (install_by line.event line.reply) move.installed safe_.event));
-      lines = all_append (λ (stage : Stage). IsSafeLine stage.line) past.stages (stage_of past line ∷ []) sound.lines (safe_, tt);
-      verdicts = verdicts_step past line sound follows safe_.event;
-      moment = rw (greatest_step past.opening.moment past.stages (stage_of past line) follows.raises) safe_.word;
+      programs = subst (λ (ps : List VerifiedProgram). AllByRecursion accepts ps) (sym programs) (all_append accepts (programs_of past) (option_to_list (install_by line.event line.reply)) sound.programs (installed_accepted accepts line.event (install_by line.event line.reply) move.installed good.event));
+      lines = all_append (λ (stage : Stage). IsLine accepts stage.line) past.stages (stage_of past line ∷ []) sound.lines (good, tt);
+      verdicts = verdicts_step past line sound (programs_safe accepts safely (programs_of past) sound.programs) follows (event_safe accepts safely line.event good.event);
+      moment = rw (greatest_step past.opening.moment past.stages (stage_of past line) follows.raises) good.word;
     }
 
 -- a line installs at most one program
@@ -267,5 +283,5 @@ one_installed : (past : Past) (line : EntryData) → length (programs_of (passed
 one_installed past line = search (rules, map_with, length-append)
 
 -- a line takes at most one number, one version, and two periods
-pub room_step : (past : Past) (line : EntryData) → IsSound past → past.rolled.lines ≤ length past.stages → Follows past line → LeavesRoom past → LeavesRoom (passed past line)
+pub room_step : {accepts : Accepting} (past : Past) (line : EntryData) → IsSound accepts past → past.rolled.lines ≤ length past.stages → Follows past line → LeavesRoom past → LeavesRoom (passed past line)
 room_step past line sound held_there follows room = search (rules, decision_near, length-append, issued_step, one_installed)

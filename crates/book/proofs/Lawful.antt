@@ -13,10 +13,10 @@ use Rattle.service_profile.specs.declared.replies.Reply.TheVariants as reply
 use Rattle.service_profile.specs.declared.states.State.{State}
 use Rattle.service_profile.specs.Events.{EventData, finishes, EntryData, Opening, History}
 use Rattle.service_profile.specs.Histories.{Stage, Past, programs_of, note_by, ended, issued, is_listed, open_of, opened, passed, past_of, next_line, situation_of, machine, Follows, AreLegal, IsLegal}
-use Rattle.book.specs.Laws.{IsLine, IsService, IsMeantNote, HasMeantNote}
+use Rattle.book.specs.Laws.{IsService, IsMeantNote, HasMeantNote}
 use Rattle.service_profile.specs.Answers.{cut}
 use Rattle.service_profile.specs.Machine.{is_open, note_of}
-use Rattle.book.specs.Safe.{IsVerifiedProgram}
+use Rattle.book.specs.Accepted.{Accepting, IsLine}
 use Rattle.service_profile.specs.Openings.{IsOpening}
 use Rattle.service_profile.specs.MeantVerdicts.{IsMeantLine}
 use Rattle.book.specs.Sound.{IsSound}
@@ -26,19 +26,19 @@ use Rattle.book.proofs.Deciding.{Shape}
 use Rattle.book.proofs.Keeping.{shape_there, sound_step}
 use Rattle.book.proofs.Openings.{sound_opened}
 use Rattle.book.proofs.Lists.{all_weaken}
-use Rattle.book.proofs.SafeEvents.{Safely, safe_program, line_safe}
+use Rattle.book.proofs.Accepting.{Safely}
 use Rattle.book.proofs.Worlds.{cut_opening, cut_program}
 
-sound_from : Safely → (past : Past) (lines : List EntryData) → IsSound past → AreLegal past lines → AllByRecursion IsLine lines → IsSound (fold passed past lines)
-sound_from safely past [] sound legal good = sound
-sound_from safely past (l ∷ lines) sound legal good = sound_from safely (passed past l) lines (sound_step past l sound legal.0 (line_safe safely l good.0)) legal.1 good.1
+sound_from : (accepts : Accepting) → Safely accepts → (past : Past) (lines : List EntryData) → IsSound accepts past → AreLegal past lines → AllByRecursion (IsLine accepts) lines → IsSound accepts (fold passed past lines)
+sound_from accepts safely past [] sound legal good = sound
+sound_from accepts safely past (l ∷ lines) sound legal good = sound_from accepts safely (passed past l) lines (sound_step accepts safely past l sound legal.0 good.0) legal.1 good.1
 
-pub service_sound : Safely → (history : History) → IsService history → IsSound (past_of history)
+pub service_sound : (accepts : Accepting) → Safely accepts → (history : History) → IsService accepts history → IsSound accepts (past_of history)
 unfolding IsLegal
-service_sound safely history service = sound_from safely (opened history.rolled history.opening) history.lines (sound_opened history.opening history.rolled service.opening (safe_program safely history.opening.program service.program)) service.legal service.lines
+service_sound accepts safely history service = sound_from accepts safely (opened history.rolled history.opening) history.lines (sound_opened accepts history.opening history.rolled service.opening service.program) service.legal service.lines
 
-pub places_kept : Safely → (history : History) → IsService history → length (open_of (past_of history).stages) ≤ history.opening.config.max_concurrent_calls
-places_kept safely history service = search (rules, service_sound, same_opening)
+pub places_kept : (accepts : Accepting) → Safely accepts → (history : History) → IsService accepts history → length (open_of (past_of history).stages) ≤ history.opening.config.max_concurrent_calls
+places_kept accepts safely history service = omega (arith, (service_sound accepts safely history service).places, ap (λ (o : Opening). o.config.max_concurrent_calls) (same_opening history.opening history.lines history.rolled))
 
 -- ---- numbers
 
@@ -79,10 +79,10 @@ unnoted config moment event f steps version st h = search rules
 ignored_fate : (past : Past) (event : EventData) (d : Decision) (f : Fate) (steps version : ℕ) (st : State) → Shape (situation_of past) event d → d.reply ≡ reply.Finished f verdict.Ignored steps version st → f ≡ fate.Recorded → ⊥
 ignored_fate past event d f steps version st a r h = search rules
 
-pub ignored_unnoted : Safely → (history : History) (l : EntryData) (f : Fate) (steps version : ℕ) (st : State) → IsService history → Follows (past_of history) l → l.reply ≡ reply.Finished f verdict.Ignored steps version st
+pub ignored_unnoted : (accepts : Accepting) → Safely accepts → (history : History) (l : EntryData) (f : Fate) (steps version : ℕ) (st : State) → IsService accepts history → Follows (past_of history) l → l.reply ≡ reply.Finished f verdict.Ignored steps version st
     → note_by history.opening.config l.moment l.event l.reply ≡ None
-ignored_unnoted safely history l f steps version st service follows r =
-    let sound = service_sound safely history service in
+ignored_unnoted accepts safely history l f steps version st service follows r =
+    let sound = service_sound accepts safely history service in
     let past : Past = past_of history in
     rw r (unnoted history.opening.config l.moment l.event f steps version st (ignored_fate past l.event (machine past l.moment l.event) f steps version st (shape_there past l sound) (sym follows.replied ∙ r)))
 
@@ -108,17 +108,17 @@ noted_by past line event r note e s n meant = no_note n
     no_note : {A : Type 0} → ◌≡◌ {A = Option Note} None (Some note) → A
     no_note f = cc
 
-pub notes_meant : Safely → (history : History) → IsService history → AllByRecursion (HasMeantNote (past_of history)) (past_of history).stages
-notes_meant safely history service =
+pub notes_meant : (accepts : Accepting) → Safely accepts → (history : History) → IsService accepts history → AllByRecursion (HasMeantNote (past_of history)) (past_of history).stages
+notes_meant accepts safely history service =
     let past : Past = past_of history in
-    let sound = service_sound safely history service in
+    let sound = service_sound accepts safely history service in
     all_weaken (λ (stage : Stage). IsMeantLine past.opening.version (programs_of past) (issued past.stages) stage.line) (HasMeantNote past)
     (λ (stage : Stage) meant note n. noted_by past stage.line stage.line.event stage.line.reply note refl refl n meant) past.stages sound.verdicts
 
 -- ---- cuts
 
--- a cut leaves a good opening, with a verified program
-pub cut_well : Safely → (history : History) (opening : Opening) → IsService history → cut (past_of history) ≡ Ok opening → IsOpening opening × IsVerifiedProgram opening.program
-cut_well safely history opening service e =
-    let sound = service_sound safely history service in
-    (cut_opening (past_of history) opening sound e, (cut_program (past_of history) opening sound e).verified)
+-- a cut leaves a good opening, with an accepted program
+pub cut_well : (accepts : Accepting) → Safely accepts → (history : History) (opening : Opening) → IsService accepts history → cut (past_of history) ≡ Ok opening → IsOpening opening × accepts opening.program
+cut_well accepts safely history opening service e =
+    let sound = service_sound accepts safely history service in
+    (cut_opening (past_of history) opening sound e, cut_program accepts (past_of history) opening sound e)

@@ -3,7 +3,7 @@ pub mod Judging
 pub mod Configured
 pub mod Deciding
 pub mod Meaning
-pub mod SafeEvents
+pub mod Accepting
 pub mod Passing
 pub mod Planned
 pub mod Finds
@@ -18,6 +18,7 @@ pub mod Applying
 pub mod Openings
 pub mod Worlds
 pub mod Courses
+pub mod Driven
 pub mod Cuts
 pub mod Lawful
 pub mod Rolled

@@ -1,7 +1,7 @@
 -- The verdict of a finished call is the meaning's for the version that its ticket names.
 use Rattle.std.proofs.Common.{◌≡◌, ℕ, ◌-◌, nat_le, ◌==◌, Bool, true, false, cond, if◌then◌else◌, List, [], ◌∷◌, ◌++◌, slice_get, Option, Some, None, arith, refl, ap, sym, ◌∙◌, subst, rules}
 use Rattle.std.specs.Prelude.{Contains}
-use Rattle.std.specs.List.{filter}
+use Rattle.std.specs.List.{filter, AllByRecursion}
 use Rattle.std.proofs.lemmas.Bool.Decides.{Decides-eqb}
 use Rattle.std.proofs.lemmas.List.Elements.{Contains-append_left, Contains-append_right}
 use Rattle.bpf_profile.specs.declared.machine.Verdict.{Verdict}
@@ -17,12 +17,12 @@ use Rattle.service_profile.specs.declared.states.State.{State}
 use Rattle.service_profile.specs.Events.{EventData, finishes}
 use Rattle.service_profile.specs.Histories.{Past, issued, programs_of, situation_of}
 use Rattle.service_profile.specs.Machine.{open_ticket}
-use Rattle.book.specs.Safe.{AreSafePrograms, IsJudged}
+use Rattle.book.specs.Accepted.{IsSafeProgram, IsJudged}
 use Rattle.service_profile.specs.MeantVerdicts.{IsMeant}
 use Rattle.service_profile.specs.Verdicts.{judgement}
 use Rattle.bpf_profile.proofs.Layouts.{fits_layout}
 use Rattle.book.proofs.Deciding.{Shape, IsByVersion}
-use Rattle.book.proofs.Judging.{judgement_judges, program_safe}
+use Rattle.book.proofs.Judging.{judgement_judges, program_accepted}
 use Rattle.book.proofs.Lists.{still_there}
 
 -- ---- an open ticket was issued under its number
@@ -62,11 +62,11 @@ still_meant first programs more tickets others work ticket v steps version meant
 
 -- ---- the line that comes
 
-by_version : (past : Past) (work : JudgedData) (ticket : ℕ) (v : Verdict) (steps version : ℕ) → AreSafePrograms (programs_of past) → IsJudged work → IsByVersion (situation_of past) work ticket v steps version
+by_version : (past : Past) (work : JudgedData) (ticket : ℕ) (v : Verdict) (steps version : ℕ) → AllByRecursion IsSafeProgram (programs_of past) → IsJudged IsSafeProgram work → IsByVersion (situation_of past) work ticket v steps version
     → IsMeant past.opening.version (programs_of past) (issued past.stages) work ticket v steps version
 by_version past work ticket v steps version safe_ judged_ is =
     let there = found_there _ (issued past.stages) ticket is.opened is.found in
-    let good = program_safe past.opening.version (programs_of past) version is.program safe_ is.held in
+    let good = program_accepted IsSafeProgram past.opening.version (programs_of past) version is.program safe_ is.held in
     let judges = judgement_judges is.program work.outcome good (fits_layout is.program.layout work.outcome judged_.outcome) in
     record {
       issued = is.opened;
@@ -79,6 +79,6 @@ by_version past work ticket v steps version safe_ judged_ is =
     }
 
 pub meant_by : (past : Past) (event : EventData) (d : Decision) (work : JudgedData) (ticket : ℕ) (f : Fate) (v : Verdict) (steps version : ℕ) (st : State)
-    → AreSafePrograms (programs_of past) → IsJudged work → Shape (situation_of past) event d → event ≡ finishes work ticket → d.reply ≡ reply.Finished f v steps version st
+    → AllByRecursion IsSafeProgram (programs_of past) → IsJudged IsSafeProgram work → Shape (situation_of past) event d → event ≡ finishes work ticket → d.reply ≡ reply.Finished f v steps version st
     → IsMeant past.opening.version (programs_of past) (issued past.stages) work ticket v steps version
 meant_by past event d work ticket f v steps version st safe_ judged_ a same r = search (rules, by_version)

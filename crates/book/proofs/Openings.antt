@@ -1,7 +1,7 @@
 -- A book that has just been opened, and what any book shows.
 use Rattle.std.proofs.Common.{◌≡◌, ℕ, suc, ◌+◌, ◌-◌, ◌≤◌, ◌⊎◌, inl, inr, List, [], length, None, Result, Ok, Err, arith, ap, sym, ◌∙◌, rules}
 use Rattle.std.specs.Option.{option_map_or}
-use Rattle.book.specs.Safe.{IsSafeProgram}
+use Rattle.book.specs.Accepted.{Accepting, IsSafeProgram}
 use Rattle.refusals.specs.declared.RefusalNumber.{RefusalNumber}
 use Rattle.refusals.specs.declared.RefusalNumber.TheVariants as refusal
 use Rattle.bpf_profile.specs.Programs.{VerifiedProgram}
@@ -10,7 +10,8 @@ use Rattle.book.specs.declared.parts.Parts.{Parts}
 use Rattle.service_profile.specs.Answers.{IsLooked, looks, no_owner, looked, reading}
 use Rattle.service_profile.specs.declared.readings.Reading.{Reading}
 use Rattle.service_profile.specs.Machine.{current_version, program_from}
-use Rattle.service_profile.specs.Openings.{first_opening, IsOpening}
+use Rattle.service_profile.specs.Openings.{IsOpening}
+use Rattle.service_profile.specs.FirstOpening.{first_opening}
 use Rattle.service_profile.specs.Events.{history_of, nothing_rolled, EntryData, Rolled, History, Opening}
 use Rattle.book.specs.Books.{IsBook, journal}
 use Rattle.book.specs.Situations.{StandsFor, breaker_of}
@@ -21,8 +22,8 @@ use Rattle.service_profile.specs.Histories.{Past, opened, past_of, situation_of,
 use Rattle.book.specs.Sound.{IsSound}
 use Rattle.book.proofs.Applying.{same_opening, stage_count}
 
-pub sound_opened : (opening : Opening) (rolled : Rolled) → IsOpening opening → IsSafeProgram opening.program → IsSound (opened rolled opening)
-sound_opened opening rolled good program = search rules
+pub sound_opened : (accepts : Accepting) (opening : Opening) (rolled : Rolled) → IsOpening opening → accepts opening.program → IsSound accepts (opened rolled opening)
+sound_opened accepts opening rolled good program = search rules
 
 pub is_first : (config : ConfigParts) (program : VerifiedProgram) → bad_field config ≡ None → IsOpening (first_opening config program)
 is_first config program good = search rules
@@ -32,7 +33,7 @@ unfolding IsLegal
 legal_opened opening = tt
 
 pub first_book : (opening : Opening) (service : Parts) → IsOpening opening → IsSafeProgram opening.program → StandsFor service 0 (situation_of (opened nothing_rolled opening)) → service.refused ≡ 0 → IsBook opening service opening.moment [] nothing_rolled
-first_book opening service good program stands none = search (rules, legal_opened)
+first_book opening service good program stands none = search (rules, legal_opened, sound_opened)
 
 -- ---- what a book shows
 

@@ -17,7 +17,7 @@ use Rattle.service_profile.specs.Rates.{after_notes}
 use Rattle.service_profile.specs.declared.standings.Standing.{Standing}
 use Rattle.service_profile.specs.declared.tickets.OpenTicket.{OpenTicket}
 use Rattle.service_profile.specs.Events.{EventData, acquires, finishes, installs}
-use Rattle.service_profile.specs.Machine.{Situation, refused, permission_in, permissions_held, acquired, current_version, judged_as, fate_of, note_of, concluded, same_program, program_from, is_issued, open_ticket, finished, finished_by, finished_under, released, released_under, installed, is_full, decided, at_moment, decision, meant, decision_by}
+use Rattle.service_profile.specs.Machine.{Situation, refused, permission_in, permissions_held, acquired, current_version, judgement_of, fate_of, note_of, concluded, same_program, program_from, is_issued, open_ticket, finished, finished_by, finished_under, released, released_under, installed, is_full, decided, at_moment, decision, meant, decision_by}
 use Rattle.book.specs.declared.plans.Plan.{Plan}
 use Rattle.book.specs.Effects.{planned, permitted_plan, refused_plan, reported_plan}
 use Rattle.book.specs.Finding.{ticket_in}
@@ -81,12 +81,12 @@ call_permitted s moment p number version plan is given free n v e = search rules
 
 pub verdict_recorded : (s : Situation) (moment : ℕ) (ticket : OpenTicket) (work : JudgedData) (note : Note) (next : Standing) (plan : Plan) → fate_of s.standing ticket.period work.verdict ≡ fate.Recorded
     → note ≡ note_of s.config moment work.verdict work.outcome → next ≡ after_notes s.config note.moment s.standing (s.notes ++ note ∷ []) → plan ≡ reported_plan ticket work.verdict work.steps fate.Recorded (Some note) next
-    → plan ≡ planned s.config moment (finishes work ticket.number) (concluded s moment ticket work.outcome (judged_as work))
+    → plan ≡ planned s.config moment (finishes work ticket.number) (concluded s moment ticket work.outcome (judgement_of work))
 verdict_recorded s moment ticket work note next plan recorded is after e = search rules
 
 pub verdict_unrecorded : (s : Situation) (moment : ℕ) (ticket : OpenTicket) (work : JudgedData) (f : Fate) (plan : Plan) → f ≡ fate_of s.standing ticket.period work.verdict → f ≢ fate.Recorded
     → plan ≡ reported_plan ticket work.verdict work.steps f None s.standing
-    → plan ≡ planned s.config moment (finishes work ticket.number) (concluded s moment ticket work.outcome (judged_as work))
+    → plan ≡ planned s.config moment (finishes work ticket.number) (concluded s moment ticket work.outcome (judgement_of work))
 verdict_unrecorded s moment ticket work f plan is other e = search rules
 
 -- ---- what is planned under a ticket

@@ -14,7 +14,9 @@ use Rattle.book.specs.Books.{IsBook, all_lines, lines_handed, journal, opening_o
 use Rattle.book.specs.Following.{without_unneeded}
 use Rattle.book.specs.Rolling.{IsFurther, with_rolled}
 use Rattle.book.specs.Situations.{StandsFor}
-use Rattle.book.specs.Sound.{IsSound, LeavesRoom}
+use Rattle.book.specs.Accepted.{IsSafeProgram}
+use Rattle.book.specs.Sound.{IsSound}
+use Rattle.book.specs.Room.{LeavesRoom}
 use Rattle.book.proofs.Applying.{stage_count, same_opening, same_rolled}
 use Rattle.book.proofs.Rolled.{holding, rolled_legal}
 use Rattle.book.proofs.Versions.{dropped_told}
@@ -61,7 +63,7 @@ book_rolled opening service after moment lines rolled count book fresh few dropp
       there = few;
       room = subst (λ (p : Past). LeavesRoom p) (sym same) (room_there past more fresh);
       legal = legal.0;
-      sound = subst (λ (p : Past). IsSound p) (sym same) (sound_rolled past more book.sound (subst (λ (r : Rolled). IsFurther r more) (sym (same_rolled opening lines rolled)) further));
+      sound = subst (λ (p : Past). IsSound IsSafeProgram p) (sym same) (sound_rolled past more book.sound (subst (λ (r : Rolled). IsFurther r more) (sym (same_rolled opening lines rolled)) further));
       situated = subst (λ (p : Past). StandsFor after (length lines - more.lines) (situation_of p)) (sym same) (subst (λ (n : ℕ). StandsFor after n (situation_of (with_rolled more past))) held there);
       refused_calls = refused ∙ book.refused_calls ∙ ap refused_of (sym same);
       greatest_moment = book.greatest_moment ∙ ap greatest (sym same);

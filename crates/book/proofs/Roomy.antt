@@ -10,7 +10,10 @@ use Rattle.service_profile.specs.Answers.{answer, least_version, least_needed, c
 use Rattle.service_profile.specs.Events.{EventData, EntryData, installs, Opening, Rolled, History}
 use Rattle.service_profile.specs.Histories.{Past, past_of, next_line, situation_of, programs_of, raised, IsLegal}
 use Rattle.service_profile.specs.Machine.{Situation, Judging, is_full, used, current_version, decision, decision_by}
-use Rattle.book.specs.Interleavings.{replied, lacks_memory}
+use Rattle.book.specs.Accepted.{Accepting}
+use Rattle.service_profile.specs.Calls as call
+use Rattle.book.specs.Interleavings.{answered}
+use Rattle.book.specs.Memory.{lacks_memory}
 use Rattle.book.specs.Rolling.{with_rolled, versions_needed}
 use Rattle.book.specs.Sound.{IsSound}
 use Rattle.book.proofs.Applying.{stage_count, same_opening, same_rolled}
@@ -29,7 +32,7 @@ says_full (reply.Refused refusal.JournalFull) = true
 says_full other = false
 
 abbrev IsOther : Decision → Type 0
-IsOther d = (says_full d.reply ≡ false) × (lacks_memory (replied d.reply) ≡ false)
+IsOther d = (says_full d.reply ≡ false) × (lacks_memory (answered (call.replies d.reply)) ≡ false)
 
 decision_other : (s : Situation) (moment : ℕ) (event : EventData) → is_full s event ≡ false → IsOther (decision s moment event)
 unfolding decision_by
@@ -39,13 +42,13 @@ not_full : (r : Reply) → says_full r ≡ false → r ≡ reply.Refused refusal
 not_full r other e = let bad : ◌≡◌ {A = Bool} false true = sym other ∙ ap says_full e in cc
 
 -- the machine refuses nothing for want of memory
-pub decision_has_memory : (judging : Judging) (s : Situation) (moment : ℕ) (event : EventData) → lacks_memory (replied (decision_by judging s moment event).reply) ≡ false
+pub decision_has_memory : (judging : Judging) (s : Situation) (moment : ℕ) (event : EventData) → lacks_memory (answered (call.replies (decision_by judging s moment event).reply)) ≡ false
 unfolding decision_by
 decision_has_memory judging s moment event = search rules
 
 -- ---- a history
 
-roomy_after : (history : History) (last : ℕ) (event : EventData) → IsLegal history → IsSound (past_of history) → history.rolled.lines ≤ length history.lines → next_line (past_of history) ≤ suc last
+roomy_after : {accepts : Accepting} (history : History) (last : ℕ) (event : EventData) → IsLegal history → IsSound accepts (past_of history) → history.rolled.lines ≤ length history.lines → next_line (past_of history) ≤ suc last
     → is_full (situation_of (past_of (rolled_up_to history last))) event ≡ false
 roomy_after history last event legal sound there whole =
     let past : Past = past_of history in
@@ -53,7 +56,7 @@ roomy_after history last event legal sound there whole =
     ap (λ (p : Past). is_full (situation_of p) event) (rolled_legal history (taken_up_to history last) legal (roll_goes_further history last)).1
     ∙ roomy (situation_of (with_rolled (taken_up_to history last) past)) event (omega (arith, few, sound.places, stage_count history.opening history.lines history.rolled, ap (λ (o : Opening). o.line) (same_opening history.opening history.lines history.rolled)))
 
-rolled_up_roomy : (history : History) (last moment : ℕ) (event : EventData) → IsLegal history → IsSound (past_of history) → history.rolled.lines ≤ length history.lines → next_line (past_of history) ≤ suc last
+rolled_up_roomy : {accepts : Accepting} (history : History) (last moment : ℕ) (event : EventData) → IsLegal history → IsSound accepts (past_of history) → history.rolled.lines ≤ length history.lines → next_line (past_of history) ≤ suc last
     → (answer (rolled_up_to history last) moment event).reply ≡ reply.Refused refusal.JournalFull → ⊥
 rolled_up_roomy history last moment event legal sound there whole =
     let past : Past = past_of (rolled_up_to history last) in
@@ -65,7 +68,7 @@ left_by : (history : History) (last : ℕ) (lines : List EntryData) (after : His
 left_by history last lines after (rolls same left) = left ∙ ap (after_roll history last) (sym same)
 left_by history last lines after (no_room held allowed fewer lacks left) = search rules
 
-pub rolled_roomy : (history after : History) (last moment : ℕ) (lines : List EntryData) (event : EventData) → IsLegal history → IsSound (past_of history) → history.rolled.lines ≤ length history.lines → next_line (past_of history) ≤ suc last → IsRolled history last (Ok lines) after
+pub rolled_roomy : {accepts : Accepting} (history after : History) (last moment : ℕ) (lines : List EntryData) (event : EventData) → IsLegal history → IsSound accepts (past_of history) → history.rolled.lines ≤ length history.lines → next_line (past_of history) ≤ suc last → IsRolled history last (Ok lines) after
     → (answer after moment event).reply ≡ reply.Refused refusal.JournalFull → ⊥
 rolled_roomy history after last moment lines event legal sound there whole rolled full =
     rolled_up_roomy history last moment event legal sound there whole (ap (λ (h : History). (answer h moment event).reply) (sym (left_by history last lines after rolled)) ∙ full)

@@ -3,7 +3,7 @@ use Rattle.std.proofs.Common.{◌≡◌, ℕ, ◌+◌, ◌-◌, ◌≤◌, ◌<�
 use Rattle.std.specs.List.{AllByRecursion}
 use Rattle.std.specs.Option.{option_map, ok_or, IfSome, OnSome}
 use Rattle.std.specs.Result.{OnErr}
-use Rattle.service_profile.specs.Windows.{one_where}
+use Rattle.service_profile.specs.RunningTotals.{one_where}
 use Rattle.std.proofs.lemmas.Bool.Decides.{Decides-eqb}
 use Rattle.bpf_profile.specs.Programs.{VerifiedProgram}
 use Rattle.breaker.specs.Calls as calls

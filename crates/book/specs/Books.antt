@@ -8,8 +8,10 @@ use Rattle.book.specs.declared.parts.Parts.{Parts}
 use Rattle.service_profile.specs.declared.configuration.ConfigParts.{ConfigParts}
 use Rattle.service_profile.specs.Events.{EntryData, Opening, Rolled, History}
 use Rattle.service_profile.specs.Histories.{past_of, situation_of, refused_of, greatest, IsLegal}
+use Rattle.book.specs.Accepted.{IsSafeProgram}
 use Rattle.book.specs.Situations.{StandsFor}
-use Rattle.book.specs.Sound.{IsSound, LeavesRoom}
+use Rattle.book.specs.Sound.{IsSound}
+use Rattle.book.specs.Room.{LeavesRoom}
 
 abbrev pub opening_of : ConfigParts → Start → Opening
 opening_of config start = record {
@@ -41,7 +43,7 @@ pub record IsBook (opening : Opening) (service : Parts) (moment : ℕ) (lines : 
   pub there : rolled.lines ≤ length lines
   pub room : LeavesRoom (past_of (journal opening lines rolled))
   pub legal : IsLegal (journal opening lines rolled)
-  pub sound : IsSound (past_of (journal opening lines rolled))
+  pub sound : IsSound IsSafeProgram (past_of (journal opening lines rolled))
   pub situated : StandsFor service (length lines - rolled.lines) (situation_of (past_of (journal opening lines rolled)))
   pub refused_calls : service.refused ≡ refused_of (past_of (journal opening lines rolled))
   pub greatest_moment : moment ≡ greatest (past_of (journal opening lines rolled))

@@ -1,18 +1,18 @@
--- What is true of every legal history, and what keeps numbers below 2 ^ 64.
+-- What is true of every legal history.
 use Rattle.std.specs.Prelude.{◌≡◌, ℕ, ◌+◌, ◌-◌, ◌*◌, ◌^◌, ◌<◌, ◌≤◌, length, true}
 use Rattle.std.specs.List.{AllByRecursion}
-use Rattle.service_profile.specs.Limits.{most_versions, most_entries, greatest_number}
-use Rattle.service_profile.specs.Histories.{Past, ended, issued, notes_of, open_of, programs_of, greatest, next_line}
+use Rattle.service_profile.specs.Limits.{most_versions, most_entries}
+use Rattle.service_profile.specs.Histories.{Past, ended, issued, notes_of, open_of, programs_of, greatest}
 use Rattle.service_profile.specs.Machine.{permissions_held}
 use Rattle.service_profile.specs.MeantVerdicts.{IsMeantLine}
 use Rattle.service_profile.specs.Openings.{IsOpening}
 use Rattle.service_profile.specs.Standings.{is_half_open}
-use Rattle.book.specs.Safe.{AreSafePrograms, IsSafeLine}
+use Rattle.book.specs.Accepted.{Accepting, IsLine}
 
 abbrev pub next_ticket : Past → ℕ
 next_ticket past = past.opening.ticket + length (issued past.stages)
 
-pub record IsSound (past : Past) : Type 0 where
+pub record IsSound (accepts : Accepting) (past : Past) : Type 0 where
   pub opening : IsOpening past.opening
   -- no stage was taken in a later period, and a line makes at most two transitions
   pub periods : AllByRecursion (λ stage. (stage.before.period ≤ past.standing.period) × (stage.after.period ≤ past.standing.period)) past.stages
@@ -32,16 +32,9 @@ pub record IsSound (past : Past) : Type 0 where
   pub used : (length past.stages - past.rolled.lines) + length (open_of past.stages) ≤ most_entries
   -- the versions that are held
   pub versions : length (programs_of past) - past.rolled.programs ≤ most_versions
-  -- every program that was installed is safe
-  pub programs : AreSafePrograms (programs_of past)
+  -- every program that was installed is accepted
+  pub programs : AllByRecursion accepts (programs_of past)
   -- all work that came in was judged, and each verdict is the meaning's for the version that its ticket names
-  pub lines : AllByRecursion (λ stage. IsSafeLine stage.line) past.stages
+  pub lines : AllByRecursion (λ stage. IsLine accepts stage.line) past.stages
   pub verdicts : AllByRecursion (λ stage. IsMeantLine past.opening.version (programs_of past) (issued past.stages) stage.line) past.stages
   pub moment : greatest past < 2 ^ 64
-
--- when entries were last handed out, and when the book opened, no number was past its limit: since then each held line took at most one number, one version, and two periods
-pub record LeavesRoom (past : Past) : Type 0 where
-  pub line : next_line past ≤ greatest_number + (length past.stages - past.rolled.lines)
-  pub ticket : next_ticket past ≤ greatest_number + (length past.stages - past.rolled.lines)
-  pub period : past.standing.period ≤ greatest_number + 2 * (length past.stages - past.rolled.lines)
-  pub version : past.opening.version + length (programs_of past) ≤ greatest_number + 1 + (length past.stages - past.rolled.lines)

@@ -2,13 +2,13 @@
 ghost use Rattle.std.specs.Prelude.{◌≡◌, suc, ◌<◌, ◌≤◌, ◌+◌, ◌^◌, ℕ, length, map, ◌-◌, ◌⊎◌, [], OnOk, OnSome, IfOk, Ok, Err};
 ghost use Rattle.std.specs.Arc.{arc_value};
 ghost use Rattle.std.specs.Vec.{vec_len, vec_capacity};
-ghost use Rattle.service_profile.specs.Answers.{IsApplied, IsLooked, map_ok, reading, lines_from};
-ghost use Rattle.service_profile.specs.Openings.{first_opening, IsOpening};
+ghost use Rattle.service_profile.specs.Answers.{IsApplied, IsLooked, reading, lines_from, map_ok};
+ghost use Rattle.service_profile.specs.Openings.{IsOpening};
+ghost use Rattle.service_profile.specs.FirstOpening.{first_opening};
 ghost use Rattle.service_profile.specs.Events.{history_of};
 ghost use Rattle.book.specs.Books.{opening_of};
 ghost use Rattle.service_profile.specs.Histories.{IsLegal, past_of, situation_of, next_line};
-ghost use Rattle.book.specs.Seen.{seen};
-ghost use Rattle.book.specs.Safe.{IsSafeProgram};
+ghost use Rattle.book.specs.Accepted.{seen, IsSafeProgram};
 ghost use Rattle.book.specs.Sound.{IsSound};
 
 use crate::changes::{follow, know_config, know_event, know_program, owner_of};
@@ -67,7 +67,7 @@ impl Book {
     pub fn open(alloc: Global, config: Config, program: Verified) -> Result<Book, AllocError>
         ensures opened { IfOk result (λ book. book ≡ history_of (first_opening config program) []) }
         ensures legal { IfOk result IsLegal }
-        ensures sound { IfOk result (λ book. IsSound (past_of book)) }
+        ensures sound { IfOk result (λ book. IsSound IsSafeProgram (past_of book)) }
     {
         // What is known of a configuration and of a verified program is kept by the book.
         know_config(&config);
@@ -89,7 +89,7 @@ impl Book {
         requires program { IsSafeProgram (arc_value start.program) }
         ensures opened { IfOk result (λ book. book ≡ history_of (opening_of config start) []) }
         ensures legal { IfOk result IsLegal }
-        ensures sound { IfOk result (λ book. IsSound (past_of book)) }
+        ensures sound { IfOk result (λ book. IsSound IsSafeProgram (past_of book)) }
     {
         Ok(Book {
             service: Parts::new(alloc, config, &start)?,
@@ -108,9 +108,9 @@ impl Book {
     pub fn apply(&mut self, seat: u32, moment: u64, event: Event) -> Reply
         ensures applied { IsApplied self.old seat moment (seen event) result self.new }
         ensures legal_before { IsLegal self.old }
-        ensures sound_before { IsSound (past_of self.old) }
+        ensures sound_before { IsSound IsSafeProgram (past_of self.old) }
         ensures legal_after { IsLegal self.new }
-        ensures sound_after { IsSound (past_of self.new) }
+        ensures sound_after { IsSound IsSafeProgram (past_of self.new) }
     {
         let moment = moment.max(self.moment);
         let plan = decide(&self.service, self.entries.len(), moment, &event);
@@ -135,7 +135,7 @@ impl Book {
     pub fn look(&self, ticket: u64) -> Result<Arc<Verified>, RefusalNumber>
         ensures looked { IsLooked self.now ticket (map_ok arc_value result) }
         ensures legal { IsLegal self.now }
-        ensures sound { IsSound (past_of self.now) }
+        ensures sound { IsSound IsSafeProgram (past_of self.now) }
     {
         match self.service.look(ticket) {
             Ok(program) => owner_of(program),
@@ -148,7 +148,7 @@ impl Book {
     pub fn read(&self, moment: u64) -> Reading
         ensures reading { result ≡ reading (past_of self.now) moment }
         ensures legal { IsLegal self.now }
-        ensures sound { IsSound (past_of self.now) }
+        ensures sound { IsSound IsSafeProgram (past_of self.now) }
     {
         let service = &self.service;
         let metrics = service.metrics(moment.max(self.moment));
@@ -173,7 +173,7 @@ impl Book {
     pub fn entries(&self, from: u64) -> &[Entry]
         ensures entries { result.now ≡ lines_from self.now from }
         ensures legal { IsLegal self.now }
-        ensures sound { IsSound (past_of self.now) }
+        ensures sound { IsSound IsSafeProgram (past_of self.now) }
     {
         let passed = from.saturating_sub(self.start.line + self.rolled);
         let first = passed.min(self.entries.len() as u64) as usize;
@@ -184,7 +184,7 @@ impl Book {
     pub fn last_number(&self) -> u64
         ensures number { suc result ≡ next_line (past_of self.now) }
         ensures legal { IsLegal self.now }
-        ensures sound { IsSound (past_of self.now) }
+        ensures sound { IsSound IsSafeProgram (past_of self.now) }
     {
         self.start.line + self.rolled + self.entries.len() as u64 - 1
     }

@@ -4,7 +4,7 @@ ghost use Rattle.std.specs.Prelude.{◌≡◌, ℕ, None, IfSome};
 ghost use Rattle.std.specs.Arc.{arc_value};
 ghost use Rattle.book.specs.Counts.{HasRoomFor, IsFull, IsTurnedAway, cuts_by};
 ghost use Rattle.book.specs.Good.{IsGood};
-ghost use Rattle.book.specs.Seen.{seen};
+ghost use Rattle.book.specs.Accepted.{seen};
 ghost use Rattle.service_profile.specs.Answers.{map_ok};
 ghost use Rattle.service_profile.specs.Calls.{CallData, CallAnswer, IsCalled, applies, looks, reads, pages, cuts, rolls, replies, finds, shows, hands};
 

@@ -10,8 +10,7 @@ ghost use Rattle.service_profile.specs.Histories.{install_by};
 ghost use Rattle.service_profile.specs.Machine.{Situation};
 ghost use Rattle.book.specs.Effects.{is_some};
 ghost use Rattle.book.specs.Following.{followed, refused_after};
-ghost use Rattle.book.specs.Safe.{IsSafeProgram, IsJudged, IsSafeEvent};
-ghost use Rattle.book.specs.Seen.{seen};
+ghost use Rattle.book.specs.Accepted.{IsSafeProgram, IsJudged, IsEvent, seen};
 ghost use Rattle.book.specs.Situations.{AreEffects, CanFollow, IsOrderly, StandsFor};
 
 use crate::events::{Entry, Event};
@@ -51,7 +50,7 @@ pub(crate) fn know_program(program: &Verified)
 
 /// Reads off judged work that its verdict is the meaning's, on an outcome's record.
 pub(crate) fn know_work(judged: &Judged)
-    ensures { IsJudged judged.now }
+    ensures { IsJudged IsSafeProgram judged.now }
 {
     know_program(judged.program());
     let _duration = judged.outcome().duration();
@@ -59,7 +58,7 @@ pub(crate) fn know_work(judged: &Judged)
 
 /// Reads off an event that a program which it installs is safe, and that work which it brings was judged.
 pub(crate) fn know_event(event: &Event)
-    ensures { IsSafeEvent (seen event.now) }
+    ensures { IsEvent IsSafeProgram (seen event.now) }
 {
     match event {
         Event::Install(program) => know_program(program),

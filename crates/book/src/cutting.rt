@@ -1,8 +1,9 @@
 //! The cut of a book: its entries are handed out, and it opens anew.
 ghost use Rattle.std.specs.Prelude.{◌≡◌, ◌||◌, false, IfOk, []};
-ghost use Rattle.service_profile.specs.Answers.{IsCut, map_ok, is_past_the_limit, is_worn_out, reopened};
+ghost use Rattle.service_profile.specs.Answers.{IsCut, is_past_the_limit, is_worn_out, reopened, map_ok};
 ghost use Rattle.service_profile.specs.Events.{history_of};
 ghost use Rattle.service_profile.specs.Histories.{IsLegal, past_of};
+ghost use Rattle.book.specs.Accepted.{IsSafeProgram};
 ghost use Rattle.book.specs.Sound.{IsSound};
 
 use crate::books::{Book, Start};
@@ -47,7 +48,7 @@ impl Book {
         requires { is_worn_out (past_of self.now) ≡ false }
         ensures opened { IfOk result (λ book. book ≡ history_of (reopened (past_of self.now)) []) }
         ensures legal { IfOk result IsLegal }
-        ensures sound { IfOk result (λ book. IsSound (past_of book)) }
+        ensures sound { IfOk result (λ book. IsSound IsSafeProgram (past_of book)) }
     {
         let start = Start {
             program: Arc::try_clone(self.service.current_program())?,
@@ -67,9 +68,9 @@ impl Book {
     pub fn cut(&mut self) -> Result<Vec<Entry>, RefusalNumber>
         ensures cut { IsCut self.old (map_ok (λ entries. entries.items) result) self.new }
         ensures legal_before { IsLegal self.old }
-        ensures sound_before { IsSound (past_of self.old) }
+        ensures sound_before { IsSound IsSafeProgram (past_of self.old) }
         ensures legal_after { IsLegal self.new }
-        ensures sound_after { IsSound (past_of self.new) }
+        ensures sound_after { IsSound IsSafeProgram (past_of self.new) }
     {
         if self.is_worn_out() {
             return Err(RefusalNumber::JournalFull);

@@ -1,7 +1,7 @@
 //! Events, and the entries of the journal.
 ghost use Rattle.std.specs.Prelude.{◌≡◌, IfOk};
 ghost use Rattle.service_profile.specs.Events.{line};
-ghost use Rattle.book.specs.Seen.{seen};
+ghost use Rattle.book.specs.Accepted.{seen};
 
 use bpf_run::Judged;
 use service_profile::{Reply, State};
@@ -60,7 +60,7 @@ impl Model for Entry {
     ghost Value = { EntryData };
 
     ghost use Rattle.service_profile.specs.Events.{line};
-    ghost use Rattle.book.specs.Seen.{seen};
+    ghost use Rattle.book.specs.Accepted.{seen};
 
     ghost view = { λ e. line e.number e.seat (seen e.event) e.moment e.reply };
 }

@@ -11,29 +11,32 @@ ghost use Rattle.refusals.specs.declared.RefusalNumber.TheVariants as refusal;
 ghost use Rattle.service_profile.specs.declared.replies.Fate.{Fate};
 ghost use Rattle.service_profile.specs.declared.replies.Reply.TheVariants as reply;
 ghost use Rattle.service_profile.specs.declared.states.State.{State};
-ghost use Rattle.service_profile.specs.Events.{EntryData, EventData, Opening, Rolled, History, installs, rolled_to};
+ghost use Rattle.service_profile.specs.Events.{EntryData, EventData, Opening, Rolled, History, history_of, installs, rolled_to};
 ghost use Rattle.service_profile.specs.Histories.{Stage, past_of, next_line, situation_of, programs_of, issued, open_of, ended, notes_of, is_listed, note_by, Follows, IsLegal};
-ghost use Rattle.book.specs.Interleavings.{World, Given, Act, AreSteps, IsCourse, lacks_memory, HaveMemory, IsWorld, begun};
+ghost use Rattle.service_profile.specs.Calls.{CallAnswer};
+ghost use Rattle.book.specs.Interleavings.{Driven, AreCalled, acts_of, Hands, World, Given, answered, Act, AreSteps, IsCourse, IsWorld, begun};
+ghost use Rattle.book.specs.Memory.{lacks_memory, HaveMemory};
 ghost use Rattle.book.specs.Laws.{IsService, HasMeantNote};
 ghost use Rattle.book.specs.Rolling.{IsFurther, with_rolled, versions_needed, endless_answer, Ask, heard, history_after, without_rolls, NeverFull, PagesAreHeld, pieces};
 ghost use Rattle.service_profile.specs.Limits.{most_versions};
 ghost use Rattle.service_profile.specs.Machine.{Judging, carried, meant, refused, is_open, permissions_held};
 ghost use Rattle.service_profile.specs.Answers.{answer, held_lines, cut, rolled_up_to, IsRolled};
-ghost use Rattle.book.specs.Safe.{IsVerifiedProgram, AreSafePrograms};
+ghost use Rattle.book.specs.Accepted.{IsSafeProgram};
 ghost use Rattle.service_profile.specs.Openings.{IsOpening};
 ghost use Rattle.service_profile.specs.MeantVerdicts.{IsMeantLine};
 ghost use Rattle.book.specs.Sound.{IsSound};
 ghost use Rattle.service_profile.specs.Standings.{is_half_open};
 ghost use Rattle.service_profile.specs.Verdicts.{judgement};
 
+use crate::acceptance::Acceptance;
 use service_profile::ConfigParts;
-use verifier::laws::accepted_programs_are_safe;
 
-/// The verdict that the machine takes for a verified program and a record is the meaning's.
-pub fn judgements_are_the_meaning()
-    ensures { (program : VerifiedProgram) (outcome : Outcome) → IsVerifiedProgram program → IsOutcome (context_size program.layout) outcome → Judges (context_size program.layout) program.slots outcome (judgement program outcome).verdict (judgement program outcome).steps }
+/// The verdict that the machine takes for an accepted program and a record is the meaning's. As in all laws here, any
+/// programs may be accepted, as long as they are safe ([`Acceptance`]); what `verify` accepts is one choice.
+pub fn judgements_are_the_meaning<A: Acceptance>()
+    ensures { (program : VerifiedProgram) (outcome : Outcome) → A.accepts program → IsOutcome (context_size program.layout) outcome → Judges (context_size program.layout) program.slots outcome (judgement program outcome).verdict (judgement program outcome).steps }
 {
-    accepted_programs_are_safe();
+    A::accepted_are_safe();
 }
 
 /// The headline, the half about answers: for every list of atomic steps of workers and operators on a service, from a
@@ -43,23 +46,30 @@ pub fn judgements_are_the_meaning()
 /// `roll`), by the very relations that these clauses cite; want of memory is a case of them. So what the code does is
 /// said by the calls' clauses, and this law says that they hold in any order, for any actors, and that to take the
 /// verdict off the work that is brought, as the code does, comes to the same. `judge`, `read`, and a step that is
-/// refused with no entry want no memory. What an operator installs is verified: decoding, flow and the analysis accept
-/// its bytes.
-pub fn interleavings_are_documented()
-    ensures { (opening : Opening) (acts : List Act) (given : List Given) (after : World) → IsOpening opening → IsVerifiedProgram opening.program → AreSteps acts → IsCourse carried (begun opening) acts given after ↔ IsCourse meant (begun opening) acts given after }
+/// refused with no entry want no memory. Work that a step brings was judged: by the program of a look, or by another one
+/// that is accepted.
+pub fn interleavings_are_documented<A: Acceptance>()
+    ensures { (opening : Opening) (acts : List Act) (given : List Given) (after : World) → IsOpening opening → A.accepts opening.program → AreSteps A.accepts acts → IsCourse carried (begun opening) acts given after ↔ IsCourse meant (begun opening) acts given after }
 {
-    accepted_programs_are_safe();
+    A::accepted_are_safe();
 }
 
 /// The headline, the half about programs: after every such list the history is legal, every program that
 /// was installed ends on every outcome's record within its budget and never does what it must not, each
 /// finished call carries the meaning's verdict for the version of its ticket, and so does all work that
 /// was judged.
-pub fn interleavings_are_legal()
-    ensures { (opening : Opening) (acts : List Act) (given : List Given) (after : World) → IsOpening opening → IsVerifiedProgram opening.program → AreSteps acts → IsCourse meant (begun opening) acts given after → IsWorld after }
+pub fn interleavings_are_legal<A: Acceptance>()
+    ensures { (opening : Opening) (acts : List Act) (given : List Given) (after : World) → IsOpening opening → A.accepts opening.program → AreSteps A.accepts acts → IsCourse meant (begun opening) acts given after → IsWorld A.accepts after }
 {
-    accepted_programs_are_safe();
+    A::accepted_are_safe();
 }
+
+/// The link between the two: what a book answers to a list of calls, each as the clause of its call says (`IsCalled`, which
+/// is the clause of `Call::make`), is a course of the documented machine, with these calls as its steps and these
+/// answers as what they give. So the two laws above speak of it.
+pub fn calls_are_a_course()
+    ensures { (opening : Opening) (asked : List Driven) (given : List CallAnswer) (after : History) → AreCalled (history_of opening []) asked given after → (hands : ℕ → Hands) × IsCourse meant (begun opening) (acts_of asked) (map answered given) (record { history = after; hands = hands }) }
+{}
 
 /// Neither half is empty: whatever verdicts are taken, every list of steps can be taken to its end from every
 /// world, and no step of it has to be refused for want of memory.
@@ -77,10 +87,10 @@ pub fn answers_are_settled()
 
 /// Every legal history of a service is sound: its programs are safe, its verdicts are the meaning's, and its limits are
 /// kept.
-pub fn legal_histories_are_sound()
-    ensures { (history : History) → IsService history → IsSound (past_of history) }
+pub fn legal_histories_are_sound<A: Acceptance>()
+    ensures { (history : History) → IsService A.accepts history → IsSound A.accepts (past_of history) }
 {
-    accepted_programs_are_safe();
+    A::accepted_are_safe();
 }
 
 /// The numbers of entries go up by one.
@@ -94,54 +104,54 @@ pub fn spent_tickets_are_not_open()
 {}
 
 /// There are never more open tickets than the bulkhead has places.
-pub fn bulkhead_is_never_overfull()
-    ensures { (history : History) → IsService history → length (open_of (past_of history).stages) ≤ history.opening.config.max_concurrent_calls }
+pub fn bulkhead_is_never_overfull<A: Acceptance>()
+    ensures { (history : History) → IsService A.accepts history → length (open_of (past_of history).stages) ≤ history.opening.config.max_concurrent_calls }
 {
-    accepted_programs_are_safe();
+    A::accepted_are_safe();
 }
 
 /// In HALF_OPEN the permissions that are held and the notes are never more than the permitted number.
-pub fn half_open_is_never_overfull()
-    ensures { (history : History) → IsService history → is_half_open (past_of history).standing.state ≡ true → permissions_held (past_of history).standing.period (open_of (past_of history).stages) + length (notes_of (past_of history)) ≤ history.opening.config.permitted_number_of_calls_in_half_open_state }
+pub fn half_open_is_never_overfull<A: Acceptance>()
+    ensures { (history : History) → IsService A.accepts history → is_half_open (past_of history).standing.state ≡ true → permissions_held (past_of history).standing.period (open_of (past_of history).stages) + length (notes_of (past_of history)) ≤ history.opening.config.permitted_number_of_calls_in_half_open_state }
 {
-    accepted_programs_are_safe();
+    A::accepted_are_safe();
 }
 
 /// A verdict that is ignored makes no note.
-pub fn ignored_verdicts_make_no_note()
-    ensures { (history : History) (line : EntryData) (fate : Fate) (steps version : ℕ) (state : State) → IsService history → Follows (past_of history) line → line.reply ≡ reply.Finished fate verdict.Ignored steps version state → note_by history.opening.config line.moment line.event line.reply ≡ None }
+pub fn ignored_verdicts_make_no_note<A: Acceptance>()
+    ensures { (history : History) (line : EntryData) (fate : Fate) (steps version : ℕ) (state : State) → IsService A.accepts history → Follows (past_of history) line → line.reply ≡ reply.Finished fate verdict.Ignored steps version state → note_by history.opening.config line.moment line.event line.reply ≡ None }
 {
-    accepted_programs_are_safe();
+    A::accepted_are_safe();
 }
 
-/// Every program that was installed is verified and safe: on every outcome's record it ends within its
+/// Every program that was installed is accepted and safe: on every outcome's record it ends within its
 /// budget, and never does what it must not.
-pub fn installed_programs_are_safe()
-    ensures { (history : History) → IsService history → AreSafePrograms (programs_of (past_of history)) }
+pub fn installed_programs_are_safe<A: Acceptance>()
+    ensures { (history : History) → IsService A.accepts history → AllByRecursion (λ program. A.accepts program × IsSafeProgram program) (programs_of (past_of history)) }
 {
-    accepted_programs_are_safe();
+    A::accepted_are_safe();
 }
 
 /// Each finished call carries the verdict and the steps that the meaning gives on its record for the
 /// program of the version with which its ticket was issued, whatever was installed since.
-pub fn verdicts_are_the_meaning()
-    ensures { (history : History) → IsService history → AllByRecursion (λ stage. IsMeantLine (past_of history).opening.version (programs_of (past_of history)) (issued (past_of history).stages) stage.line) (past_of history).stages }
+pub fn verdicts_are_the_meaning<A: Acceptance>()
+    ensures { (history : History) → IsService A.accepts history → AllByRecursion (λ stage. IsMeantLine (past_of history).opening.version (programs_of (past_of history)) (issued (past_of history).stages) stage.line) (past_of history).stages }
 {
-    accepted_programs_are_safe();
+    A::accepted_are_safe();
 }
 
 /// The notes that are read off the replies of a history are those of the verdicts that the meaning gives.
-pub fn notes_are_of_the_meaning()
-    ensures { (history : History) → IsService history → AllByRecursion (HasMeantNote (past_of history)) (past_of history).stages }
+pub fn notes_are_of_the_meaning<A: Acceptance>()
+    ensures { (history : History) → IsService A.accepts history → AllByRecursion (HasMeantNote (past_of history)) (past_of history).stages }
 {
-    accepted_programs_are_safe();
+    A::accepted_are_safe();
 }
 
-/// A cut leaves a good opening, with a verified program.
-pub fn cuts_leave_good_openings()
-    ensures { (history : History) (opening : Opening) → IsService history → cut (past_of history) ≡ Ok opening → IsOpening opening × IsVerifiedProgram opening.program }
+/// A cut leaves a good opening, with an accepted program.
+pub fn cuts_leave_good_openings<A: Acceptance>()
+    ensures { (history : History) (opening : Opening) → IsService A.accepts history → cut (past_of history) ≡ Ok opening → IsOpening opening × A.accepts opening.program }
 {
-    accepted_programs_are_safe();
+    A::accepted_are_safe();
 }
 
 /// A roll leaves a history legal, and leaves all that it says but how much was taken out of it.
@@ -173,7 +183,7 @@ pub fn pieces_are_the_journal()
 /// Behind a roll that handed out all entries up to the last one, no event is answered `JournalFull`, however many tickets
 /// are open. `IsRolled` is what the clause of `Book::roll` says of the history that it leaves.
 pub fn rolled_journals_have_room()
-    ensures { (history after : History) (last moment : ℕ) (lines : List EntryData) (event : EventData) → IsLegal history → IsSound (past_of history) → history.rolled.lines ≤ length history.lines → next_line (past_of history) ≤ suc last → IsRolled history last (Ok lines) after → (answer after moment event).reply ≢ reply.Refused refusal.JournalFull }
+    ensures { (history after : History) (last moment : ℕ) (lines : List EntryData) (event : EventData) → IsLegal history → IsSound IsSafeProgram (past_of history) → history.rolled.lines ≤ length history.lines → next_line (past_of history) ≤ suc last → IsRolled history last (Ok lines) after → (answer after moment event).reply ≢ reply.Refused refusal.JournalFull }
 {}
 
 /// After a roll an install is not answered `VersionsFull`, however many programs were installed before, unless

@@ -2,6 +2,7 @@
 //! legal history.
 #![tactic(auto)]
 
+mod acceptance;
 mod books;
 mod calls;
 mod changes;
@@ -16,6 +17,7 @@ mod plans;
 mod rolling;
 mod settling;
 
+pub use acceptance::Acceptance;
 pub use books::Book;
 pub use calls::{Apply, Call, Cut, Look, Page, Read, Roll};
 pub use events::{Entry, Event};

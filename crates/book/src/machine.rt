@@ -2,10 +2,10 @@
 //! effects. Each step is the documented machine's, in any situation that the service's parts stand for.
 ghost use Rattle.std.specs.Prelude.{◌≡◌, ◌+◌, ◌<◌, ◌≤◌, ◌^◌, ℕ, true, Some};
 ghost use Rattle.service_profile.specs.Events.{EventData, acquires, finishes, releases, installs, moves, resets};
-ghost use Rattle.service_profile.specs.Machine.{Situation, judged_as, acquired, same_program, fate_of, note_of, concluded, finished, finished_by, finished_under, released, installed, moved_to, is_full, decided, decision, is_entered, is_entered_refusal, meant};
+ghost use Rattle.service_profile.specs.Machine.{Situation, judgement_of, acquired, same_program, fate_of, note_of, concluded, finished, finished_by, finished_under, released, installed, moved_to, is_full, decided, decision, is_entered, is_entered_refusal, meant};
 ghost use Rattle.windows.specs.Notes.{AreNotAfter};
 ghost use Rattle.book.specs.Effects.{permitted_plan, planned, released_plan, reported_plan};
-ghost use Rattle.book.specs.Seen.{seen};
+ghost use Rattle.book.specs.Accepted.{seen};
 ghost use Rattle.book.specs.Situations.{HasSituation, StandsFor};
 ghost use Rattle.book.specs.Finding.{IsFoundAs, HasFound};
 
@@ -109,7 +109,7 @@ fn reported(
 /// The answer under a ticket to work that its program judged.
 fn concluded(found: &FoundService<'_>, moment: u64, ticket: OpenTicket, judged: &Judged) -> Plan
     requires { HasFound found.now }
-    ensures { (held : ℕ) (s : Situation) → IsFoundAs found.now held s → AreNotAfter moment s.notes → result ≡ planned s.config moment (finishes judged.now ticket.number) (concluded s moment ticket judged.now.outcome (judged_as judged.now)) }
+    ensures { (held : ℕ) (s : Situation) → IsFoundAs found.now held s → AreNotAfter moment s.notes → result ≡ planned s.config moment (finishes judged.now ticket.number) (concluded s moment ticket judged.now.outcome (judgement_of judged.now)) }
 {
     let standing = found.standing();
     let verdict = judged.verdict();

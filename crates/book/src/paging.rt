@@ -3,6 +3,7 @@ ghost use Rattle.std.specs.Prelude.{◌≡◌, ◌<◌, length, take, IfOk};
 ghost use Rattle.service_profile.specs.Limits.{most_page_entries};
 ghost use Rattle.service_profile.specs.Answers.{IsPage, map_ok};
 ghost use Rattle.service_profile.specs.Histories.{IsLegal, past_of};
+ghost use Rattle.book.specs.Accepted.{IsSafeProgram};
 ghost use Rattle.book.specs.Sound.{IsSound};
 
 use crate::books::Book;
@@ -36,7 +37,7 @@ impl Book {
     pub fn page(&self, from: u64) -> Result<Vec<Entry>, RefusalNumber>
         ensures page { IsPage self.now from (map_ok (λ entries. entries.items) result) }
         ensures legal { IsLegal self.now }
-        ensures sound { IsSound (past_of self.now) }
+        ensures sound { IsSound IsSafeProgram (past_of self.now) }
     {
         let page = first(self.entries(from));
         if page.is_empty() {

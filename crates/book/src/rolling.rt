@@ -3,6 +3,7 @@
 ghost use Rattle.std.specs.Prelude.{◌≡◌, ◌-◌, ◌<◌, ◌≤◌, length, min, suc, take, drop, OnErr, IfOk, OnOk};
 ghost use Rattle.service_profile.specs.Answers.{IsRolled, map_ok};
 ghost use Rattle.service_profile.specs.Histories.{IsLegal, past_of};
+ghost use Rattle.book.specs.Accepted.{IsSafeProgram};
 ghost use Rattle.book.specs.Sound.{IsSound};
 
 use crate::books::Book;
@@ -38,9 +39,9 @@ impl Book {
     pub fn roll(&mut self, last: u64) -> Result<Vec<Entry>, RefusalNumber>
         ensures rolled { IsRolled self.old last (map_ok (λ entries. entries.items) result) self.new }
         ensures legal_before { IsLegal self.old }
-        ensures sound_before { IsSound (past_of self.old) }
+        ensures sound_before { IsSound IsSafeProgram (past_of self.old) }
         ensures legal_after { IsLegal self.new }
-        ensures sound_after { IsSound (past_of self.new) }
+        ensures sound_after { IsSound IsSafeProgram (past_of self.new) }
     {
         if self.is_worn_out() {
             return Err(RefusalNumber::JournalFull);

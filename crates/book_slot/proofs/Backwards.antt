@@ -2,8 +2,8 @@
 use Rattle.std.proofs.Common.{[], ◌∷◌, subst}
 use Rattle.service_profile.specs.Events.{History}
 use Rattle.book_slot.specs.declared.view.View.{View}
-use Rattle.book_slot.specs.Calls.{CalledAfterTries}
-use Rattle.book_slot.specs.Rules.{Course, AllBegin}
+use Rattle.book_slot.specs.Called.{CalledAfterTries}
+use Rattle.book_slot.specs.Courses.{Course, AllBegin}
 use Rattle.book_slot.proofs.Histories.{seen_before}
 
 pub called_back : (course : Course) (Did : History → History → Type 0) (v w : View) → CalledAfterTries Did v w → AllBegin course w.all_seen → AllBegin course v.all_seen

@@ -16,10 +16,15 @@ use Rattle.service_profile.specs.Answers as answers
 use Rattle.book.proofs.Counting.{cuts_go_on}
 use Rattle.book.proofs.Deciding.{decision_near}
 use Rattle.book.specs.Good.{IsGood}
-use Rattle.book_slot.specs.Origins.{IsOf, IsOpeningAfter}
+use Rattle.book_slot.specs.Origins.{IsOf}
+use Rattle.book.specs.Reopened.{IsOpeningAfter}
 use Rattle.book_slot.specs.declared.view.View.{View}
-use Rattle.book_slot.specs.Rules.{taking, putting, missing, missed, Grows, same, hands_out, entry, opens, MayPut, Took, next_number}
-use Rattle.book_slot.specs.Calls.{HoldsOne, Holds, Does, Called, CalledAfterTries}
+use Rattle.book_slot.specs.Rules.{putting, Grows, same, hands_out, entry, opens, MayPut, Took}
+use Rattle.book_slot.specs.Views.{missed}
+use Rattle.book_slot.specs.Trying.{taking, missing}
+use Rattle.book_slot.specs.Left.{next_number}
+use Rattle.book_slot.specs.Calls.{HoldsOne, Holds, Does}
+use Rattle.book_slot.specs.Called.{Called, CalledAfterTries}
 use Rattle.book_slot.specs.Places.{PlaceData, place_of}
 use Rattle.atomic_table.specs.Seated.{TableId}
 use Rattle.book_slot.proofs.Keeps.{held_of}

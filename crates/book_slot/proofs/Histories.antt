@@ -8,7 +8,10 @@ use Rattle.book.specs.Good.{IsGood}
 use Rattle.service_profile.specs.Seats.{lines_of}
 use Rattle.book_slot.proofs.Lines.{other_line, begins_with_itself, begins_with_more}
 use Rattle.book_slot.specs.declared.view.Trace.{Trace}
-use Rattle.book_slot.specs.Rules.{Begins, FoundAfter, at_first, goes_on, later, IsPast, AllPast, ArePast, Grows, same, hands_out, entry, opens, AreOfOne}
+use Rattle.book_slot.specs.Rules.{Grows, same, hands_out, entry, opens}
+use Rattle.book_slot.specs.Seen.{at_first, goes_on, later}
+use Rattle.book_slot.specs.Courses.{AreOfOne}
+use Rattle.book_slot.specs.Seen.{Begins, FoundAfter, IsPast, AllPast, ArePast}
 
 abbrev pub period_of : History → ℕ
 period_of history = history.opening.period

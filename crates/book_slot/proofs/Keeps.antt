@@ -13,7 +13,11 @@ use Rattle.service_profile.specs.Seats.{lines_of}
 use Rattle.std.specs.Prelude as prelude
 use Rattle.book_slot.specs.declared.view.Trace.{Trace}
 use Rattle.book_slot.specs.declared.view.View.{View}
-use Rattle.book_slot.specs.Rules.{dealer, spent, dealt, dealt_to, gathered, note, informed, taking, missing, putting, Each, OnlyHolder, AtHome, IsOut, Course, IsCourseOf, EachBegins, IsMadeBy, AreMadeBy, trace_of, traces_in, traces_of, Fits, at_first, goes_on, card, traces_by, Agree, Pairs, Kept, Took, Grows, MayPut, Put, Met}
+use Rattle.book_slot.specs.Rules.{dealer, dealt, dealt_to, gathered, note, informed, putting, Each, OnlyHolder, AtHome, IsOut, trace_of, traces_in, traces_of, Fits, card, traces_by, Agree, Pairs, Kept, Took, Grows, MayPut, Put, Met}
+use Rattle.book_slot.specs.Seen.{at_first, goes_on}
+use Rattle.book_slot.specs.Courses.{Course, IsCourseOf, EachBegins, IsMadeBy}
+use Rattle.book_slot.specs.Trying.{spent, taking, missing}
+use Rattle.book_slot.specs.Left.{AreMadeBy}
 use Rattle.book_slot.proofs.Histories.{period_of, begins_itself, found_grown, none_grown, renewed, renewed_last, renewed_good, past_grown, seen_grown, all_grown, past_itself, seen_snoc, past_snoc, begin_one}
 use Rattle.book_slot.proofs.Traces.{traces_same, traces_more, traces_all, made_dealt, made_taken, made_put, made_joined}
 use Rattle.book_slot.proofs.Views.{off, never, is_false, set_same, same_at, at_end, places_set, each_set, each_more, pairs_set, pairs_more, parts_set, parts_more, parts_both}

@@ -9,10 +9,13 @@ use Rattle.service_profile.specs.Answers.{with_line}
 use Rattle.service_profile.specs.Events.{Opening, History}
 use Rattle.service_profile.specs.Seats.{lines_of}
 use Rattle.book.proofs.Openings.{next_line_is}
-use Rattle.book_slot.specs.Origins.{IsOpeningAfter}
+use Rattle.book.specs.Reopened.{IsOpeningAfter}
 use Rattle.book_slot.specs.declared.view.Trace.{Trace}
 use Rattle.book_slot.specs.declared.view.View.{View}
-use Rattle.book_slot.specs.Rules.{Has, Among, total, entries_of, cuts_of, next_number, HasLeft, HasSeen, HasMade, IsLeftBy, AreMadeBy, trace_of, traces_by, traces_in, traces_of, is_same, entries_since, cuts_since, taking, putting, dealt_to, spent, Each, parts_of, Grows, same, hands_out, entry, opens}
+use Rattle.book_slot.specs.Rules.{trace_of, traces_by, traces_in, traces_of, putting, dealt_to, Each, parts_of, Grows, same, hands_out, entry, opens}
+use Rattle.book_slot.specs.Views.{is_same, entries_since, cuts_since}
+use Rattle.book_slot.specs.Trying.{taking, spent}
+use Rattle.book_slot.specs.Left.{Has, Among, total, entries_of, cuts_of, next_number, HasLeft, HasSeen, HasMade, IsLeftBy, AreMadeBy}
 use Rattle.book_slot.proofs.Histories.{period_of, renewed, renewed_last, renewed_other}
 use Rattle.book_slot.proofs.Lines.{other_line}
 use Rattle.book_slot.proofs.Views.{never, set_same, same_at, parts_within}

@@ -1,12 +1,12 @@
 -- What a seat of the table is between two calls and within one, and what a call does.
-use Rattle.std.specs.Prelude.{◌≡◌, ℕ, ◌+◌, [], ◌∷◌, ◌++◌, true, false, Some, None}
+use Rattle.std.specs.Prelude.{◌≡◌, ℕ, ◌+◌, [], ◌∷◌, true, false, None}
 use Rattle.atomic_table.specs.Table.{Me}
 use Rattle.book.specs.Good.{IsGood}
 use Rattle.book_slot.specs.Origins.{IsOf}
 use Rattle.service_profile.specs.Events.{History}
-use Rattle.service_profile.specs.Seats.{lines_of}
 use Rattle.book_slot.specs.declared.view.View.{View}
-use Rattle.book_slot.specs.Rules.{taking, missed, left_after, entries_since, cuts_since, Finds}
+use Rattle.book_slot.specs.Trying.{taking}
+use Rattle.book_slot.specs.Seen.{Finds}
 
 -- it makes calls, and holds nothing
 abbrev pub IsResting : Me History View → Type 0
@@ -36,30 +36,3 @@ pub record Does (Did : History → History → Type 0) (m m' : Me History View) 
   pub holds : m' ≡ (m.0, (0, after) ∷ [])
   pub did : Did before after
   pub good : IsGood after
-
--- the view after a call that found and left these histories: it has seen both, last what was left, with its own entries in it, and there is one take more
-abbrev pub called : View → History → History → View
-called v before after = record v {
-  holds = false;
-  seen = Some after;
-  all_seen = v.all_seen ++ before ∷ after ∷ [];
-  left = left_after v.left (Some before) after;
-  mine = lines_of v.number after.lines;
-  entries = v.entries + entries_since (Some before) after;
-  cuts = v.cuts + cuts_since (Some before) after;
-  takes = v.takes + 1;
-}
-
--- a call: the history that its last take found, what the call did to it, and the view after it. Both histories are good, and of the book that opened first in the slot, since its opening or since a cut
-pub record Called (Did : History → History → Type 0) (v w : View) : Type 0 where
-  pub before : History
-  pub after : History
-  pub of_before : IsOf v.origin before
-  pub finds : Finds v before
-  pub did : Did before after
-  pub of_after : IsOf v.origin after
-  pub view : w ≡ called v before after
-
--- the same after some failed tries
-abbrev pub CalledAfterTries : (History → History → Type 0) → View → View → Type 0
-CalledAfterTries Did v w = (tries : ℕ) × Called Did (missed tries v) w

@@ -1,4 +1,10 @@
 pub mod Origins
+pub mod Seen
+pub mod Left
+pub mod Trying
+pub mod Views
+pub mod Courses
 pub mod Rules
+pub mod Called
 pub mod Calls
 pub mod Places

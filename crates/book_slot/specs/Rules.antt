@@ -1,108 +1,21 @@
 -- The rule of the table, and what each step tells. Word 0 is 1 where the book is at home, and else 0.
-use Rattle.std.specs.Prelude.{◌≡◌, ◌≢◌, ◌⊎◌, ℕ, ◌+◌, ◌-◌, ◌==◌, ◌<◌, ◌≤◌, ◌&&◌, List, [], ◌∷◌, ◌++◌, Bool, true, false, Option, Some, None, Ok, if◌then◌else◌}
+use Rattle.std.specs.Prelude.{◌≡◌, ◌≢◌, ◌⊎◌, ℕ, ◌+◌, ◌-◌, ◌<◌, ◌≤◌, List, [], ◌∷◌, ◌++◌, Bool, true, false, Option, Some, None, Ok}
 use mathlib.Core.Option.{some, none}
 use lib.ListN.{get_elem?}
 use Rattle.atomic_table.specs.Table.{State, Me, Step}
 use Rattle.service_profile.specs.Events.{EntryData, History}
 use Rattle.service_profile.specs.Answers.{with_line, cut}
-use Rattle.service_profile.specs.Histories.{past_of, next_line}
+use Rattle.service_profile.specs.Histories.{past_of}
 use Rattle.book.specs.Good.{IsGood}
-use Rattle.book_slot.specs.Origins.{IsOf, IsOpeningAfter}
-use Rattle.service_profile.specs.Seats.{lines_of, BeginsWith}
+use Rattle.book_slot.specs.Origins.{IsOf}
+use Rattle.service_profile.specs.Seats.{lines_of}
 use Rattle.book_slot.specs.declared.view.Trace.{Trace}
 use Rattle.book_slot.specs.declared.view.View.{View}
-
--- ---- histories that were seen
-
--- the history goes on from what was seen, in the same opening
-abbrev pub Begins : History → History → Type 0
-Begins history x = (x.opening ≡ history.opening) × BeginsWith history.lines x.lines
-
--- what a seat finds that has seen this, has this number, and has made these entries
-pub data FoundAfter (seen : Option History) (number : ℕ) (mine : List EntryData) (history : History) : Type 0 where
-  -- it had seen nothing, and has made no entry
-  at_first : seen ≡ None → lines_of number history.lines ≡ [] → FoundAfter seen number mine history
-  -- the history begins with what was seen, and its entries are those that it made
-  goes_on : (x : History) → seen ≡ Some x → Begins history x → lines_of number history.lines ≡ mine → FoundAfter seen number mine history
-  -- a later opening than the one that was seen, in which it has made no entry
-  later : (x : History) → seen ≡ Some x → x.opening.period < history.opening.period → lines_of number history.lines ≡ [] → FoundAfter seen number mine history
-
-abbrev pub Finds : View → History → Type 0
-Finds v history = FoundAfter v.seen v.number v.mine history
-
--- what was seen, if anything, begins the history of its opening, which is the last one or an earlier one
-abbrev pub IsPast : (ℕ → History) → History → Option History → Type 0
-IsPast past now None = Unit {0}
-IsPast past now (Some x) = (x.opening.period ≤ now.opening.period) × Begins (past x.opening.period) x
-
--- the same of all that one seat has seen, and of all that several have
-abbrev pub AllPast : (ℕ → History) → History → List History → Type 0
-AllPast past now [] = Unit {0}
-AllPast past now (x ∷ xs) = IsPast past now (Some x) × AllPast past now xs
-
-abbrev pub ArePast : (ℕ → History) → History → List Trace → Type 0
-ArePast past now [] = Unit {0}
-ArePast past now (t ∷ others) = AllPast past now t.seen × ArePast past now others
-
--- ---- what places leave behind
-
--- one of these is the history x
-abbrev pub Has : History → List History → Type 0
-Has x [] = ⊥
-Has x (y ∷ ys) = (y ≡ x) ⊎ Has x ys
-
--- of what some places left behind, P is true of one at least
-abbrev pub Among : (Trace → Type 0) → List Trace → Type 0
-Among P [] = ⊥
-Among P (t ∷ ts) = P t ⊎ Among P ts
-
--- the sum of a number over all places
-abbrev pub total : (Trace → ℕ) → List Trace → ℕ
-total f [] = 0
-total f (t ∷ ts) = f t + total f ts
-
--- how many entries the places made
-abbrev pub entries_of : List Trace → ℕ
-entries_of traces = total (λ t. t.entries) traces
-
--- how many cuts they made
-abbrev pub cuts_of : List Trace → ℕ
-cuts_of traces = total (λ t. t.cuts) traces
-
--- the number that the next entry has
-abbrev pub next_number : History → ℕ
-next_number history = next_line (past_of history)
-
--- the place put this history back, and had changed it
-abbrev pub HasLeft : History → Trace → Type 0
-HasLeft x t = Has x t.left
-
--- the place has taken this history, or put it back
-abbrev pub HasSeen : History → Trace → Type 0
-HasSeen x t = Has x t.seen
-
--- the place has this number, and a history of the same opening that it changed and put back has all entries of the number
-abbrev pub HasMade : History → ℕ → Trace → Type 0
-HasMade whole number t =
-    (t.number ≡ number)
-    × ((x : History) × HasLeft x t × (x.opening ≡ whole.opening) × (lines_of number x.lines ≡ lines_of number whole.lines))
-
--- the history is the first one, or one of the places changed it to this, and put it back
-abbrev pub IsLeftBy : List Trace → History → History → Type 0
-IsLeftBy traces first x = (x ≡ first) ⊎ Among (HasLeft x) traces
-
--- nobody but the places that left these traces has changed the book that opened so
-pub record AreMadeBy (origin : Option History) (past : ℕ → History) (now : History) (traces : List Trace) : Type 0 where
-  pub first : History
-  pub is_first : origin ≡ Some first
-  -- the history of each opening is the first one, or was left by one of them; and so was each history that one of them saw
-  pub left : (period : ℕ) → IsLeftBy traces first (past period)
-  pub found : (x : History) → Among (HasSeen x) traces → IsLeftBy traces first x
-  -- in each opening the entries of a number are those that a place of this number has left there, or there are none
-  pub made : (period number : ℕ) → (lines_of number (past period).lines ≡ []) ⊎ Among (HasMade (past period) number) traces
-  -- there are as many entries, and as many cuts, as they have made
-  pub entries : next_number now ≡ next_number first + entries_of traces
-  pub cuts : IsOpeningAfter first.opening (cuts_of traces) now.opening
+use Rattle.book_slot.specs.Seen.{Finds, IsPast, AllPast, ArePast}
+use Rattle.book_slot.specs.Left.{next_number, AreMadeBy}
+use Rattle.book_slot.specs.Views.{trace, entries_since, cuts_since, left_after}
+use Rattle.book_slot.specs.Trying.{spent, newcomer, taking, missing}
+use Rattle.book_slot.specs.Courses.{AreOfOne}
 
 -- ---- views
 
@@ -110,32 +23,6 @@ pub record AreMadeBy (origin : Option History) (past : ℕ → History) (now : H
 abbrev pub origin_of : List History → Option History
 origin_of [] = None
 origin_of (first ∷ others) = Some first
-
--- what a view is that knows nothing
-abbrev pub spent : View
-spent = record {
-  origin = None;
-  sits = false;
-  number = 0;
-  holds = false;
-  seen = None;
-  all_seen = [];
-  left = [];
-  mine = [];
-  entries = 0;
-  cuts = 0;
-  takes = 0;
-  misses = 0;
-  deals = false;
-  next = 0;
-  parts = 0;
-  told = None;
-  known = [];
-}
-
--- the view of a place of this number that has seen nothing, of a book that opened so
-abbrev pub newcomer : Option History → ℕ → View
-newcomer origin n = record spent { origin = origin; sits = true; number = n; parts = 1 }
 
 -- the view of who deals the places
 abbrev pub dealer : Option History → ℕ → ℕ → List Trace → View
@@ -146,10 +33,6 @@ dealt v = record v { next = v.next + 1; parts = v.parts - 1 }
 
 abbrev pub dealt_to : View → View
 dealt_to v = newcomer v.origin v.next
-
--- what a place of this number and this view leaves behind
-abbrev pub trace : ℕ → View → Trace
-trace number v = record { number = number; seen = v.all_seen; left = v.left; entries = v.entries; cuts = v.cuts }
 
 -- the same, by the number that the view has
 abbrev pub trace_of : View → Trace
@@ -177,38 +60,6 @@ note v = record spent { told = v.seen }
 
 abbrev pub informed : View → View → View
 informed v w = record v { told = w.told }
-
--- it holds the history taken, which is now seen, with its own entries in it
-abbrev pub taking : View → History → View
-taking v history = record v { holds = true; seen = Some history; all_seen = v.all_seen ++ history ∷ []; mine = lines_of v.number history.lines; takes = v.takes + 1 }
-
-abbrev pub missing : View → View
-missing v = record v { misses = v.misses + 1 }
-
-abbrev pub missed : ℕ → View → View
-missed n v = record v { misses = v.misses + n }
-
--- how many entries were made since what was seen
-abbrev pub entries_since : Option History → History → ℕ
-entries_since None history = 0
-entries_since (Some seen) history = next_number history - next_number seen
-
--- how many cuts were made since what was seen, of which one call makes one at most: a cut begins another opening
-abbrev pub cuts_since : Option History → History → ℕ
-cuts_since None history = 0
-cuts_since (Some seen) history = if history.opening.period == seen.opening.period then 0 else 1
-
--- whether a history is the one that was seen, as far as these numbers tell: its opening, how many entries it has, and how many
--- entries and programs rolls have handed out. Of what a place may put back they tell all
-abbrev pub is_same : Option History → History → Bool
-is_same None history = false
-is_same (Some seen) history =
-    ((seen.opening.period == history.opening.period) && (next_number seen == next_number history))
-    && ((seen.rolled.lines == history.rolled.lines) && (seen.rolled.programs == history.rolled.programs))
-
--- what a place has put back changed, with this history, where it changed it
-abbrev pub left_after : List History → Option History → History → List History
-left_after left seen history = if is_same seen history then left else left ++ history ∷ []
 
 -- seen and own entries are those of the history put
 abbrev pub putting : View → History → View
@@ -306,38 +157,5 @@ MayPut v after = IsOf v.origin after × ((history : History) × (v.seen ≡ Some
 abbrev pub Put : Step History → Me History View → ℕ → Me History View → Type 0
 Put st m found m' = (after : History) → m.1 ≡ (0, after) ∷ [] → (m'.0 ≡ putting m.0 after) × (m'.1 ≡ [])
 
--- where both are of one opening, both begin one good history
-abbrev pub BeginOne : History → History → Type 0
-BeginOne one other = one.opening.period ≡ other.opening.period → (history : History) × IsGood history × Begins history one × Begins history other
-
-abbrev pub AreOfOne : Option History → Option History → Type 0
-AreOfOne None other = Unit {0}
-AreOfOne (Some one) None = Unit {0}
-AreOfOne (Some one) (Some other) = BeginOne one other
-
 abbrev pub Met : Step History → Me History View → ℕ → Me History View → Type 0
 Met st m found m' = (m'.0 ≡ record m.0 { told = None }) × (m'.1 ≡ m.1) × AreOfOne m.0.seen m.0.told
-
--- ---- the end
-
--- what becomes of a book: of each opening the history as far as it went, by its first period, and the last history
-pub record Course : Type 0 where
-  pub past : ℕ → History
-  pub last : History
-
--- each of them is good, and of the book that opened first so; and the last history is that of its opening
-pub record IsCourseOf (origin : Option History) (course : Course) : Type 0 where
-  pub current : course.past course.last.opening.period ≡ course.last
-  pub good : (period : ℕ) → IsOf origin (course.past period)
-
--- each history that was seen begins that of its opening, which is the last one or an earlier one
-abbrev pub AllBegin : Course → List History → Type 0
-AllBegin course xs = AllPast course.past course.last xs
-
--- the same of all that several seats have seen
-abbrev pub EachBegins : Course → List Trace → Type 0
-EachBegins course known = ArePast course.past course.last known
-
--- nobody but the places that left these traces has changed the book
-abbrev pub IsMadeBy : Option History → Course → List Trace → Type 0
-IsMadeBy origin course known = AreMadeBy origin course.past course.last known

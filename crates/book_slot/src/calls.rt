@@ -3,7 +3,7 @@
 ghost use Rattle.std.specs.Prelude.{◌≡◌};
 ghost use Rattle.book.specs.Counts.{made_by};
 ghost use Rattle.service_profile.specs.Calls.{IsCalled};
-ghost use Rattle.book_slot.specs.Calls.{CalledAfterTries};
+ghost use Rattle.book_slot.specs.Called.{CalledAfterTries};
 ghost use Rattle.book_slot.specs.Places.{with_view};
 
 use crate::exchange::{put, take_waiting};

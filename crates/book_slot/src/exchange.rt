@@ -1,6 +1,8 @@
 //! The exchanges that take the book out of its slot and put it back.
 ghost use Rattle.std.specs.Prelude.{◌≡◌, ℕ, [], true, MatchBool};
-ghost use Rattle.book_slot.specs.Rules.{missing, missed, putting, MayPut};
+ghost use Rattle.book_slot.specs.Rules.{putting, MayPut};
+ghost use Rattle.book_slot.specs.Views.{missed};
+ghost use Rattle.book_slot.specs.Trying.{missing};
 ghost use Rattle.book_slot.specs.Calls.{HoldsOne, Holds, IsResting};
 
 use crate::view::{OneHistory, Puts, Takes, View};

@@ -2,8 +2,10 @@
 ghost use Rattle.std.specs.Prelude.{◌≡◌, ◌<◌, ◌+◌, [], Some, IfOk, IfSome, IfNone};
 ghost use Rattle.book_slot.specs.Origins.{IsOf};
 ghost use Rattle.service_profile.specs.Events.{history_of};
-ghost use Rattle.service_profile.specs.Openings.{first_opening};
-ghost use Rattle.book_slot.specs.Rules.{newcomer, trace, AreOfOne, Course, IsCourseOf, EachBegins, IsMadeBy};
+ghost use Rattle.service_profile.specs.FirstOpening.{first_opening};
+ghost use Rattle.book_slot.specs.Courses.{AreOfOne, Course, IsCourseOf, EachBegins, IsMadeBy};
+ghost use Rattle.book_slot.specs.Views.{trace};
+ghost use Rattle.book_slot.specs.Trying.{newcomer};
 ghost use Rattle.book_slot.specs.Places.{place_of, with_dealt, with_back};
 
 use crate::exchange::TableSeat;

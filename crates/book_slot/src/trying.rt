@@ -1,10 +1,10 @@
 //! Calls of places that wait for nobody: one exchange takes the book, or finds it out.
 ghost use Rattle.std.specs.Prelude.{◌≡◌, IfOk, IfErr};
 ghost use Rattle.book.specs.Counts.{entries_made};
-ghost use Rattle.book.specs.Seen.{seen};
+ghost use Rattle.book.specs.Accepted.{seen};
 ghost use Rattle.service_profile.specs.Calls.{IsCalled, applies, replies};
-ghost use Rattle.book_slot.specs.Rules.{missing};
-ghost use Rattle.book_slot.specs.Calls.{Called};
+ghost use Rattle.book_slot.specs.Trying.{missing};
+ghost use Rattle.book_slot.specs.Called.{Called};
 ghost use Rattle.book_slot.specs.Places.{with_view};
 
 use crate::exchange::{put, take};

@@ -104,7 +104,8 @@ impl Split<View> for Deals {
 pub struct Gathers;
 
 impl Join<View> for Gathers {
-    ghost use Rattle.book_slot.specs.Rules.{gathered, spent};
+    ghost use Rattle.book_slot.specs.Rules.{gathered};
+    ghost use Rattle.book_slot.specs.Trying.{spent};
 
     ghost both = { gathered };
 
@@ -123,7 +124,8 @@ impl Split<View> for Notes {
 }
 
 impl Join<View> for Notes {
-    ghost use Rattle.book_slot.specs.Rules.{informed, spent};
+    ghost use Rattle.book_slot.specs.Rules.{informed};
+    ghost use Rattle.book_slot.specs.Trying.{spent};
 
     ghost both = { informed };
 

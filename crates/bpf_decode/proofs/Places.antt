@@ -10,7 +10,8 @@ use Rattle.bpf_profile.specs.declared.slot.Slot.{Slot}
 use Rattle.bpf_profile.specs.declared.slot.Slot.TheVariants.{Tail}
 use Rattle.bpf_profile.specs.Meaning.{instruction_at}
 use Rattle.bpf_profile.specs.Slots.{instruction_of}
-use Rattle.bpf_profile.specs.Spelling.{Fault, IsProgram, is_wide, fault_from}
+use Rattle.bpf_profile.specs.Spelling.{IsProgram, is_wide}
+use Rattle.bpf_profile.specs.SpellingFaults.{Fault, fault_from}
 use Rattle.bpf_decode.specs.declared.error.DecodeError.{DecodeError}
 use Rattle.bpf_decode.specs.Faults.{fault_of, found_fault}
 use Rattle.bpf_decode.specs.Kept.{first_instructions, AreInstructions}

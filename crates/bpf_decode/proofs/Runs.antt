@@ -12,7 +12,8 @@ use Rattle.bpf_profile.specs.declared.slot.Slot.{Slot}
 use Rattle.bpf_profile.specs.declared.slot.Slot.TheVariants.{Ins, Tail}
 use Rattle.bpf_profile.specs.Opcodes.{opcode_of, immediate_opcode}
 use Rattle.bpf_profile.specs.Slots.{instruction_of, read_fields, is_left_out}
-use Rattle.bpf_profile.specs.Spelling.{Fault, IsProgram, FollowsWide, is_tail, is_wide, fault_or, fault_from}
+use Rattle.bpf_profile.specs.Spelling.{IsProgram, FollowsWide, is_tail, is_wide}
+use Rattle.bpf_profile.specs.SpellingFaults.{Fault, fault_or, fault_from}
 
 -- the slots stand after the first slot of a wide immediate, or they don't, and have no fault
 abbrev pub IsRun : Bool → List Slot → Type 0

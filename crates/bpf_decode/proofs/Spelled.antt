@@ -4,7 +4,8 @@ use Rattle.std.proofs.lemmas.Bool.{eqb-true, eqb-false, ltb-false, ne_eqb, eq-eq
 use Rattle.refusals.specs.declared.RefusalNumber.TheVariants.{Length}
 use Rattle.bpf_profile.specs.declared.slot.Slot.{Slot}
 use Rattle.bpf_profile.specs.Limits.{most_slots}
-use Rattle.bpf_profile.specs.Spelling.{Fault, Spells, slots_at, fault_from, is_bad_length, first_fault}
+use Rattle.bpf_profile.specs.Spelling.{Spells}
+use Rattle.bpf_profile.specs.SpellingFaults.{Fault, slots_at, fault_from, is_bad_length, first_fault}
 use Rattle.bpf_decode.proofs.Runs.{program_run, none_run, run_none, run_instructions, run_tails}
 use Rattle.bpf_decode.proofs.Texts.{IsBytes, length_text, slots_again, text_again, slots_fit, length_slots}
 

@@ -12,7 +12,8 @@ use Rattle.bpf_profile.specs.declared.slot.Slot.{Slot}
 use Rattle.bpf_profile.specs.declared.slot.Slot.TheVariants.{Ins, Tail}
 use Rattle.bpf_profile.specs.Opcodes.{opcode_of, immediate_opcode}
 use Rattle.bpf_profile.specs.Slots.{instruction_of}
-use Rattle.bpf_profile.specs.Spelling.{slot_bytes, IsSlot, is_wide, slot_with, slot_at, slots_at}
+use Rattle.bpf_profile.specs.Spelling.{slot_bytes, IsSlot, is_wide}
+use Rattle.bpf_profile.specs.SpellingFaults.{slot_with, slot_at, slots_at}
 use Rattle.bpf_decode.proofs.Runs.{IsRun}
 
 abbrev pub IsBytes : List ℕ → Type 0

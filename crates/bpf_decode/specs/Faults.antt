@@ -1,7 +1,7 @@
 -- What decoding answers.
 use Rattle.std.specs.Prelude.{◌≡◌, ◌⊎◌, ℕ, List, Option, Some, None, Result, Ok, Err}
 use Rattle.refusals.specs.declared.RefusalNumber.TheVariants.{ProgramOutOfMemory}
-use Rattle.bpf_profile.specs.Spelling.{Fault, first_fault}
+use Rattle.bpf_profile.specs.SpellingFaults.{Fault, first_fault}
 use Rattle.bpf_decode.specs.declared.error.DecodeError.{DecodeError}
 
 -- the error that says that memory ran out

@@ -6,7 +6,8 @@ ghost use Rattle.bpf_profile.specs.declared.opcode.Opcode.{Opcode};
 ghost use Rattle.bpf_profile.specs.declared.slot.Slot.{Slot};
 ghost use Rattle.bpf_profile.specs.Opcodes.{opcode_of};
 ghost use Rattle.bpf_profile.specs.Slots.{instruction_of};
-ghost use Rattle.bpf_profile.specs.Spelling.{Spells, IsSlot, first_fault};
+ghost use Rattle.bpf_profile.specs.Spelling.{Spells, IsSlot};
+ghost use Rattle.bpf_profile.specs.SpellingFaults.{first_fault};
 ghost use Rattle.bpf_decode.specs.Encoding.{first_slot, second_slot, IsInstruction, Stands};
 ghost use Rattle.bpf_decode.specs.OpcodeNumbers.{opcode_number, is_listed};
 

@@ -16,7 +16,7 @@ use std::marker::Model;
 
 /// A program of the profile: 1 to 4,096 slots, each an instruction or the tail of a wide immediate.
 /// Contracts see the list of its slots.
-#[derive(Debug, Drop)]
+#[derive(Drop)]
 pub struct Program {
     slots: Vec<Slot>,
 }

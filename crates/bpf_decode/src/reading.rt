@@ -3,7 +3,8 @@ ghost use Rattle.std.specs.Prelude.{◌≡◌, ◌≤◌, ◌/◌, ◌<◌, ◌+
 ghost use Rattle.std.specs.Vec.{vec_capacity};
 ghost use Rattle.bpf_profile.specs.Limits.{most_slots};
 ghost use Rattle.bpf_profile.specs.Slots.{instruction_of};
-ghost use Rattle.bpf_profile.specs.Spelling.{is_bad_length, slot_at, slots_at, is_wide, fault_from};
+ghost use Rattle.bpf_profile.specs.Spelling.{is_wide};
+ghost use Rattle.bpf_profile.specs.SpellingFaults.{is_bad_length, slot_at, slots_at, fault_from};
 ghost use Rattle.bpf_decode.specs.Faults.{found_fault};
 ghost use Rattle.bpf_decode.specs.Kept.{AreInstructions};
 

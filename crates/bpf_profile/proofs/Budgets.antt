@@ -4,7 +4,8 @@ use Rattle.std.specs.Prelude.{IsSome}
 use Rattle.std.proofs.lemmas.Option.{slice_get_within}
 use Rattle.bpf_profile.specs.declared.instruction.Instruction.{Instruction}
 use Rattle.bpf_profile.specs.declared.slot.Slot.{Slot}
-use Rattle.bpf_profile.specs.Flow.{WalkFrom, IsWalk, IsBudget, flow_fault}
+use Rattle.bpf_profile.specs.Flow.{WalkFrom, IsWalk, IsBudget}
+use Rattle.bpf_profile.specs.FlowFaults.{flow_fault}
 use Rattle.bpf_profile.specs.Meaning.{instruction_at}
 use Rattle.bpf_profile.specs.Spelling.{IsProgram}
 use Rattle.bpf_profile.proofs.Edges.{edges_forward, slot_of}

@@ -14,7 +14,8 @@ use Rattle.bpf_profile.specs.declared.slot.Slot.{Slot}
 use Rattle.bpf_profile.specs.declared.slot.Slot.TheVariants.{Ins, Tail}
 use Rattle.bpf_profile.specs.declared.fields.Fields.{Fields}
 use Rattle.bpf_profile.specs.Limits.{most_slots}
-use Rattle.bpf_profile.specs.Flow.{flow_fault, flow_fault_from, flow_fault_at, flow_fault_of, successors, Edge, edges_of, next_of, distance_of, is_tail_at, is_entered, jump_fault, next_fault}
+use Rattle.bpf_profile.specs.Flow.{successors, Edge, edges_of, next_of, distance_of}
+use Rattle.bpf_profile.specs.FlowFaults.{flow_fault, flow_fault_from, flow_fault_at, flow_fault_of, is_tail_at, is_entered, jump_fault, next_fault}
 use Rattle.bpf_profile.specs.Machine.{target_of}
 use Rattle.bpf_profile.specs.Meaning.{instruction_at}
 use Rattle.bpf_profile.specs.Opcodes.{opcode_of, immediate_opcode}

@@ -10,9 +10,10 @@ use Rattle.bpf_profile.specs.declared.instruction.Instruction.{Instruction}
 use Rattle.bpf_profile.specs.declared.slot.Slot.{Slot}
 use Rattle.bpf_profile.specs.declared.slot.Slot.TheVariants.{Tail}
 use Rattle.bpf_profile.specs.Faults.{IsLeastFault, IsFaultless, follows_wide, decoding_fault_at, slots_of}
-use Rattle.bpf_profile.specs.Flow.{flow_fault, flow_fault_from, flow_fault_at}
+use Rattle.bpf_profile.specs.FlowFaults.{flow_fault, flow_fault_from, flow_fault_at}
 use Rattle.bpf_profile.specs.Slots.{instruction_of}
-use Rattle.bpf_profile.specs.Spelling.{Fault, is_wide, is_bad_length, first_fault, fault_or, fault_from, slots_at}
+use Rattle.bpf_profile.specs.Spelling.{is_wide}
+use Rattle.bpf_profile.specs.SpellingFaults.{Fault, is_bad_length, first_fault, fault_or, fault_from, slots_at}
 use Rattle.bpf_profile.proofs.Edges.{wide_is}
 
 -- ---- a fold over any places

@@ -5,7 +5,8 @@ use Rattle.std.specs.Result.{result_err}
 use Rattle.refusals.specs.declared.RefusalNumber.{RefusalNumber}
 use Rattle.bpf_profile.specs.declared.slot.Slot.{Slot}
 use Rattle.bpf_profile.specs.Slots.{instruction_of}
-use Rattle.bpf_profile.specs.Spelling.{Fault, is_wide, slots_at}
+use Rattle.bpf_profile.specs.Spelling.{is_wide}
+use Rattle.bpf_profile.specs.SpellingFaults.{Fault, slots_at}
 
 -- of the first so many slots, this is the least that has a fault, and this is its fault
 pub record IsLeastFault (fault_at : ℕ → Option RefusalNumber) (count : ℕ) (fault : Fault) : Type 0 where

@@ -4,12 +4,14 @@ pub mod Words
 pub mod Opcodes
 pub mod Slots
 pub mod Spelling
+pub mod SpellingFaults
 pub mod Outcomes
 pub mod Machine
 pub mod Helpers
 pub mod Meaning
 pub mod Faults
 pub mod Flow
+pub mod FlowFaults
 pub mod Safety
 pub mod Programs
 pub mod JudgedWork

@@ -83,7 +83,7 @@ pub enum Extension {
 
 /// What a byte order conversion makes of the low bytes (RFC 9669, section 4.2). The machine is little
 /// endian: a conversion to little endian keeps them, the other two reverse them.
-#[derive(Clone, Copy, Debug)]
+#[derive(Clone, Copy)]
 pub enum ByteOrder {
     Little,
     Big,
@@ -91,14 +91,14 @@ pub enum ByteOrder {
 }
 
 /// The second operand: a register, or a word that the instruction has.
-#[derive(Clone, Copy, Debug)]
+#[derive(Clone, Copy)]
 pub enum Operand {
     Register(Register),
     Immediate(u64),
 }
 
 /// An instruction of the profile (RFC 9669, sections 4 and 5).
-#[derive(Clone, Copy, Debug)]
+#[derive(Clone, Copy)]
 pub enum Instruction {
     /// `destination` becomes the operation on it and the operand.
     Arithmetic {

@@ -8,11 +8,13 @@ ghost use Rattle.bpf_profile.specs.declared.machine.Verdict.{Verdict};
 ghost use Rattle.bpf_profile.specs.declared.slot.Slot.{Slot};
 ghost use Rattle.bpf_profile.specs.Words.{IsWord, arithmetic, low, bits_of};
 ghost use Rattle.bpf_profile.specs.Faults.{IsLeastFault, IsFaultless, decoding_fault_at, slots_of};
-ghost use Rattle.bpf_profile.specs.Spelling.{IsProgram, Fault, first_fault, is_bad_length};
+ghost use Rattle.bpf_profile.specs.Spelling.{IsProgram};
+ghost use Rattle.bpf_profile.specs.SpellingFaults.{Fault, first_fault, is_bad_length};
 ghost use Rattle.bpf_profile.specs.Outcomes.{Outcome, IsOutcome, AgreeOn, shortened};
 ghost use Rattle.bpf_profile.specs.Machine.{State, Effect};
 ghost use Rattle.bpf_profile.specs.Meaning.{step, Ends, Judges, instruction_at};
-ghost use Rattle.bpf_profile.specs.Flow.{IsBudget, Edge, flow_fault, flow_fault_at};
+ghost use Rattle.bpf_profile.specs.Flow.{IsBudget, Edge};
+ghost use Rattle.bpf_profile.specs.FlowFaults.{flow_fault, flow_fault_at};
 ghost use Rattle.bpf_profile.specs.Safety.{IsSafe};
 
 /// Division by 0 gives 0, and the remainder by 0 is the dividend (RFC 9669, section 4.1).

@@ -9,7 +9,7 @@ use crate::opcode::Opcode;
 use refusals::RefusalNumber;
 
 /// A slot, as its fields stand in its eight bytes.
-#[derive(Clone, Copy, Debug, PartialEq, Eq)]
+#[derive(Clone, Copy, PartialEq, Eq)]
 pub enum Slot {
     /// Opcode, destination and source register (0 to 15 each), offset and immediate. The last two are
     /// two's complement.

@@ -8,7 +8,8 @@ use Rattle.service_profile.specs.declared.notes.Totals.{Totals}
 use Rattle.service_profile.specs.declared.standings.Standing.{Standing}
 use Rattle.service_profile.specs.declared.states.State.TheVariants as state
 use Rattle.service_profile.specs.Standings.{is_half_open}
-use Rattle.service_profile.specs.Windows.{totals_of, AreTotals}
+use Rattle.service_profile.specs.Windows.{totals_of}
+use Rattle.service_profile.specs.RunningTotals.{AreTotals}
 
 -- a breaker, as contracts see it: no note is held, but a window over those of the period, or in HALF_OPEN their totals
 pub record HeldBreaker : Type 0 where

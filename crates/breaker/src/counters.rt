@@ -1,6 +1,6 @@
 //! Totals with one note more.
 ghost use Rattle.std.specs.Prelude.{◌≡◌, ◌-◌, ◌^◌};
-ghost use Rattle.service_profile.specs.Windows.{with_note, AreTotals};
+ghost use Rattle.service_profile.specs.RunningTotals.{with_note, AreTotals};
 
 use service_profile::{Note, Totals};
 

@@ -47,7 +47,8 @@ impl Breaker {
     ghost use Rattle.std.specs.Prelude.{◌≡◌, ◌<◌, ◌≤◌, ◌+◌, ◌-◌, ◌^◌, ◌++◌, ◌∷◌, [], IsTrue, ◌↔◌, IfOk, IfSome, OnSome};
     ghost use Rattle.breaker.specs.Situations.{BreakerSituation, StandsFor, HasRoom, first_situation};
     ghost use Rattle.breaker.specs.Calls.{permission_of, after_stay, after_note_in, begun, with_note_in, followed, with_permission, without_permission};
-    ghost use Rattle.service_profile.specs.Windows.{totals_of, windowed, AreTotals};
+    ghost use Rattle.service_profile.specs.Windows.{totals_of, windowed};
+    ghost use Rattle.service_profile.specs.RunningTotals.{AreTotals};
     ghost use Rattle.windows.specs.Notes.{AreNotAfter};
 
     /// A breaker in CLOSED, in this period, since a moment in milliseconds. It takes all its memory here.

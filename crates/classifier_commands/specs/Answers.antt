@@ -7,7 +7,7 @@ use Rattle.bpf_profile.specs.Layouts.{context_size}
 use Rattle.bpf_profile.specs.Meaning.{Judges}
 use Rattle.bpf_profile.specs.Outcomes.{Outcome}
 use Rattle.bpf_profile.specs.Safety.{IsSafe}
-use Rattle.bpf_profile.specs.Spelling.{Fault}
+use Rattle.bpf_profile.specs.SpellingFaults.{Fault}
 use Rattle.texts.specs.Outcomes.{outcome_of}
 use Rattle.texts.specs.JsonText.{json_of}
 use Rattle.bpf_profile.specs.Programs.{VerifiedProgram}

@@ -4,7 +4,8 @@ use Rattle.std.specs.Str.{IsUtf8, IsValidUpTo}
 use Rattle.hex.specs.Hex.{encode_lower}
 use Rattle.refusals.specs.declared.RefusalNumber.TheVariants.{ProgramOutOfMemory, AssemblerOutOfMemory, UnknownWord, BadHex}
 use Rattle.bpf_profile.specs.declared.slot.Slot.{Slot}
-use Rattle.bpf_profile.specs.Spelling.{Spells, first_fault}
+use Rattle.bpf_profile.specs.Spelling.{Spells}
+use Rattle.bpf_profile.specs.SpellingFaults.{first_fault}
 use Rattle.bpf_asm.specs.Assembly.{Assembles, assembly_of}
 use Rattle.bpf_asm.specs.Canonical.{text_of}
 use Rattle.classifier_commands.specs.declared.answer.CommandRefusal.{CommandRefusal}

@@ -15,9 +15,10 @@ use Rattle.service_profile.specs.Histories.{Past, past_of, opened, passed, situa
 use Rattle.service_profile.specs.Limits.{greatest_number}
 use Rattle.service_profile.specs.Machine.{is_entered, current_version}
 use Rattle.book.proofs.Deciding.{decision_near}
-use Rattle.service_profile.specs.Openings.{first_opening}
+use Rattle.service_profile.specs.FirstOpening.{first_opening}
 use Rattle.book.specs.Good.{IsGood}
-use Rattle.desk.specs.Kept.{IsOpeningAfter, IsOfOne, AreOfSome, most_cuts}
+use Rattle.desk.specs.Kept.{IsOfOne, AreOfSome, most_cuts}
+use Rattle.book.specs.Reopened.{IsOpeningAfter}
 use Rattle.service_profile.specs.declared.configuration.Config.{Config}
 use Rattle.verifier.specs.declared.verified.Verified.{Verified}
 use Rattle.desk.specs.Services.{ServiceData, service_of}

@@ -13,10 +13,3 @@ desk_of services seats = record { services = services; seats = seats }
 -- the service at this place is one of the desk's
 abbrev pub IsServiceOf : DeskData → ℕ → Type 0
 IsServiceOf desk service = service < length desk.services
-
--- how many seats a desk gives at most, and how many services it has at most
-abbrev pub most_seats : ℕ
-most_seats = 128
-
-abbrev pub most_services : ℕ
-most_services = 64

@@ -1,20 +1,15 @@
 -- What a service's lock keeps.
-use Rattle.std.specs.Prelude.{◌≡◌, ℕ, zero, suc, ◌+◌, ◌-◌, ◌^◌, List, [], ◌∷◌, Contains, Ok, ⊤}
-use Rattle.service_profile.specs.Answers.{cut}
-use Rattle.service_profile.specs.Events.{Opening, History}
+use Rattle.std.specs.Prelude.{◌≡◌, ℕ, ◌+◌, ◌-◌, ◌^◌, List, [], ◌∷◌, Contains, ⊤}
+use Rattle.service_profile.specs.Events.{History}
 use Rattle.service_profile.specs.Histories.{past_of, next_line}
-use Rattle.service_profile.specs.Openings.{first_opening}
+use Rattle.service_profile.specs.FirstOpening.{first_opening}
 use Rattle.desk.specs.Services.{ServiceData}
+use Rattle.book.specs.Reopened.{IsOpeningAfter}
 use Rattle.book.specs.Good.{IsGood}
 
 -- the number of the last entry, 0 before the first
 abbrev pub last_number : History → ℕ
 last_number history = next_line (past_of history) - 1
-
--- an opening of a service that opened first so, after so many cuts: the first one; or the documented one of a cut, after a legal history with such an opening
-abbrev pub IsOpeningAfter : Opening → ℕ → Opening → Type 0
-IsOpeningAfter first zero opening = opening ≡ first
-IsOpeningAfter first (suc cuts) opening = (before : History) × IsOpeningAfter first cuts before.opening × IsGood before × (cut (past_of before) ≡ Ok opening)
 
 -- the history is that of one of these services, with its configuration and its first program, after so many cuts
 abbrev pub IsOfOne : List ServiceData → ℕ → History → Type 0

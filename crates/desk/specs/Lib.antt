@@ -4,4 +4,3 @@ pub mod Desks
 pub mod Kept
 pub mod AfterSome
 pub mod Calls
-pub mod Closing

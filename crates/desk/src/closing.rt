@@ -3,7 +3,7 @@ ghost use Rattle.std.specs.Prelude.{◌≡◌, ◌≢◌, ◌⊎◌, ◌+◌, �
 ghost use Rattle.std.specs.List.{AllByRecursion};
 ghost use Rattle.desk.specs.Kept.{AreOfSome, last_number, most_numbers, most_cuts};
 ghost use Rattle.book.specs.Good.{IsGood};
-ghost use Rattle.desk.specs.Closing.{IsUnclosed};
+ghost use Rattle.service.specs.Desks.{IsUnclosed};
 
 use crate::desks::{Desk, LockedService};
 use crate::offered::Offered;

@@ -1,8 +1,9 @@
 //! Desks: services behind their locks, and the seats that ask them.
 ghost use Rattle.std.specs.Prelude.{◌≡◌, ◌<◌, ◌≤◌, ◌+◌, ◌*◌, [], length, map, position, bytes_eq, string_bytes, vec_len, IfOk, IfErr, IfSome};
-ghost use Rattle.desk.specs.Desks.{desk_of, IsServiceOf, most_seats, most_services};
+ghost use Rattle.desk.specs.Desks.{desk_of, IsServiceOf};
+ghost use Rattle.service.specs.Desks.{most_seats, most_services};
 ghost use Rattle.service_profile.specs.Events.{history_of};
-ghost use Rattle.service_profile.specs.Openings.{first_opening};
+ghost use Rattle.service_profile.specs.FirstOpening.{first_opening};
 ghost use Rattle.desk.specs.Kept.{IsOfOne, most_numbers, most_cuts};
 ghost use Rattle.desk.specs.Seats.{seat_of};
 ghost use Rattle.desk.specs.Services.{service_of};

@@ -11,7 +11,8 @@ use Rattle.refusals.specs.declared.RefusalNumber.TheVariants.{Unreachable}
 use Rattle.bpf_profile.specs.declared.instruction.Instruction.{Instruction}
 use Rattle.bpf_profile.specs.declared.slot.Slot.{Slot}
 use Rattle.bpf_profile.specs.Limits.{most_slots}
-use Rattle.bpf_profile.specs.Flow.{Edge, successors, edges_of, is_entered, is_entered_from, flow_fault, flow_fault_at, flow_fault_of, flow_fault_from}
+use Rattle.bpf_profile.specs.Flow.{Edge, successors, edges_of}
+use Rattle.bpf_profile.specs.FlowFaults.{is_entered, is_entered_from, flow_fault, flow_fault_at, flow_fault_of, flow_fault_from}
 use Rattle.bpf_profile.specs.Meaning.{instruction_at}
 use Rattle.bpf_profile.specs.Slots.{instruction_of}
 use Rattle.bpf_profile.specs.Spelling.{IsProgram}

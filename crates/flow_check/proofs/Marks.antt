@@ -7,7 +7,8 @@ use Rattle.std.proofs.lemmas.Bool.{cases_eq, eq-eqb, ne_eqb}
 use Rattle.std.proofs.lemmas.List.{length-set, get_or-set_same, get_or-set_other, get_or-replicate, length-replicate}
 use Rattle.bpf_profile.specs.declared.instruction.Instruction.{Instruction}
 use Rattle.bpf_profile.specs.declared.slot.Slot.{Slot}
-use Rattle.bpf_profile.specs.Flow.{successors, edges_of, next_of, distance_of, is_entered_from}
+use Rattle.bpf_profile.specs.Flow.{successors, edges_of, next_of, distance_of}
+use Rattle.bpf_profile.specs.FlowFaults.{is_entered_from}
 use Rattle.bpf_profile.specs.Machine.{target_of}
 use Rattle.bpf_profile.specs.Meaning.{instruction_at}
 use Rattle.flow_check.specs.Passes.{AreEntered, marked_all}

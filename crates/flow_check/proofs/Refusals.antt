@@ -7,7 +7,7 @@ use Rattle.refusals.specs.declared.RefusalNumber.{RefusalNumber}
 use Rattle.refusals.specs.declared.RefusalNumber.TheVariants.{Unreachable}
 use Rattle.bpf_profile.specs.declared.instruction.Instruction.{Instruction}
 use Rattle.bpf_profile.specs.declared.slot.Slot.{Slot}
-use Rattle.bpf_profile.specs.Flow.{is_entered, flow_fault_of, flow_fault_at, flow_fault_from}
+use Rattle.bpf_profile.specs.FlowFaults.{is_entered, flow_fault_of, flow_fault_at, flow_fault_from}
 use Rattle.bpf_profile.specs.Meaning.{instruction_at}
 use Rattle.flow_check.specs.Passes.{AreEntered, edge_fault}
 

@@ -4,7 +4,8 @@ use Rattle.std.specs.Option.{option_or, option_map_or}
 use Rattle.refusals.specs.declared.RefusalNumber.{RefusalNumber}
 use Rattle.bpf_profile.specs.declared.instruction.Instruction.{Instruction}
 use Rattle.bpf_profile.specs.declared.slot.Slot.{Slot}
-use Rattle.bpf_profile.specs.Flow.{is_entered_from, jump_fault, next_fault, distance_of, next_of}
+use Rattle.bpf_profile.specs.Flow.{distance_of, next_of}
+use Rattle.bpf_profile.specs.FlowFaults.{is_entered_from, jump_fault, next_fault}
 
 -- marks that tell slot 0 and the slots to which an edge leads from one of the first so many
 pub record AreEntered (slots : List Slot) (count : ℕ) (marks : List Bool) : Type 0 where

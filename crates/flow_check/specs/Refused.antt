@@ -1,6 +1,6 @@
 -- The refusals that the check answers with.
 use Rattle.refusals.specs.declared.RefusalNumber.TheVariants.{ProgramOutOfMemory}
-use Rattle.bpf_profile.specs.Spelling.{Fault}
+use Rattle.bpf_profile.specs.SpellingFaults.{Fault}
 use Rattle.flow_check.specs.declared.error.FlowError.{FlowError}
 
 -- the answer where memory ran out

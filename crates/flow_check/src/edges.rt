@@ -4,7 +4,8 @@ ghost use Rattle.bpf_profile.specs.Limits.{most_slots};
 ghost use Rattle.bpf_profile.specs.Spelling.{IsProgram};
 ghost use Rattle.bpf_profile.specs.Machine.{target_of};
 ghost use Rattle.bpf_profile.specs.Meaning.{instruction_at};
-ghost use Rattle.bpf_profile.specs.Flow.{next_of, distance_of, successors, flow_fault};
+ghost use Rattle.bpf_profile.specs.Flow.{next_of, distance_of, successors};
+ghost use Rattle.bpf_profile.specs.FlowFaults.{flow_fault};
 ghost use Rattle.flow_check.specs.Routes.{successor_list};
 
 use bpf_decode::Decoded;

@@ -1,7 +1,7 @@
 //! Faults of control flow.
 ghost use Rattle.std.specs.Prelude.{◌≡◌, ℕ, ◌<◌, ◌≤◌, length, option_map, IfSome};
 ghost use Rattle.bpf_profile.specs.Limits.{most_slots};
-ghost use Rattle.bpf_profile.specs.Flow.{jump_fault, next_fault, flow_fault_at, flow_fault, is_tail_at};
+ghost use Rattle.bpf_profile.specs.FlowFaults.{jump_fault, next_fault, flow_fault_at, flow_fault, is_tail_at};
 ghost use Rattle.flow_check.specs.Passes.{AreEntered, edge_fault};
 ghost use Rattle.flow_check.specs.Refused.{fault_of};
 

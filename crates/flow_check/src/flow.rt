@@ -3,7 +3,8 @@ ghost use Rattle.std.specs.Prelude.{◌≡◌, ℕ, ◌+◌, ◌<◌, ◌≤◌,
 ghost use Rattle.std.specs.List.{range_with_len};
 ghost use Rattle.bpf_profile.specs.Limits.{most_slots};
 ghost use Rattle.bpf_profile.specs.Spelling.{IsProgram};
-ghost use Rattle.bpf_profile.specs.Flow.{IsBudget, successors, flow_fault};
+ghost use Rattle.bpf_profile.specs.Flow.{IsBudget, successors};
+ghost use Rattle.bpf_profile.specs.FlowFaults.{flow_fault};
 ghost use Rattle.flow_check.specs.Passes.{IsLengthened};
 ghost use Rattle.flow_check.specs.Routes.{Routes, successor_list, successors_at, AreFew};
 ghost use Rattle.flow_check.specs.Refused.{out_of_memory, fault_of};

@@ -5,7 +5,8 @@ use Rattle.std.specs.List.{AllByRecursion}
 use Rattle.atomic_table.specs.Seated.{TableId}
 use Rattle.service_profile.specs.Events.{History}
 use Rattle.slot_desk.specs.Desks.{DeskData}
-use Rattle.slot_desk.specs.Seats.{SeatData, new_seat, IsSeatOf}
+use Rattle.slot_desk.specs.Seats.{SeatData, IsSeatOf}
+use Rattle.slot_desk.specs.Sitting.{new_seat}
 use Rattle.http_seats.specs.Slots.{seats_of}
 
 seats_more : (tables : List TableId) (origins : List (Option History)) (number count : ℕ) → seats_of tables origins number (suc count) ≡ seats_of tables origins number count ++ new_seat (number + count) tables origins ∷ []

@@ -7,7 +7,8 @@ use Rattle.service_profile.specs.Events.{History}
 use Rattle.slot_desk.specs.Calls as seats
 use Rattle.slot_desk.specs.Closing.{AreOf, HaveCourses, NumbersAgree}
 use Rattle.slot_desk.specs.Desks.{DeskData}
-use Rattle.slot_desk.specs.Seats.{SeatData, new_seat}
+use Rattle.slot_desk.specs.Seats.{SeatData}
+use Rattle.slot_desk.specs.Sitting.{new_seat}
 
 -- where the first of the desk's services with this name stands
 abbrev pub place_at : DeskData → List ℕ → Option ℕ

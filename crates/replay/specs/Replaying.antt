@@ -8,7 +8,7 @@ use Rattle.verifier.specs.DefaultClassifier.{default_classifier_bytes}
 use Rattle.bpf_profile.specs.Programs.{VerifiedProgram}
 use Rattle.verifier.specs.Verifying.{IsVerification}
 use Rattle.service_profile.specs.declared.configuration.ConfigParts.{ConfigParts}
-use Rattle.service_profile.specs.Openings.{first_opening}
+use Rattle.service_profile.specs.FirstOpening.{first_opening}
 use Rattle.service_profile.specs.Events.{history_of, History}
 use Rattle.requests.specs.Configurations.{config_in}
 use Rattle.service.specs.Asked.{ResponseData}

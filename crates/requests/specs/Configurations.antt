@@ -12,7 +12,7 @@ use Rattle.service_profile.specs.declared.configuration.ConfigField.TheVariants 
 use Rattle.service_profile.specs.declared.configuration.ConfigParts.{ConfigParts}
 use Rattle.service_profile.specs.declared.configuration.SlidingWindowType.{SlidingWindowType}
 use Rattle.service_profile.specs.declared.configuration.SlidingWindowType.TheVariants as window
-use Rattle.service_profile.specs.Configuration.{configured, default_parts}
+use Rattle.service_profile.specs.Configured.{configured, default_parts}
 use Rattle.texts.specs.JsonText.{json_of}
 use Rattle.requests.specs.declared.configurations.ConfigMistake.{ConfigMistake}
 use Rattle.requests.specs.declared.configurations.ConfigMistake.TheVariants as mistake

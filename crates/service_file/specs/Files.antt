@@ -7,7 +7,7 @@ use Rattle.serde_json.specs.Find.{get, as_array, as_str}
 use Rattle.bpf_profile.specs.declared.layout.Layout.{Layout}
 use Rattle.texts.specs.Outcomes.{◌>>=◌, if_there}
 use Rattle.service_profile.specs.declared.configuration.ConfigParts.{ConfigParts}
-use Rattle.service_profile.specs.Configuration.{default_parts}
+use Rattle.service_profile.specs.Configured.{default_parts}
 use Rattle.requests.specs.Configurations.{config_of}
 use Rattle.requests.specs.Keys.{is_one_of, has_known_keys}
 use Rattle.requests.specs.Layouts.{layout_of}

@@ -2,7 +2,7 @@
 use Rattle.std.specs.Prelude.{◌≡◌, ◌⊎◌, ℕ, List, [], ◌∷◌, length, Option, Some, None, string_bytes, true, ⊤}
 use Rattle.std.specs.Net.Grammar.{IsSocketText}
 use Rattle.std.specs.declared.net.socket_addr.SocketAddr.{SocketAddr}
-use Rattle.bpf_profile.specs.Spelling.{Fault}
+use Rattle.bpf_profile.specs.SpellingFaults.{Fault}
 use Rattle.verifier.specs.DefaultClassifier.{default_classifier_bytes}
 use Rattle.verifier.specs.Verifying.{IsVerification, IsRefused}
 use Rattle.service_file.specs.declared.settings.ServiceSettings.{ServiceSettings}

@@ -6,7 +6,7 @@ ghost use Rattle.std.specs.Result.{result_ok};
 ghost use Rattle.std.specs.Str.{bytes_eq};
 ghost use Rattle.serde_json.specs.Find.{get, as_array};
 ghost use Rattle.serde_json.specs.View.{view, items_view};
-ghost use Rattle.service_profile.specs.Configuration.{default_parts};
+ghost use Rattle.service_profile.specs.Configured.{default_parts};
 ghost use Rattle.service_file.specs.Files.{is_named, name_at, config_at, program_at, service_of, with_service, services_after, services_of, services_at};
 ghost use Rattle.service_file.specs.Parts.{service_data};
 

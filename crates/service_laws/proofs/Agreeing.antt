@@ -17,13 +17,14 @@ use Rattle.service_profile.specs.declared.tickets.OpenTicket.{OpenTicket}
 use Rattle.service_profile.specs.Answers.{current_program}
 use Rattle.service_profile.specs.Events.{EntryData, History}
 use Rattle.service_profile.specs.Histories.{Stage, Past, issue_by, issue_at, is_listed, opened, passed, past_of, machine, IsLegal}
+use Rattle.book.specs.Accepted.{Accepting}
 use Rattle.book.specs.Laws.{IsService}
 use Rattle.service_laws.specs.Promises.{numbers_issued, first_lines, newest_before, AreOfTheTicket, Finishes}
 use Rattle.book.specs.Sound.{next_ticket}
 use Rattle.service_laws.proofs.Endings.{number_option, numbers_step, all_given, issued_next}
 use Rattle.service_laws.proofs.Issuing.{legal_there, line_follows, got_first, same_line, no_line, past_on, of_its_ticket}
 use Rattle.book.proofs.Passing.{unlisted}
-use Rattle.book.proofs.SafeEvents.{Safely}
+use Rattle.book.proofs.Accepting.{Safely}
 
 -- ---- a number that was given stays given
 
@@ -131,10 +132,10 @@ agreed one other common place elsewhere ticket outcome v w steps count version l
     let slots : List _ = (newest_before b.issuing other).slots in
     (verdicts_agree size slots outcome v w steps count judged b.judged, (ends_agree size slots outcome (answer_of v) (answer_of w) steps count judged b.judged).1, versions)
 
-pub later_ignored : Safely → (one other : History) (common place elsewhere ticket : ℕ) (outcome : Outcome) (v w : Verdict) (steps count version label : ℕ) → IsService one → IsService other → first_lines common one ≡ first_lines common other
+pub later_ignored : (accepts : Accepting) → Safely accepts → (one other : History) (common place elsewhere ticket : ℕ) (outcome : Outcome) (v w : Verdict) (steps count version label : ℕ) → IsService accepts one → IsService accepts other → first_lines common one ≡ first_lines common other
     → is_listed (numbers_issued (past_of (first_lines common one)).stages) ticket ≡ true
     → Finishes one place ticket outcome v steps version → Finishes other elsewhere ticket outcome w count label → (v ≡ w) × (steps ≡ count) × (version ≡ label)
-later_ignored safely one other common place elsewhere ticket outcome v w steps count version label good fine same listed a b =
+later_ignored accepts safely one other common place elsewhere ticket outcome v w steps count version label good fine same listed a b =
     agreed one other common place elsewhere ticket outcome v w steps count version label good.legal fine.legal same listed
-    (of_its_ticket safely one place ticket outcome v steps version good a)
-    (of_its_ticket safely other elsewhere ticket outcome w count label fine b)
+    (of_its_ticket accepts safely one place ticket outcome v steps version good a)
+    (of_its_ticket accepts safely other elsewhere ticket outcome w count label fine b)

@@ -19,7 +19,8 @@ use Rattle.service_profile.specs.Events.{EntryData, Opening, History, finishes}
 use Rattle.service_profile.specs.Histories.{Past, issue_by, issue_at, issued, install_at, install_by, programs_of, opened, passed, past_of, machine, Follows, AreLegal, IsLegal}
 use Rattle.service_profile.specs.Machine.{program_from}
 use Rattle.service_profile.specs.MeantVerdicts.{IsMeant}
-use Rattle.book.specs.Laws.{IsLine, IsService}
+use Rattle.book.specs.Accepted.{Accepting, IsLine}
+use Rattle.book.specs.Laws.{IsService}
 use Rattle.service_laws.specs.Promises.{first_lines, newest_before, Finishes, AreOfTheTicket}
 use Rattle.book.proofs.Applying.{opening_kept}
 use Rattle.book.proofs.Cuts.{from_last}
@@ -28,7 +29,7 @@ use Rattle.book.proofs.Keeping.{shape_there}
 use Rattle.book.proofs.Lawful.{service_sound}
 use Rattle.book.proofs.Lists.{map_with, got}
 use Rattle.book.proofs.Meaning.{later_held, meant_by}
-use Rattle.book.proofs.SafeEvents.{Safely, line_safe}
+use Rattle.book.proofs.Accepting.{Safely, programs_safe, judged_safe}
 
 -- ---- the first lines of a history
 
@@ -37,17 +38,17 @@ legal_first past lines zero legal = tt
 legal_first past [] (suc count) legal = tt
 legal_first past (l ∷ lines) (suc count) legal = (legal.0, legal_first (passed past l) lines count legal.1)
 
-good_first : (lines : List EntryData) (count : ℕ) → AllByRecursion IsLine lines → AllByRecursion IsLine (take count lines)
-good_first lines zero good = tt
-good_first [] (suc count) good = tt
-good_first (l ∷ lines) (suc count) good = (good.0, good_first lines count good.1)
+good_first : (accepts : Accepting) (lines : List EntryData) (count : ℕ) → AllByRecursion (IsLine accepts) lines → AllByRecursion (IsLine accepts) (take count lines)
+good_first accepts lines zero good = tt
+good_first accepts [] (suc count) good = tt
+good_first accepts (l ∷ lines) (suc count) good = (good.0, good_first accepts lines count good.1)
 
 pub legal_there : (history : History) (count : ℕ) → IsLegal history → IsLegal (first_lines count history)
 unfolding IsLegal
 legal_there history count legal = legal_first (opened history.rolled history.opening) history.lines count legal
 
-service_first : (history : History) (count : ℕ) → IsService history → IsService (first_lines count history)
-service_first history count service = search (rules, legal_there, good_first)
+service_first : (accepts : Accepting) (history : History) (count : ℕ) → IsService accepts history → IsService accepts (first_lines count history)
+service_first accepts history count service = search (rules, legal_there, good_first)
 
 pub no_line : {A : Type 0} (l : EntryData) → ◌≡◌ {A = Option EntryData} None (Some l) → A
 no_line l e = cc
@@ -186,21 +187,21 @@ by_ticket : (history : History) (place : ℕ) (work : JudgedData) (ticket : ℕ)
     → IsIssuedIn (opened history.rolled history.opening) (take place history.lines) is_meant.issued → AreOfTheTicket history place ticket work.outcome v steps version
 by_ticket history place work ticket v steps version is_meant is = search (rules, got_first, take-take, same_program, still_named)
 
-finished_so : Safely → (history : History) (place : ℕ) (line : EntryData) (work : JudgedData) (ticket : ℕ) (f : Fate) (v : Verdict) (steps version : ℕ) (reached : State) → IsService history → slice_get history.lines place ≡ Some line
+finished_so : (accepts : Accepting) → Safely accepts → (history : History) (place : ℕ) (line : EntryData) (work : JudgedData) (ticket : ℕ) (f : Fate) (v : Verdict) (steps version : ℕ) (reached : State) → IsService accepts history → slice_get history.lines place ≡ Some line
     → line.event ≡ finishes work ticket → line.reply ≡ reply.Finished f v steps version reached → AreOfTheTicket history place ticket work.outcome v steps version
-finished_so safely history place line work ticket f v steps version reached service e event replied =
+finished_so accepts safely history place line work ticket f v steps version reached service e event replied =
     let before : History = first_lines place history in
     let past : Past = past_of before in
-    let good : IsService before = service_first history place service in
-    let sound = service_sound safely before good in
+    let good : IsService accepts before = service_first accepts history place service in
+    let sound = service_sound accepts safely before good in
     let follows = line_follows history place line service.legal e in
-    let judged = (line_safe safely line (got IsLine history.lines place line service.lines e)).event.judged work ticket event in
-    let found = meant_by past line.event (machine past line.moment line.event) work ticket f v steps version reached sound.programs judged (shape_there past line sound) event (sym follows.replied ∙ replied) in
+    let judged = judged_safe accepts safely work ((got (IsLine accepts) history.lines place line service.lines e).event.judged work ticket event) in
+    let found = meant_by past line.event (machine past line.moment line.event) work ticket f v steps version reached (programs_safe accepts safely (programs_of past) sound.programs) judged (shape_there past line sound) event (sym follows.replied ∙ replied) in
     let kept : past.opening.version ≡ history.opening.version = ap (λ (o : Opening). o.version) (opening_kept (opened history.rolled history.opening) (take place history.lines)) in
     let is_meant = subst (λ (n : ℕ). IsMeant n (programs_of past) (issued past.stages) work ticket v steps version) kept found in
     by_ticket history place work ticket v steps version is_meant (issued_of before is_meant.issued good.legal is_meant.listed)
 
-pub of_its_ticket : Safely → (history : History) (place ticket : ℕ) (outcome : Outcome) (v : Verdict) (steps version : ℕ) → IsService history → Finishes history place ticket outcome v steps version → AreOfTheTicket history place ticket outcome v steps version
-of_its_ticket safely history place ticket outcome v steps version service is =
+pub of_its_ticket : (accepts : Accepting) → Safely accepts → (history : History) (place ticket : ℕ) (outcome : Outcome) (v : Verdict) (steps version : ℕ) → IsService accepts history → Finishes history place ticket outcome v steps version → AreOfTheTicket history place ticket outcome v steps version
+of_its_ticket accepts safely history place ticket outcome v steps version service is =
     subst (λ (o : Outcome). AreOfTheTicket history place ticket o v steps version) is.brought
-    (finished_so safely history place is.line is.work ticket is.fate v steps version is.reached service is.there is.finished is.replied)
+    (finished_so accepts safely history place is.line is.work ticket is.fate v steps version is.reached service is.there is.finished is.replied)

@@ -15,7 +15,7 @@ ghost use Rattle.service_profile.specs.Standings.{moved};
 ghost use Rattle.book.specs.Laws.{IsService};
 ghost use Rattle.service_laws.specs.Promises.{IsReasonToOpen, NoneTwice, numbers_issued, AreCutInTurn, lines_of_all, first_lines, Finishes, AreOfTheTicket, StayIsOver, decision_without_stays};
 
-use verifier::laws::accepted_programs_are_safe;
+use book::Acceptance;
 
 /// In OPEN no call is permitted before the wait is over: a line that permits one comes at least the wait's
 /// milliseconds after the moment since which the breaker stands in OPEN.
@@ -74,20 +74,20 @@ pub fn numbers_go_on_over_cuts()
 /// A verdict never depends on a program that was installed after its ticket: what a finish answers is the
 /// verdict, after so many steps, of the program that was the newest when an earlier line issued the ticket, and
 /// the version is that program's. Whatever was installed since plays no part.
-pub fn verdicts_are_of_the_program_at_the_ticket()
-    ensures { (history : History) (place ticket : ℕ) (outcome : Outcome) (v : Verdict) (steps version : ℕ) → IsService history → Finishes history place ticket outcome v steps version → AreOfTheTicket history place ticket outcome v steps version }
+pub fn verdicts_are_of_the_program_at_the_ticket<A: Acceptance>()
+    ensures { (history : History) (place ticket : ℕ) (outcome : Outcome) (v : Verdict) (steps version : ℕ) → IsService A.accepts history → Finishes history place ticket outcome v steps version → AreOfTheTicket history place ticket outcome v steps version }
 {
-    accepted_programs_are_safe();
+    A::accepted_are_safe();
 }
 
 /// So later programs change no verdict: take two histories with the same opening and the same first lines, of
 /// which rolls have taken out as much, and in which anything may happen behind those lines. Where both finish a
 /// ticket that was issued in them, with the same outcome, both answer the same verdict, the same steps and the
 /// same version.
-pub fn later_programs_change_no_verdict()
-    ensures { (one other : History) (common place elsewhere ticket : ℕ) (outcome : Outcome) (v w : Verdict) (steps count version label : ℕ) → IsService one → IsService other → first_lines common one ≡ first_lines common other → is_listed (numbers_issued (past_of (first_lines common one)).stages) ticket ≡ true → Finishes one place ticket outcome v steps version → Finishes other elsewhere ticket outcome w count label → (v ≡ w) × (steps ≡ count) × (version ≡ label) }
+pub fn later_programs_change_no_verdict<A: Acceptance>()
+    ensures { (one other : History) (common place elsewhere ticket : ℕ) (outcome : Outcome) (v w : Verdict) (steps count version label : ℕ) → IsService A.accepts one → IsService A.accepts other → first_lines common one ≡ first_lines common other → is_listed (numbers_issued (past_of (first_lines common one)).stages) ticket ≡ true → Finishes one place ticket outcome v steps version → Finishes other elsewhere ticket outcome w count label → (v ≡ w) × (steps ≡ count) × (version ≡ label) }
 {
-    accepted_programs_are_safe();
+    A::accepted_are_safe();
 }
 
 /// A longest stay in HALF_OPEN ends: the first line that comes when it is over leaves the breaker in a later period, which

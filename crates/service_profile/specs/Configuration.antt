@@ -1,7 +1,5 @@
 -- The configuration of a service (the configuration properties of CircuitBreaker and Bulkhead in the Resilience4j documentation), with the ranges that this product takes.
-use Rattle.std.specs.Prelude.{◌≡◌, ℕ, ◌^◌, nat_le, ◌&&◌, Bool, true, false, if◌then◌else◌, Option, Some, None, Result, Ok, Err}
-use Rattle.refusals.specs.declared.RefusalNumber.TheVariants as refusal
-use Rattle.service_profile.specs.declared.configuration.BadConfig.{BadConfig}
+use Rattle.std.specs.Prelude.{◌≡◌, ℕ, ◌^◌, nat_le, ◌&&◌, Bool, true, false, if◌then◌else◌, Option, Some, None}
 use Rattle.service_profile.specs.declared.configuration.ConfigField.{ConfigField}
 use Rattle.service_profile.specs.declared.configuration.ConfigField.TheVariants as field
 use Rattle.service_profile.specs.declared.configuration.ConfigParts.{ConfigParts}
@@ -66,26 +64,3 @@ bad_field parts =
 
 abbrev pub IsInRange : ConfigParts → Type 0
 IsInRange parts = bad_field parts ≡ None
-
--- what each key stands for where it is missing
-abbrev pub default_parts : ConfigParts
-default_parts = record {
-  failure_rate_threshold = 50;
-  slow_call_rate_threshold = 100;
-  slow_call_duration_threshold = 60000;
-  permitted_number_of_calls_in_half_open_state = 10;
-  max_wait_duration_in_half_open_state = 0;
-  sliding_window_type = window.CountBased;
-  sliding_window_size = 100;
-  minimum_number_of_calls = 100;
-  wait_duration_in_open_state = 60000;
-  max_concurrent_calls = 25;
-  max_wait_duration = 0;
-}
-
-abbrev pub configured_by : ConfigParts → Option ConfigField → Result ConfigParts BadConfig
-configured_by parts None = Ok parts
-configured_by parts (Some bad) = Err (record { field = bad; number = refusal.BadConfig })
-
-abbrev pub configured : ConfigParts → Result ConfigParts BadConfig
-configured parts = configured_by parts (bad_field parts)

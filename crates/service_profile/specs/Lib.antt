@@ -1,6 +1,8 @@
 pub mod Limits
 pub mod Configuration
+pub mod Configured
 pub mod Windows
+pub mod RunningTotals
 pub mod Standings
 pub mod Rates
 pub mod Events
@@ -9,6 +11,7 @@ pub mod Machine
 pub mod Histories
 pub mod Answers
 pub mod Calls
+pub mod FirstOpening
 pub mod Openings
 pub mod MeantVerdicts
 pub mod Seats

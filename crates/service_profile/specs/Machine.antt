@@ -146,12 +146,12 @@ abbrev pub meant : Judging
 meant program work = judgement program work.outcome
 
 -- what work says of its outcome
-abbrev pub judged_as : JudgedData → Judgement
-judged_as work = record { verdict = work.verdict; steps = work.steps }
+abbrev pub judgement_of : JudgedData → Judgement
+judgement_of work = record { verdict = work.verdict; steps = work.steps }
 
 -- the verdict and the steps that the work carries
 abbrev pub carried : Judging
-carried program work = judged_as work
+carried program work = judgement_of work
 
 -- ---- finish
 

@@ -1,14 +1,8 @@
 -- Where a history may begin: with a configuration in range, and numbers that leave room.
 use Rattle.std.specs.Prelude.{◌^◌, ◌<◌, ◌≤◌}
-use Rattle.bpf_profile.specs.Programs.{VerifiedProgram}
-use Rattle.service_profile.specs.declared.configuration.ConfigParts.{ConfigParts}
 use Rattle.service_profile.specs.Limits.{greatest_number}
 use Rattle.service_profile.specs.Configuration.{IsInRange}
 use Rattle.service_profile.specs.Events.{Opening}
-
--- the first opening of a service
-abbrev pub first_opening : ConfigParts → VerifiedProgram → Opening
-first_opening config program = record { config = config; program = program; version = 1; period = 1; ticket = 1; line = 1; moment = 0 }
 
 -- an opening whose configuration is in range, and whose numbers begin at 1 or later and leave room
 pub record IsOpening (opening : Opening) : Type 0 where

@@ -1,5 +1,5 @@
 -- Notes of calls, and the sliding windows over them (CircuitBreaker in the Resilience4j documentation: count-based and time-based sliding window).
-use Rattle.std.specs.Prelude.{ℕ, ◌+◌, ◌-◌, ◌/◌, ◌≤◌, nat_lt, Bool, if◌then◌else◌, List, length, drop}
+use Rattle.std.specs.Prelude.{ℕ, ◌+◌, ◌-◌, ◌/◌, nat_lt, Bool, if◌then◌else◌, List, length, drop}
 use Rattle.std.specs.List.{filter}
 use Rattle.service_profile.specs.declared.configuration.ConfigParts.{ConfigParts}
 use Rattle.service_profile.specs.declared.states.State.{State}
@@ -36,19 +36,3 @@ totals_of notes = record {
   failed = length (filter (λ note. note.failed) notes);
   slow = length (filter (λ note. note.slow) notes);
 }
-
-abbrev pub one_where : Bool → ℕ
-one_where test = if test then 1 else 0
-
-abbrev pub with_note : Totals → Note → Totals
-with_note totals note = record {
-  total = totals.total + 1;
-  failed = totals.failed + one_where note.failed;
-  slow = totals.slow + one_where note.slow;
-}
-
--- totals over at most so many notes
-pub record AreTotals (most : ℕ) (totals : Totals) : Type 0 where
-  pub total : totals.total ≤ most
-  pub failed : totals.failed ≤ most
-  pub slow : totals.slow ≤ most

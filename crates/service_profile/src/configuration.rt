@@ -1,7 +1,8 @@
 //! The configuration of a service's breaker and bulkhead, with the names, defaults and ranges that
 //! the Resilience4j documentation and this product give.
 ghost use Rattle.std.specs.Prelude.{◌≡◌, None};
-ghost use Rattle.service_profile.specs.Configuration.{bad_field, bad_limit, configured, is_count_based, is_in, is_within, most_size, range_of};
+ghost use Rattle.service_profile.specs.Configuration.{bad_field, bad_limit, is_count_based, is_in, is_within, most_size, range_of};
+ghost use Rattle.service_profile.specs.Configured.{configured};
 
 use refusals::RefusalNumber;
 use std::marker::Model;

@@ -1,6 +1,6 @@
 //! Laws of the definitions.
 ghost use Rattle.std.specs.Prelude.{◌≡◌};
-ghost use Rattle.service_profile.specs.Configuration.{default_parts};
+ghost use Rattle.service_profile.specs.Configured.{default_parts};
 
 use crate::configuration::ConfigParts;
 

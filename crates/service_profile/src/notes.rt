@@ -1,6 +1,6 @@
 //! What a breaker notes of calls, and totals of notes.
 ghost use Rattle.std.specs.Prelude.{◌≡◌, ◌<◌, ◌^◌};
-ghost use Rattle.service_profile.specs.Windows.{with_note};
+ghost use Rattle.service_profile.specs.RunningTotals.{with_note};
 
 /// What a recorded verdict leaves.
 #[derive(Clone, Copy, Debug, PartialEq, Eq)]

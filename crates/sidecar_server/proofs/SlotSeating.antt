@@ -5,9 +5,10 @@ use Rattle.service.specs.Asked.{RequestData, ResponseData}
 use Rattle.service_profile.specs.Events.{History}
 use Rattle.service_profile.specs.declared.configuration.Config.{Config}
 use Rattle.verifier.specs.declared.verified.Verified.{Verified}
-use Rattle.book_slot.specs.Rules.{Course}
+use Rattle.book_slot.specs.Courses.{Course}
 use Rattle.slot_desk.specs.Closing.{SeatBegins, NumbersAgree, last_number, first_number}
-use Rattle.slot_desk.specs.Desks.{DeskData, name_of, first_of}
+use Rattle.slot_desk.specs.Desks.{DeskData}
+use Rattle.slot_desk.specs.Dealing.{name_of, first_of}
 use Rattle.slot_desk.specs.Seats.{SeatData}
 use Rattle.slot_desk.proofs.Backwards.{served_back}
 use Rattle.http_seats.specs.Seated.{SeatedData, seated, place_by, asks_by}

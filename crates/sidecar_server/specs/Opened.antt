@@ -1,6 +1,6 @@
 -- Services as they open.
 use Rattle.std.specs.Prelude.{◌≡◌, List, [], ◌∷◌, ⊤}
-use Rattle.service_profile.specs.Openings.{first_opening}
+use Rattle.service_profile.specs.FirstOpening.{first_opening}
 use Rattle.service_profile.specs.Events.{history_of}
 use Rattle.service_file.specs.declared.settings.ServiceSettings.{ServiceSettings}
 use Rattle.http_front.specs.declared.books.NamedBook.{NamedBook}

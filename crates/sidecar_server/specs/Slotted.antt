@@ -2,11 +2,11 @@
 use Rattle.std.specs.Prelude.{◌≡◌, ℕ, List, [], map, sum, Option, Some, string_bytes}
 use Rattle.service.specs.Asked.{RequestData, ResponseData}
 use Rattle.service_profile.specs.Events.{History, history_of}
-use Rattle.service_profile.specs.Openings.{first_opening}
+use Rattle.service_profile.specs.FirstOpening.{first_opening}
 use Rattle.slot_desk.specs.Closing.{SeatBegins, last_number}
 use Rattle.slot_desk.specs.Desks.{DeskData}
 use Rattle.slot_desk.specs.Seats.{SeatData}
-use Rattle.book_slot.specs.Rules.{Course}
+use Rattle.book_slot.specs.Courses.{Course}
 use Rattle.http_seats.specs.Seated.{SeatedData, seated, place_by, asks_by}
 use Rattle.http_seats.specs.Slots.{AreClosed, asks, counts_of, place_at, seats_of}
 use Rattle.http_pool.specs.declared.workers.Worker.{Worker}

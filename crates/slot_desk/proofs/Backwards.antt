@@ -11,12 +11,12 @@ use Rattle.service_profile.specs.Calls.{CallData, CallAnswer, applies, IsCalled}
 use Rattle.service_profile.specs.Calls as call
 use Rattle.service_profile.specs.Events.{acquires, finishes, releases, installs, moves, resets}
 use Rattle.book_slot.specs.declared.view.View.{View}
-use Rattle.book_slot.specs.Rules.{Course, AllBegin}
+use Rattle.book_slot.specs.Courses.{Course, AllBegin}
 use Rattle.book_slot.proofs.Backwards.{called_back}
 use Rattle.slot_desk.specs.Calls.{IsAskedAt, IsCalledAt}
 use Rattle.slot_desk.specs.Closing.{RowBegins, SeatBegins}
 use Rattle.slot_desk.specs.Seats.{SeatData}
-use Rattle.slot_desk.specs.Slots.{seen_of}
+use Rattle.slot_desk.specs.Shown.{seen_of}
 
 -- ---- calls
 

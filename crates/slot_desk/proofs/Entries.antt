@@ -10,14 +10,18 @@ use Rattle.service_profile.specs.Calls.{CallData, CallAnswer, IsCalled}
 use Rattle.service_profile.specs.Events.{Opening, History}
 use Rattle.book_slot.specs.declared.view.Trace.{Trace}
 use Rattle.book_slot.specs.declared.view.View.{View}
-use Rattle.book_slot.specs.Calls.{Called, CalledAfterTries}
-use Rattle.book_slot.specs.Origins.{IsOpeningAfter}
+use Rattle.book_slot.specs.Called.{Called, CalledAfterTries}
+use Rattle.book.specs.Reopened.{IsOpeningAfter}
 use Rattle.book_slot.proofs.Keeps.{last_good}
 use Rattle.book_slot.proofs.Traces.{next_behind}
-use Rattle.book_slot.specs.Rules.{Course, IsCourseOf, IsMadeBy, next_number, entries_of, missing, trace}
+use Rattle.book_slot.specs.Courses.{Course, IsCourseOf, IsMadeBy}
+use Rattle.book_slot.specs.Views.{trace}
+use Rattle.book_slot.specs.Trying.{missing}
+use Rattle.book_slot.specs.Left.{next_number, entries_of}
 use Rattle.book.specs.Counts.{made_by}
 use Rattle.slot_desk.specs.Closing.{AreCourses, CoursesAreMadeBy, NumbersAgree, traces_row, firsts, behind, last_of, last_number, first_number}
-use Rattle.slot_desk.specs.Seats.{SeatData, entries_in, newcomer_of, IsTallied}
+use Rattle.slot_desk.specs.Seats.{SeatData, entries_in, IsTallied}
+use Rattle.slot_desk.specs.Sitting.{newcomer_of}
 
 -- ---- one call
 

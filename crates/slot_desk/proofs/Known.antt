@@ -4,11 +4,14 @@ use Rattle.std.specs.List.{AllByRecursion}
 use Rattle.atomic_table.specs.Seated.{TableId}
 use Rattle.book_slot.specs.declared.view.Trace.{Trace}
 use Rattle.book_slot.specs.declared.view.View.{View}
-use Rattle.book_slot.specs.Rules.{Course, AllBegin, EachBegins, IsMadeBy, trace}
+use Rattle.book_slot.specs.Courses.{Course, AllBegin, EachBegins, IsMadeBy}
+use Rattle.book_slot.specs.Views.{trace}
 use Rattle.book_slot.proofs.Keeps.{last_good}
-use Rattle.slot_desk.specs.Closing.{traces_row, firsts, behind, CoursesAreMadeBy, added, all_added, Finished, RowBegins, SeatBegins, AreOf, AreCourses, last_of}
+use Rattle.slot_desk.specs.Closing.{traces_row, firsts, behind, CoursesAreMadeBy, RowBegins, SeatBegins, AreOf, AreCourses, last_of}
+use Rattle.slot_desk.specs.Gathering.{added, all_added, Finished}
 use Rattle.slot_desk.specs.Seats.{SeatData}
-use Rattle.slot_desk.specs.Slots.{trace_at, seen_of, number_at, view_at, known_of, origin_of}
+use Rattle.slot_desk.specs.Slots.{trace_at, number_at, view_at, known_of, origin_of}
+use Rattle.slot_desk.specs.Shown.{seen_of}
 use Rattle.slot_desk.proofs.Counting.{head_is, tail_is, no_cons}
 use Rattle.book_slot.specs.Places.{SlotData, PlaceData}
 

@@ -4,12 +4,13 @@ use Rattle.std.specs.Option.{option_map}
 use Rattle.std.proofs.lemmas.Option.{slice_get-map, slice_get-get_or}
 use Rattle.std.proofs.lemmas.List.{length-map}
 use Rattle.book_slot.specs.declared.view.View.{View}
-use Rattle.book_slot.specs.Calls.{Called, CalledAfterTries}
+use Rattle.book_slot.specs.Called.{Called, CalledAfterTries}
 use Rattle.book_slot.specs.Places.{SlotData, PlaceData, with_view}
-use Rattle.book_slot.specs.Rules.{missing}
+use Rattle.book_slot.specs.Trying.{missing}
 use Rattle.service_profile.specs.Calls.{CallData, CallAnswer, IsCalled}
 use Rattle.book.specs.Counts.{made_by}
-use Rattle.slot_desk.specs.Calls.{IsCalledAt, IsTriedAt, IsMissedAt}
+use Rattle.slot_desk.specs.Calls.{IsCalledAt}
+use Rattle.slot_desk.specs.Tries.{IsTriedAt, IsMissedAt}
 use Rattle.slot_desk.specs.Desks.{DeskData, IsServiceOf}
 use Rattle.slot_desk.specs.Seats.{SeatData, seat_of, seat_with, entries_in, IsSeatOf, ChangesAt}
 use Rattle.slot_desk.specs.Slots.{table_of, table_at, number_at, view_at}

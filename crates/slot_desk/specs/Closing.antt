@@ -1,15 +1,14 @@
 -- What is known at the end of a desk.
-use Rattle.std.specs.Prelude.{◌≡◌, ◌≢◌, ◌⊎◌, ℕ, ◌+◌, ◌-◌, List, [], ◌∷◌, ◌++◌, map, sum, Option, Some, None}
+use Rattle.std.specs.Prelude.{◌≡◌, ℕ, ◌+◌, ◌-◌, List, [], ◌∷◌, map, sum, Option, Some, None}
 use Rattle.std.specs.List.{AllByRecursion}
-use Rattle.refusals.specs.declared.RefusalNumber.{RefusalNumber}
-use Rattle.refusals.specs.declared.RefusalNumber.TheVariants as refusal
 use Rattle.book_slot.specs.Origins.{IsOf}
 use Rattle.service_profile.specs.Events.{History}
-use Rattle.book_slot.specs.Places.{SlotData}
 use Rattle.book_slot.specs.declared.view.Trace.{Trace}
-use Rattle.book_slot.specs.Rules.{Course, IsCourseOf, AllBegin, EachBegins, IsMadeBy, next_number, trace}
+use Rattle.book_slot.specs.Courses.{Course, IsCourseOf, AllBegin, IsMadeBy}
+use Rattle.book_slot.specs.Views.{trace}
+use Rattle.book_slot.specs.Left.{next_number}
 use Rattle.slot_desk.specs.Seats.{SeatData}
-use Rattle.slot_desk.specs.Slots.{seen_of}
+use Rattle.slot_desk.specs.Shown.{seen_of}
 
 -- all that a seat has seen, of each service
 abbrev pub row_of : SeatData → List (List History)
@@ -90,30 +89,3 @@ first_number (Some history) = last_number history
 abbrev pub NumbersAgree : List (Option History) → List History → List SeatData → Type 0
 NumbersAgree origins books seats =
     sum (map last_number books) ≡ sum (map first_number origins) + sum (map (λ seat. seat.count) seats)
-
--- as many seats were brought as this, of as many as that: not exactly all, or there was no memory for the books
-abbrev pub IsUnclosed : ℕ → ℕ → RefusalNumber → Type 0
-IsUnclosed brought given number =
-    ((number ≡ refusal.SeatsMissing) × (brought ≢ given))
-    ⊎ ((number ≡ refusal.ServiceOutOfMemory) × (brought ≡ given))
-
--- ---- while seats are taken back
-
--- what is known of each service, and what one seat more left behind there
-abbrev pub added : List (List Trace) → List Trace → List (List Trace)
-added [] xs = []
-added (k ∷ ks) [] = k ∷ ks
-added (k ∷ ks) (x ∷ xs) = (k ++ x ∷ []) ∷ added ks xs
-
--- the same of several rows, one after another
-abbrev pub all_added : List (List Trace) → List (List Trace) → List (List Trace)
-all_added ks [] = ks
-all_added ks (row ∷ rows) = all_added (added ks row) rows
-
--- each is what becomes of the book that was laid into its slot; all that is known of its service begins the histories of its
--- openings, and nobody else has changed the book
-abbrev pub Finished : List Course → List SlotData → Type 0
-Finished [] [] = Unit {0}
-Finished [] (slot ∷ slots) = ⊥
-Finished (c ∷ cs) [] = ⊥
-Finished (c ∷ cs) (slot ∷ slots) = IsCourseOf slot.origin c × EachBegins c slot.known × IsMadeBy slot.origin c slot.known × Finished cs slots

@@ -1,5 +1,11 @@
+pub mod Shown
 pub mod Slots
 pub mod Desks
+pub mod Dealing
 pub mod Seats
+pub mod Sitting
 pub mod Calls
+pub mod Places
+pub mod Tries
+pub mod Gathering
 pub mod Closing

@@ -1,9 +1,7 @@
 -- What contracts see of a seat, which has a place at each service of its desk.
-use Rattle.std.specs.Prelude.{◌≡◌, ℕ, ◌+◌, List, [], ◌∷◌, length, map, Option, slice_get, slice_set, Some}
+use Rattle.std.specs.Prelude.{◌≡◌, ℕ, ◌+◌, List, [], ◌∷◌, length, slice_get, slice_set, Some}
 use Rattle.atomic_table.specs.Seated.{TableId}
-use Rattle.service_profile.specs.Events.{History}
 use Rattle.book_slot.specs.declared.view.View.{View}
-use Rattle.book_slot.specs.Rules.{newcomer}
 use Rattle.slot_desk.specs.Desks.{DeskData}
 
 -- its number, how many entries its calls have made, and of each service the table of the book and what the seat knows of it
@@ -29,14 +27,6 @@ pub record IsTallied (seat : SeatData) : Type 0 where
 -- the seat is one of the desk's
 abbrev pub IsSeatOf : DeskData → SeatData → Type 0
 IsSeatOf desk seat = seat.tables ≡ desk.tables
-
--- a new view of this number, of a book that opened so
-abbrev pub newcomer_of : ℕ → Option History → View
-newcomer_of number origin = newcomer origin number
-
--- a seat of this number that has made no calls, of services whose books lie in these tables and opened so
-abbrev pub new_seat : ℕ → List TableId → List (Option History) → SeatData
-new_seat number tables origins = seat_of number 0 tables (map (newcomer_of number) origins)
 
 -- the seat after a call at a service that left it this view there, and made so many entries
 abbrev pub seat_with : SeatData → ℕ → View → ℕ → SeatData

@@ -4,7 +4,7 @@ use Rattle.atomic_table.specs.Seated.{TableId}
 use Rattle.service_profile.specs.Events.{History}
 use Rattle.book_slot.specs.declared.view.Trace.{Trace}
 use Rattle.book_slot.specs.declared.view.View.{View}
-use Rattle.book_slot.specs.Rules.{trace}
+use Rattle.book_slot.specs.Views.{trace}
 use Rattle.book_slot.specs.Places.{SlotData, PlaceData}
 
 abbrev pub table_of : SlotData → TableId
@@ -36,7 +36,3 @@ view_at place = place.view
 -- what it leaves behind, by its number
 abbrev pub trace_at : PlaceData → Trace
 trace_at place = trace place.number place.view
-
--- all that was seen
-abbrev pub seen_of : View → List History
-seen_of view = view.all_seen

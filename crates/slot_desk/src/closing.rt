@@ -1,8 +1,10 @@
 //! The end of a desk.
 ghost use Rattle.std.specs.Prelude.{◌≡◌, ◌<◌, ◌≤◌, ◌+◌, ◌++◌, List, suc, vec_len, vec_capacity, length, map, reverse, IfOk, IfErr};
 ghost use Rattle.std.specs.List.{AllByRecursion};
-ghost use Rattle.book_slot.specs.Rules.{Course};
-ghost use Rattle.slot_desk.specs.Closing.{AreOf, HaveCourses, NumbersAgree, IsUnclosed, last_of, added, all_added, traces_row, Finished};
+ghost use Rattle.book_slot.specs.Courses.{Course};
+ghost use Rattle.slot_desk.specs.Closing.{AreOf, HaveCourses, NumbersAgree, last_of, traces_row};
+ghost use Rattle.slot_desk.specs.Gathering.{added, all_added, Finished};
+ghost use Rattle.service.specs.Desks.{IsUnclosed};
 ghost use Rattle.slot_desk.specs.Seats.{IsSeatOf, IsTallied};
 ghost use Rattle.slot_desk.specs.Slots.{table_of, origin_of, dealt_of, back_of, known_of, table_at, trace_at};
 

@@ -1,6 +1,8 @@
 //! Desks: services, each with its book in a slot.
 ghost use Rattle.std.specs.Prelude.{◌≡◌, ◌≤◌, [], length, map, position, replicate, bytes_eq, string_bytes, vec_len, IfOk, IfSome};
-ghost use Rattle.slot_desk.specs.Desks.{IsServiceOf, name_of, first_of, most_services};
+ghost use Rattle.slot_desk.specs.Desks.{IsServiceOf};
+ghost use Rattle.slot_desk.specs.Dealing.{name_of, first_of};
+ghost use Rattle.service.specs.Desks.{most_services};
 ghost use Rattle.slot_desk.specs.Slots.{origin_of, dealt_of, back_of, known_of};
 
 use crate::services::ServiceId;

@@ -2,7 +2,8 @@
 ghost use Rattle.std.specs.Prelude.{◌≡◌, ◌<◌, ◌-◌, ◌^◌};
 ghost use Rattle.book.specs.Counts.{IsCounted};
 ghost use Rattle.service.specs.Asking.{IsReportServed};
-ghost use Rattle.slot_desk.specs.Calls.{IsCalledAt, report_of};
+ghost use Rattle.slot_desk.specs.Calls.{IsCalledAt};
+ghost use Rattle.slot_desk.specs.Places.{report_of};
 ghost use Rattle.slot_desk.specs.Desks.{IsServiceOf};
 ghost use Rattle.slot_desk.specs.Seats.{IsSeatOf};
 

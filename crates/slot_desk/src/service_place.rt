@@ -1,6 +1,6 @@
 //! The calls of a seat on a service of its desk, as whoever asks a service makes them.
 ghost use Rattle.std.specs.Prelude.{◌≡◌};
-ghost use Rattle.slot_desk.specs.Calls.{service_place};
+ghost use Rattle.slot_desk.specs.Places.{service_place};
 ghost use Rattle.slot_desk.specs.Desks.{IsServiceOf};
 
 use crate::desks::Desk;
@@ -20,7 +20,7 @@ pub struct ServicePlace<'a, R: Wait> {
 }
 
 impl<'a, R: Wait> Model for ServicePlace<'a, R> {
-    ghost use Rattle.slot_desk.specs.Calls.{ServicePlaceData, service_place};
+    ghost use Rattle.slot_desk.specs.Places.{ServicePlaceData, service_place};
     ghost use Rattle.slot_desk.specs.Desks.{IsServiceOf};
 
     ghost Value = { ServicePlaceData };
@@ -41,7 +41,8 @@ impl<'a, R: Wait> ServicePlace<'a, R> {
 }
 
 impl<'a, R: Wait> BookCalls<ServicePlace<'a, R>> for Seat {
-    ghost use Rattle.slot_desk.specs.Calls.{IsAskedAt, fits};
+    ghost use Rattle.slot_desk.specs.Calls.{IsAskedAt};
+    ghost use Rattle.slot_desk.specs.Places.{fits};
 
     ghost fits = { fits };
 

@@ -1,7 +1,8 @@
 //! New seats.
 ghost use Rattle.std.specs.Prelude.{◌≡◌, ◌<◌, ◌≤◌, ◌+◌, ◌++◌, vec_len, vec_capacity, length, map, replicate, IfOk, IfErr};
-ghost use Rattle.slot_desk.specs.Desks.{desk_of, IsUnseated};
-ghost use Rattle.slot_desk.specs.Seats.{new_seat, newcomer_of};
+ghost use Rattle.slot_desk.specs.Desks.{desk_of};
+ghost use Rattle.slot_desk.specs.Dealing.{IsUnseated};
+ghost use Rattle.slot_desk.specs.Sitting.{new_seat, newcomer_of};
 ghost use Rattle.slot_desk.specs.Slots.{dealt_of, back_of, known_of, table_of, origin_of, table_at, number_at, view_at};
 
 use crate::desks::Desk;

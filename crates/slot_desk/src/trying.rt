@@ -1,8 +1,8 @@
 //! Calls of seats that wait for nobody.
 ghost use Rattle.std.specs.Prelude.{◌≡◌, ◌<◌, ◌-◌, ◌^◌, IfOk, IfErr};
-ghost use Rattle.book.specs.Seen.{seen};
+ghost use Rattle.book.specs.Accepted.{seen};
 ghost use Rattle.service_profile.specs.Calls.{applies, replies};
-ghost use Rattle.slot_desk.specs.Calls.{IsTriedAt, IsMissedAt, AgreeAt};
+ghost use Rattle.slot_desk.specs.Tries.{IsTriedAt, IsMissedAt, AgreeAt};
 ghost use Rattle.slot_desk.specs.Desks.{IsServiceOf};
 ghost use Rattle.slot_desk.specs.Seats.{IsSeatOf};
 

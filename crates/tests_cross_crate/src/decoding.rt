@@ -1,5 +1,5 @@
 //! What bytes decode to, and the faults of those that are no program.
-use crate::checks::{is_printed, same, same_at};
+use crate::checks::{is_printed, is_true, same, same_at};
 use crate::programs::joined;
 use bpf_decode::*;
 use bpf_profile::{Instruction, Register, Slot};
@@ -115,7 +115,7 @@ fn a_wide_immediate(rt: HostRuntime) {
     let program = decoded(&rt, rt.alloc(), &WIDE);
     assert!(rt; program.len() == 3);
     assert!(rt; matches!(program.slot(0), Slot::Ins { .. }));
-    same(&rt, program.slots().get(1), Some(&Slot::Tail { imm: 1 }));
+    is_true(&rt, program.slot(1) == Slot::Tail { imm: 1 });
     let load = program.instruction(0);
     assert!(rt;
         matches!(&load, Instruction::LoadImmediate { destination, value: 0x1_0000_0007 } if *destination == Register::new(1))

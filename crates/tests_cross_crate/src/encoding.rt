@@ -1,5 +1,5 @@
 //! The slots of instructions.
-use crate::checks::same;
+use crate::checks::is_true;
 use bpf_decode::Encoded;
 use bpf_profile::{Instruction, Operand, Operation, Register, Size, Slot, Width};
 use std::process::Abort;
@@ -19,8 +19,8 @@ fn slot(op: u8, dst: u8, src: u8, off: u16, imm: u32) -> Slot {
 /// Checks that an instruction is encoded as these slots.
 fn is_encoded(rt: &impl Abort, instruction: &Instruction, first: Slot, second: Option<Slot>) {
     let encoded = Encoded::of(instruction);
-    same(rt, encoded.first, first);
-    same(rt, encoded.second, second);
+    is_true(rt, encoded.first == first);
+    is_true(rt, encoded.second == second);
 }
 
 #[test]

@@ -9,11 +9,13 @@ use Rattle.bpf_decode.proofs.Spelled.{spelled_slots}
 use Rattle.bpf_profile.specs.declared.layout.Layout.TheVariants as layout
 use Rattle.bpf_profile.specs.declared.slot.Slot.{Slot}
 use Rattle.bpf_profile.specs.declared.slot.Slot.TheVariants.{Ins}
-use Rattle.bpf_profile.specs.Flow.{flow_fault, flow_fault_from, flow_fault_at, successors}
+use Rattle.bpf_profile.specs.Flow.{successors}
+use Rattle.bpf_profile.specs.FlowFaults.{flow_fault, flow_fault_from, flow_fault_at}
 use Rattle.bpf_profile.specs.Meaning.{instruction_at}
 use Rattle.bpf_profile.specs.Opcodes.{operation_of, comparison_of, size_of, arithmetic_opcode, jump_opcode, load_opcode, opcode_of}
 use Rattle.bpf_profile.specs.Slots.{instruction_of, read_fields}
-use Rattle.bpf_profile.specs.Spelling.{IsProgram, Fault, first_fault, fault_from as decoding_fault_from, slots_at}
+use Rattle.bpf_profile.specs.Spelling.{IsProgram}
+use Rattle.bpf_profile.specs.SpellingFaults.{Fault, first_fault, fault_from as decoding_fault_from, slots_at}
 use Rattle.known_bits.specs.KnownBitsTable.{without}
 use Rattle.abs_domain.specs.declared.product.Both.{Both}
 use Rattle.verifier.specs.Analysis.{sent_with, fault_with, fault_from, analysis_fault}

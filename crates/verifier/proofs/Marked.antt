@@ -8,7 +8,8 @@ use Rattle.std.specs.Option.{option_map_or}
 use Rattle.std.specs.Prelude.{IsSome, IfSome, Contains, replicate, slice_set, option_to_list}
 use Rattle.std.proofs.lemmas.List.Elements.{Contains-append_left, Contains-append_right}
 use Rattle.bpf_profile.specs.declared.slot.Slot.{Slot}
-use Rattle.bpf_profile.specs.Flow.{successors, is_entered_from, flow_fault}
+use Rattle.bpf_profile.specs.Flow.{successors}
+use Rattle.bpf_profile.specs.FlowFaults.{is_entered_from, flow_fault}
 use Rattle.bpf_profile.specs.Meaning.{instruction_at}
 use Rattle.bpf_profile.specs.Spelling.{IsProgram}
 use Rattle.flow_check.specs.Passes.{AreEntered}

@@ -7,10 +7,11 @@ use Rattle.bpf_decode.specs.declared.error.DecodeError.{DecodeError}
 use Rattle.flow_check.specs.declared.error.FlowError.{FlowError}
 use Rattle.bpf_profile.specs.declared.layout.Layout.{Layout}
 use Rattle.bpf_profile.specs.declared.slot.Slot.{Slot}
-use Rattle.bpf_profile.specs.Flow.{flow_fault}
+use Rattle.bpf_profile.specs.FlowFaults.{flow_fault}
 use Rattle.bpf_profile.specs.Layouts.{context_size}
 use Rattle.bpf_profile.specs.Limits.{most_slots}
-use Rattle.bpf_profile.specs.Spelling.{Spells, first_fault}
+use Rattle.bpf_profile.specs.Spelling.{Spells}
+use Rattle.bpf_profile.specs.SpellingFaults.{first_fault}
 use Rattle.verifier.specs.Analysis.{analysis_fault}
 use Rattle.verifier.specs.Product.{product}
 use Rattle.verifier.specs.declared.refusal.Refusal.{Refusal}

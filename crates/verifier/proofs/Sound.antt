@@ -20,12 +20,14 @@ use Rattle.bpf_profile.specs.declared.instruction.Operand.TheVariants as operand
 use Rattle.bpf_profile.specs.declared.slot.Slot.{Slot}
 use Rattle.bpf_profile.specs.declared.slot.Slot.TheVariants.{Ins, Tail}
 use Rattle.bpf_profile.specs.declared.machine.TrapReason.{TrapReason}
-use Rattle.bpf_profile.specs.Flow.{Edge, WalkFrom, IsBudget, flow_fault, is_tail_at}
+use Rattle.bpf_profile.specs.Flow.{Edge, WalkFrom, IsBudget}
+use Rattle.bpf_profile.specs.FlowFaults.{flow_fault, is_tail_at}
 use Rattle.bpf_profile.specs.Machine.{State, Effect, goes, answers}
 use Rattle.bpf_profile.specs.Meaning.{step, effect_of, effect_at, instruction_at, entry, Reaches}
 use Rattle.bpf_profile.specs.Outcomes.{Outcome, IsOutcome}
 use Rattle.bpf_profile.specs.Safety.{IsSafe}
-use Rattle.bpf_profile.specs.Spelling.{IsProgram, Fault, is_tail}
+use Rattle.bpf_profile.specs.Spelling.{IsProgram, is_tail}
+use Rattle.bpf_profile.specs.SpellingFaults.{Fault}
 use Rattle.bpf_profile.proofs.Edges.{edges_forward, instruction_there}
 use Rattle.bpf_profile.proofs.Immediates.{OperandIsWord, InWords, in_words}
 use Rattle.verifier.specs.Analysis.{Message, message_to, joined_into, received_one, received, sent_with, arriving, known_at, fault_in, fault_with, fault_at, fault_from, analysis_fault}

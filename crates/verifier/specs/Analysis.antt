@@ -10,7 +10,7 @@ use Rattle.abs_states.specs.Transfers.{transfer_in}
 use Rattle.bpf_profile.specs.declared.instruction.Instruction.{Instruction}
 use Rattle.bpf_profile.specs.declared.slot.Slot.{Slot}
 use Rattle.bpf_profile.specs.Meaning.{instruction_at}
-use Rattle.bpf_profile.specs.Spelling.{Fault}
+use Rattle.bpf_profile.specs.SpellingFaults.{Fault}
 
 -- ---- the abstract state before a slot
 

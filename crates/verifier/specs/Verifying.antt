@@ -4,8 +4,10 @@ use Rattle.refusals.specs.declared.RefusalNumber.TheVariants.{ProgramOutOfMemory
 use Rattle.bpf_profile.specs.declared.layout.Layout.{Layout}
 use Rattle.bpf_profile.specs.declared.slot.Slot.{Slot}
 use Rattle.bpf_profile.specs.Layouts.{context_size}
-use Rattle.bpf_profile.specs.Flow.{flow_fault, successors, IsBudget}
-use Rattle.bpf_profile.specs.Spelling.{Spells, Fault, first_fault}
+use Rattle.bpf_profile.specs.Flow.{successors, IsBudget}
+use Rattle.bpf_profile.specs.FlowFaults.{flow_fault}
+use Rattle.bpf_profile.specs.Spelling.{Spells}
+use Rattle.bpf_profile.specs.SpellingFaults.{Fault, first_fault}
 use Rattle.verifier.specs.Analysis.{analysis_fault}
 use Rattle.verifier.specs.Product.{product}
 use Rattle.bpf_profile.specs.Programs.{VerifiedProgram}

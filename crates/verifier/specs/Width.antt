@@ -2,7 +2,7 @@
 use Rattle.std.specs.Prelude.{◌≡◌, ℕ, suc, ◌-◌, ◌≤◌, Bool, List, length, drop, IsSome}
 use Rattle.std.specs.List.{count_by, range_with_len}
 use Rattle.bpf_profile.specs.declared.slot.Slot.{Slot}
-use Rattle.bpf_profile.specs.Flow.{is_entered_from}
+use Rattle.bpf_profile.specs.FlowFaults.{is_entered_from}
 use Rattle.bpf_profile.specs.Meaning.{instruction_at}
 
 -- how many slots are awaited after a slot: those above it to which an edge leads from a slot at or below it

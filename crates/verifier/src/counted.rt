@@ -1,6 +1,6 @@
 //! Verifying, with the number of abstract states that it has to hold.
 ghost use Rattle.std.specs.Prelude.{◌≡◌, ◌⊎◌, ◌<◌, None, IfOk, IfErr};
-ghost use Rattle.bpf_profile.specs.Flow.{flow_fault};
+ghost use Rattle.bpf_profile.specs.FlowFaults.{flow_fault};
 ghost use Rattle.bpf_profile.specs.Layouts.{context_size};
 ghost use Rattle.bpf_profile.specs.Limits.{most_slots};
 ghost use Rattle.bpf_profile.specs.Safety.{IsSafe};

@@ -3,7 +3,8 @@
 ghost use Rattle.std.specs.Prelude.{◌≡◌, ◌⊎◌, ◌<◌, length, Some, None, IfSome, IfErr, OnOk};
 ghost use Rattle.bpf_profile.specs.Layouts.{context_size};
 ghost use Rattle.bpf_profile.specs.Limits.{most_slots};
-ghost use Rattle.bpf_profile.specs.Flow.{successors, flow_fault};
+ghost use Rattle.bpf_profile.specs.Flow.{successors};
+ghost use Rattle.bpf_profile.specs.FlowFaults.{flow_fault};
 ghost use Rattle.bpf_profile.specs.Meaning.{instruction_at};
 ghost use Rattle.bpf_profile.specs.Spelling.{IsProgram};
 ghost use Rattle.flow_check.specs.Routes.{successor_list};

@@ -1,7 +1,8 @@
 //! The width of a program: how many states a pass over its slots has to hold at most.
 ghost use Rattle.std.specs.Prelude.{◌≡◌, ℕ, ◌+◌, ◌<◌, ◌≤◌, length, max, false, replicate, option_to_list, None, IfSome};
 ghost use Rattle.std.specs.Option.{option_map_or};
-ghost use Rattle.bpf_profile.specs.Flow.{successors, flow_fault};
+ghost use Rattle.bpf_profile.specs.Flow.{successors};
+ghost use Rattle.bpf_profile.specs.FlowFaults.{flow_fault};
 ghost use Rattle.bpf_profile.specs.Meaning.{instruction_at};
 ghost use Rattle.bpf_profile.specs.Spelling.{IsProgram};
 ghost use Rattle.flow_check.specs.Passes.{marked_all};

@@ -4,7 +4,8 @@ use Rattle.std.specs.List.{sum_by}
 use Rattle.std.proofs.lemmas.List.Sums.{sum_by-cons, sum_by_push, length-filter}
 use Rattle.service_profile.specs.declared.notes.Note.{Note}
 use Rattle.service_profile.specs.declared.notes.Totals.{Totals}
-use Rattle.service_profile.specs.Windows.{totals_of, one_where, AreTotals}
+use Rattle.service_profile.specs.Windows.{totals_of}
+use Rattle.service_profile.specs.RunningTotals.{one_where, AreTotals}
 use Rattle.windows.specs.Sums.{plus, minus, no_totals, one_note, sum_of, IsPart}
 
 pub same_totals : (a b : Totals) → a.total ≡ b.total → a.failed ≡ b.failed → a.slow ≡ b.slow → a ≡ b

@@ -5,7 +5,8 @@ use Rattle.std.proofs.lemmas.Bool.{ltb-true, lt-ltb}
 use Rattle.std.proofs.lemmas.List.Elements.{filter-append}
 use Rattle.service_profile.specs.declared.notes.Note.{Note}
 use Rattle.service_profile.specs.declared.notes.Totals.{Totals}
-use Rattle.service_profile.specs.Windows.{second_of, is_recent, totals_of, AreTotals}
+use Rattle.service_profile.specs.Windows.{second_of, is_recent, totals_of}
+use Rattle.service_profile.specs.RunningTotals.{AreTotals}
 use Rattle.windows.specs.declared.buckets.Bucket.{Bucket}
 use Rattle.windows.specs.Held.{HeldBuckets}
 use Rattle.windows.specs.Kept.{is_in_window, KeepsBuckets}

@@ -5,7 +5,8 @@ use Rattle.std.proofs.lemmas.List.{map-append, drop-map, length-map}
 use Rattle.circular_buffer.specs.Buffer.{keep_last}
 use Rattle.service_profile.specs.declared.notes.Note.{Note}
 use Rattle.service_profile.specs.declared.notes.Totals.{Totals}
-use Rattle.service_profile.specs.Windows.{last, totals_of, AreTotals}
+use Rattle.service_profile.specs.Windows.{last, totals_of}
+use Rattle.service_profile.specs.RunningTotals.{AreTotals}
 use Rattle.windows.specs.declared.outcomes.Outcome.{Outcome}
 use Rattle.windows.specs.Held.{HeldOutcomes}
 use Rattle.windows.specs.Kept.{outcome_of, KeepsOutcomes}

@@ -2,7 +2,8 @@
 use Rattle.std.specs.Prelude.{◌≡◌, ℕ, ◌+◌, ◌-◌, ◌^◌, ◌≤◌, nat_lt, Bool, List, length, map}
 use Rattle.std.specs.List.{filter, AllByRecursion}
 use Rattle.service_profile.specs.declared.notes.Note.{Note}
-use Rattle.service_profile.specs.Windows.{second_of, last, totals_of, AreTotals}
+use Rattle.service_profile.specs.Windows.{second_of, last, totals_of}
+use Rattle.service_profile.specs.RunningTotals.{AreTotals}
 use Rattle.windows.specs.declared.buckets.Bucket.{Bucket}
 use Rattle.windows.specs.declared.outcomes.Outcome.{Outcome}
 use Rattle.windows.specs.Held.{HeldOutcomes, HeldBuckets}

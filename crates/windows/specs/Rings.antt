@@ -3,7 +3,7 @@ use Rattle.std.specs.Prelude.{◌≡◌, ℕ, ◌+◌, ◌-◌, ◌^◌, ◌<◌
 use Rattle.std.specs.List.{AllByRecursion}
 use Rattle.circular_buffer.specs.Buffer.{Buffer, last_item}
 use Rattle.service_profile.specs.declared.notes.Totals.{Totals}
-use Rattle.service_profile.specs.Windows.{AreTotals}
+use Rattle.service_profile.specs.RunningTotals.{AreTotals}
 use Rattle.windows.specs.declared.buckets.Bucket.{Bucket}
 use Rattle.windows.specs.declared.outcomes.Outcome.{Outcome}
 use Rattle.windows.specs.Sums.{plus, no_totals, one_note, sum_of}

@@ -2,7 +2,7 @@
 use Rattle.std.specs.Prelude.{◌+◌, ◌-◌, ◌≤◌, Bool, List}
 use Rattle.std.specs.List.{sum_by}
 use Rattle.service_profile.specs.declared.notes.Totals.{Totals}
-use Rattle.service_profile.specs.Windows.{one_where}
+use Rattle.service_profile.specs.RunningTotals.{one_where}
 
 abbrev pub plus : Totals → Totals → Totals
 plus a b = record { total = a.total + b.total; failed = a.failed + b.failed; slow = a.slow + b.slow }

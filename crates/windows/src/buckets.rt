@@ -1,7 +1,7 @@
 //! Buckets of one second, and rings of them.
 ghost use Rattle.std.specs.Prelude.{◌≡◌, ◌<◌, ◌≤◌, ◌+◌, ◌-◌, ◌^◌, ◌++◌, ◌∷◌, [], slice_get, drop};
 ghost use Rattle.circular_buffer.specs.Buffer.{buffer, keep_last};
-ghost use Rattle.service_profile.specs.Windows.{AreTotals};
+ghost use Rattle.service_profile.specs.RunningTotals.{AreTotals};
 ghost use Rattle.windows.specs.Rings.{has_fallen, if_fallen, left, newest, older, with_totals, totals_of_bucket};
 ghost use Rattle.windows.specs.Sums.{plus, sum_of};
 

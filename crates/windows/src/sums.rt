@@ -1,6 +1,6 @@
 //! Sums of totals.
 ghost use Rattle.std.specs.Prelude.{◌≡◌, ◌-◌, ◌^◌};
-ghost use Rattle.service_profile.specs.Windows.{AreTotals};
+ghost use Rattle.service_profile.specs.RunningTotals.{AreTotals};
 ghost use Rattle.windows.specs.Sums.{plus, minus, one_note, IsPart};
 
 use service_profile::Totals;

@@ -1,7 +1,8 @@
 //! What a breaker asks of a sliding window.
 ghost use Rattle.std.specs.Prelude.{◌≡◌, ◌<◌, ◌-◌, ◌^◌, ◌++◌, ◌∷◌, [], ℕ, List, length, IsTrue, ◌↔◌};
 ghost use Rattle.service_profile.specs.declared.notes.Note.{Note as ANote};
-ghost use Rattle.service_profile.specs.Windows.{totals_of, AreTotals};
+ghost use Rattle.service_profile.specs.Windows.{totals_of};
+ghost use Rattle.service_profile.specs.RunningTotals.{AreTotals};
 ghost use Rattle.windows.specs.Notes.{AreNotAfter};
 
 use service_profile::Totals;

@@ -3,7 +3,8 @@ use Rattle.std.proofs.Common.{◌≡◌, ℕ, zero, suc, ◌≤◌, false, List,
 use Rattle.bpf_profile.specs.declared.slot.Slot.{Slot}
 use Rattle.bpf_profile.specs.declared.slot.Slot.TheVariants.{Ins, Tail}
 use Rattle.bpf_profile.specs.declared.layout.Layout.TheVariants as layout
-use Rattle.bpf_profile.specs.Flow.{successors, flow_fault_at, flow_fault_from, flow_fault, WalkFrom, IsWalk, IsBudget}
+use Rattle.bpf_profile.specs.Flow.{successors, WalkFrom, IsWalk, IsBudget}
+use Rattle.bpf_profile.specs.FlowFaults.{flow_fault_at, flow_fault_from, flow_fault}
 use Rattle.bpf_profile.specs.Opcodes.{operation_of, comparison_of, size_of, convert_opcode, arithmetic_opcode, jump_opcode, immediate_opcode, load_opcode, store_opcode, store_register_opcode, opcode_of}
 use Rattle.bpf_profile.specs.Slots.{read_fields, instruction_of}
 use Rattle.bpf_profile.specs.Spelling.{is_tail, FollowsWide, IsProgram}
@@ -13,8 +14,9 @@ use Rattle.verifier.specs.Product.{product}
 use Rattle.bpf_profile.specs.Programs.{VerifiedProgram}
 use Rattle.std.specs.Prelude.{Contains}
 use Rattle.verifier.specs.Verifying.{IsVerification}
-use Rattle.service_profile.specs.Openings.{first_opening, IsOpening}
-use Rattle.service_profile.specs.Configuration.{default_parts}
+use Rattle.service_profile.specs.Openings.{IsOpening}
+use Rattle.service_profile.specs.FirstOpening.{first_opening}
+use Rattle.service_profile.specs.Configured.{default_parts}
 
 -- a move of 0 into R0, and an exit
 abbrev pub zero_slots : List Slot

@@ -2,10 +2,10 @@
 use Rattle.std.proofs.Common.{◌≡◌, ℕ, List, ap, ◌∙◌}
 use Rattle.std.specs.List.{filter_map}
 use Rattle.service_profile.specs.declared.configuration.ConfigParts.{ConfigParts}
-use Rattle.service_profile.specs.Configuration.{default_parts}
+use Rattle.service_profile.specs.Configured.{default_parts}
 use Rattle.service_profile.specs.Events.{Opening}
 use Rattle.service_profile.specs.Machine.{meant}
-use Rattle.service_profile.specs.Openings.{first_opening}
+use Rattle.service_profile.specs.FirstOpening.{first_opening}
 use Rattle.book.specs.Interleavings.{Act, begun}
 use Rattle.book.proofs.Courses.{course, course_only}
 use Rattle.worked_examples.specs.Services.{default_classifier, Heard, heard_of, IsHeard, IsHeardOn, IsHeardFromTicket}

@@ -1,3 +1,5 @@
 pub mod Services
 pub mod Rows
 pub mod Stays
+pub mod Breakers
+pub mod Classifiers

@@ -8,9 +8,9 @@ use Rattle.service_profile.specs.declared.configuration.SlidingWindowType.TheVar
 use Rattle.service_profile.specs.declared.replies.Fate.TheVariants as fate
 use Rattle.service_profile.specs.declared.replies.Reply.TheVariants as reply
 use Rattle.service_profile.specs.declared.states.State.TheVariants as state
-use Rattle.service_profile.specs.Configuration.{default_parts}
-use Rattle.book.specs.Interleavings.{Act, acquire, release, install, move, reset, read, cut_off}
-use Rattle.worked_examples.specs.Services.{default_classifier, ignoring_classifier, response, by_caller, reports, Heard, says, shows, hands_out, withholds}
+use Rattle.service_profile.specs.Configured.{default_parts}
+use Rattle.book.specs.Interleavings.{Act}
+use Rattle.worked_examples.specs.Services.{default_classifier, ignoring_classifier, response, by_caller, acquire, release, install, move, reset, read, cut_off, reports, Heard, says, shows, hands_out, withholds}
 
 -- ---- a time-based window of ten seconds lets a note go as soon as its second has passed out of it
 

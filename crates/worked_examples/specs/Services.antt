@@ -10,11 +10,14 @@ use Rattle.bpf_profile.specs.Programs.{VerifiedProgram}
 use Rattle.service_profile.specs.declared.configuration.ConfigParts.{ConfigParts}
 use Rattle.service_profile.specs.declared.readings.Reading.{Reading}
 use Rattle.service_profile.specs.declared.replies.Reply.{Reply}
-use Rattle.service_profile.specs.Openings.{first_opening}
-use Rattle.service_profile.specs.Configuration.{default_parts}
-use Rattle.book.specs.Interleavings.{Step, look, judge, finish, World, Act, Given, replied, found, shown, handed, nothing, IsCourse, HaveMemory, begun}
+use Rattle.service_profile.specs.declared.states.State.{State}
+use Rattle.service_profile.specs.FirstOpening.{first_opening}
+use Rattle.service_profile.specs.Configured.{default_parts}
+use Rattle.service_profile.specs.Calls as call
+use Rattle.book.specs.Interleavings.{Step, calls, judge, finish, World, Act, Given, answered, nothing, IsCourse, begun}
+use Rattle.book.specs.Memory.{HaveMemory}
 use Rattle.service_profile.specs.Machine.{meant}
-use Rattle.service_profile.specs.Events.{Opening}
+use Rattle.service_profile.specs.Events.{Opening, acquires, releases, installs, moves, resets}
 
 -- ---- programs and outcomes
 
@@ -39,11 +42,38 @@ response status = record { context = little_bytes 4 0 ++ (little_bytes 4 status 
 abbrev pub by_caller : Step → Act
 by_caller step = record { actor = 1; step = step }
 
+abbrev pub acquire : ℕ → Step
+acquire moment = calls (call.applies moment acquires)
+
+abbrev pub release : ℕ → ℕ → Step
+release moment ticket = calls (call.applies moment (releases ticket))
+
+abbrev pub install : ℕ → VerifiedProgram → Step
+install moment program = calls (call.applies moment (installs program))
+
+abbrev pub move : ℕ → State → Step
+move moment state = calls (call.applies moment (moves state))
+
+abbrev pub reset : ℕ → Step
+reset moment = calls (call.applies moment resets)
+
+abbrev pub read : ℕ → Step
+read moment = calls (call.reads moment)
+
+abbrev pub page : ℕ → Step
+page from = calls (call.pages from)
+
+abbrev pub cut_off : Step
+cut_off = calls call.cuts
+
+abbrev pub roll_up_to : ℕ → Step
+roll_up_to last = calls (call.rolls last)
+
 -- a report is a look, the judging, and a finish; the caller's first report has place 0 in its hands, its next one place 1
 abbrev pub reports : ℕ → ℕ → ℕ → Outcome → List Act
-reports place moment ticket outcome = by_caller (look ticket) ∷ (by_caller (judge place outcome) ∷ (by_caller (finish moment place ticket) ∷ []))
+reports place moment ticket outcome = by_caller (calls (call.looks ticket)) ∷ (by_caller (judge place outcome) ∷ (by_caller (finish moment place ticket) ∷ []))
 
--- ---- what the caller hears: replies, readings, and how many entries a cut hands out
+-- ---- what the caller hears: replies, readings, and how many entries a page has, or a cut or a roll hands out
 
 pub data Heard : Type 0 where
   says : Reply → Heard
@@ -52,12 +82,12 @@ pub data Heard : Type 0 where
   withholds : RefusalNumber → Heard
 
 abbrev pub heard_of : Given → Option Heard
-heard_of (replied r) = Some (says r)
-heard_of (found (Ok program)) = None
-heard_of (found (Err number)) = Some (withholds number)
-heard_of (shown reading) = Some (shows reading)
-heard_of (handed (Ok lines)) = Some (hands_out (length lines))
-heard_of (handed (Err number)) = Some (withholds number)
+heard_of (answered (call.replies r)) = Some (says r)
+heard_of (answered (call.finds (Ok program))) = None
+heard_of (answered (call.finds (Err number))) = Some (withholds number)
+heard_of (answered (call.shows reading)) = Some (shows reading)
+heard_of (answered (call.hands (Ok lines))) = Some (hands_out (length lines))
+heard_of (answered (call.hands (Err number))) = Some (withholds number)
 heard_of nothing = None
 
 -- what is heard wherever the documented machine takes these steps and refuses none for want of memory. That it can is a law of `book`

@@ -6,9 +6,9 @@ use Rattle.service_profile.specs.declared.configuration.ConfigParts.{ConfigParts
 use Rattle.service_profile.specs.declared.replies.Fate.TheVariants as fate
 use Rattle.service_profile.specs.declared.replies.Reply.TheVariants as reply
 use Rattle.service_profile.specs.declared.states.State.TheVariants as state
-use Rattle.service_profile.specs.Configuration.{default_parts}
-use Rattle.book.specs.Interleavings.{Act, acquire, move, read}
-use Rattle.worked_examples.specs.Services.{response, by_caller, reports, Heard, says, shows}
+use Rattle.service_profile.specs.Configured.{default_parts}
+use Rattle.book.specs.Interleavings.{Act}
+use Rattle.worked_examples.specs.Services.{response, by_caller, acquire, move, read, reports, Heard, says, shows}
 
 abbrev pub half_a_second : ConfigParts
 half_a_second = record default_parts { permitted_number_of_calls_in_half_open_state = 2; max_wait_duration_in_half_open_state = 500; wait_duration_in_open_state = 1000 }

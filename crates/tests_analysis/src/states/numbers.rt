@@ -30,7 +30,7 @@ fn has_result(
         instruction,
         &wanted,
     );
-    is_true_at(rt, found, instruction);
+    is_true_at(rt, found, value);
 }
 
 /// Checks why an instruction is refused.
@@ -43,7 +43,7 @@ fn is_refused(rt: &impl Abort, alloc: Global, instruction: &Instruction, refusal
         instruction,
         &Err(refusal),
     );
-    is_true_at(rt, found, instruction);
+    is_true_at(rt, found, refusal);
 }
 
 /// An operation, the registers of its destination and of its operand, and its result of 64 bits.
@@ -223,9 +223,9 @@ fn converts(
     wanted: u64,
 ) {
     let state = sample_with(rt, alloc, Register::new(2), number(0x1234_8091));
-    let wanted = Ok(with(rt, alloc, &state, destination, number(wanted)));
-    let found = makes(rt, alloc, &state, CONTEXT_SIZE, instruction, &wanted);
-    is_true_at(rt, found, instruction);
+    let after = Ok(with(rt, alloc, &state, destination, number(wanted)));
+    let found = makes(rt, alloc, &state, CONTEXT_SIZE, instruction, &after);
+    is_true_at(rt, found, wanted);
 }
 
 #[test]

@@ -2,4 +2,4 @@ use Rattle.book.proofs.Lawful.{cut_well}
 use Rattle.book.proofs.laws.cuts_leave_good_openings.Goals as goal
 
 pub returns : goal.returns
-returns c = cut_well c.accepted_programs_are_safe.ensures
+returns g c = cut_well g.A.Acceptance.accepts c.accepted_are_safe.ensures

@@ -2,4 +2,4 @@ use Rattle.book.proofs.Lawful.{notes_meant}
 use Rattle.book.proofs.laws.notes_are_of_the_meaning.Goals as goal
 
 pub returns : goal.returns
-returns c = notes_meant c.accepted_programs_are_safe.ensures
+returns g c = notes_meant g.A.Acceptance.accepts c.accepted_are_safe.ensures

@@ -4,7 +4,7 @@ use Rattle.service_profile.specs.declared.configuration.ConfigParts.{ConfigParts
 use Rattle.service_profile.specs.declared.standings.Standing.{Standing}
 use Rattle.service_profile.specs.Machine.{at_moment, decided, meant}
 use Rattle.book.specs.Effects.{refused_plan, planned}
-use Rattle.book.specs.Seen.{seen}
+use Rattle.book.specs.Accepted.{seen}
 use Rattle.book.proofs.Finds.{same_config, notes_before}
 use Rattle.book.proofs.Planned.{full_plan, decided_plan}
 use Rattle.book.proofs.machine.decide.Goals as goal

@@ -1,5 +1,5 @@
 use Rattle.std.proofs.Common.{◌≡◌, ℕ, []}
-use Rattle.book_slot.specs.Rules.{missed}
+use Rattle.book_slot.specs.Views.{missed}
 use Rattle.book_slot.proofs.exchange.take_waiting.Given as goal
 
 abbrev pub invariant-loop : goal.invariant-loop

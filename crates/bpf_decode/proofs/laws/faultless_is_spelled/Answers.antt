@@ -1,5 +1,5 @@
 use Rattle.std.proofs.Common.{◌/◌, length}
-use Rattle.bpf_profile.specs.Spelling.{slots_at}
+use Rattle.bpf_profile.specs.SpellingFaults.{slots_at}
 use Rattle.bpf_decode.proofs.Spelled.{none_spelled}
 use Rattle.bpf_decode.proofs.laws.faultless_is_spelled.Goals as goal
 

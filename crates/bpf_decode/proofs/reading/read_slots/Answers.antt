@@ -1,6 +1,6 @@
 use Rattle.std.proofs.Common.{None, arith, false}
 use Rattle.bpf_profile.specs.declared.slot.Slot.TheVariants.{Ins}
-use Rattle.bpf_profile.specs.Spelling.{fault_from}
+use Rattle.bpf_profile.specs.SpellingFaults.{fault_from}
 use Rattle.bpf_decode.proofs.Places.{read_more, tail_none, read_is, begins_next}
 use Rattle.bpf_decode.proofs.Runs.{skips, goes_on, ends, is_done}
 use Rattle.bpf_decode.proofs.reading.read_slots.Goals as goal

@@ -1,5 +1,5 @@
 use Rattle.std.proofs.Common.{◌≡◌, ◌≤◌, drop, false, length, vec_len, vec_capacity}
-use Rattle.bpf_profile.specs.Spelling.{fault_from}
+use Rattle.bpf_profile.specs.SpellingFaults.{fault_from}
 use Rattle.bpf_decode.specs.Kept.{first_instructions}
 use Rattle.bpf_decode.proofs.Runs.{Begins}
 use Rattle.bpf_decode.proofs.reading.read_slots.Given as goal

@@ -1,6 +1,6 @@
 use Rattle.std.proofs.Common.{◌∙◌, ap, ◌/◌, length, map, arith}
 use Rattle.std.proofs.lemmas.List.{take_all}
-use Rattle.bpf_profile.specs.Spelling.{slot_at}
+use Rattle.bpf_profile.specs.SpellingFaults.{slot_at}
 use Rattle.bpf_decode.proofs.Texts.{chunk_slots, one_chunk_more}
 use Rattle.bpf_decode.proofs.reading.slots_of.Goals as goal
 

@@ -1,5 +1,5 @@
 use Rattle.std.proofs.Common.{◌≡◌, ◌≤◌, length, take, map, vec_len, vec_capacity}
-use Rattle.bpf_profile.specs.Spelling.{slot_at}
+use Rattle.bpf_profile.specs.SpellingFaults.{slot_at}
 use Rattle.bpf_decode.proofs.reading.slots_of.Given as goal
 
 abbrev pub invariant-loop-chunk : goal.invariant-loop-chunk

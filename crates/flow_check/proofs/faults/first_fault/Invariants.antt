@@ -1,5 +1,5 @@
 use Rattle.std.proofs.Common.{◌≡◌, ◌-◌, length}
-use Rattle.bpf_profile.specs.Flow.{flow_fault_from}
+use Rattle.bpf_profile.specs.FlowFaults.{flow_fault_from}
 use Rattle.flow_check.proofs.faults.first_fault.Given as goal
 
 abbrev pub invariant-loop-place : goal.invariant-loop-place

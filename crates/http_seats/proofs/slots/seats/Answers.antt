@@ -1,6 +1,6 @@
 use Rattle.std.proofs.Common.{◌≡◌, ◌∙◌, ◌+◌, ◌++◌, [], ◌∷◌, ap, arith}
 use Rattle.slot_desk.specs.Desks.{DeskData}
-use Rattle.slot_desk.specs.Seats.{new_seat}
+use Rattle.slot_desk.specs.Sitting.{new_seat}
 use Rattle.http_seats.specs.Slots.{seats_of}
 use Rattle.http_seats.proofs.SlotSeats.{next_seat}
 use Rattle.http_seats.proofs.slots.seats.Goals as goal

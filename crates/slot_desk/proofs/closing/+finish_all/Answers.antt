@@ -1,7 +1,8 @@
 use Rattle.std.proofs.Common.{rules, ◌≡◌, ◌∙◌, ◌++◌, ◌∷◌, [], List, ap, sym, subst, map, reverse, append_assoc}
 use Rattle.std.proofs.lemmas.List.{reverse-append}
 use Rattle.service_profile.specs.Events.{History}
-use Rattle.slot_desk.specs.Closing.{last_of, Finished}
+use Rattle.slot_desk.specs.Closing.{last_of}
+use Rattle.slot_desk.specs.Gathering.{Finished}
 use Rattle.slot_desk.proofs.closing.+finish_all.Goals as goal
 
 -- the course of the book that is taken comes first

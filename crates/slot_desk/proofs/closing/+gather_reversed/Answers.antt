@@ -3,7 +3,8 @@ use Rattle.std.specs.List.{AllByRecursion}
 use Rattle.std.proofs.lemmas.List.{length-map, reverse-reverse, reverse-append}
 use Rattle.slot_desk.specs.Seats.{SeatData, IsTallied}
 use Rattle.slot_desk.specs.Slots.{known_of, back_of, table_of, table_at, view_at, trace_at}
-use Rattle.slot_desk.specs.Closing.{traces_row, added, all_added}
+use Rattle.slot_desk.specs.Closing.{traces_row}
+use Rattle.slot_desk.specs.Gathering.{added, all_added}
 use Rattle.slot_desk.proofs.Counting.{Leaves, some_left, one_back, more_back, none_back}
 use Rattle.slot_desk.proofs.Known.{trace_row, seats_of_moved}
 use Rattle.slot_desk.proofs.closing.+gather_reversed.Goals as goal

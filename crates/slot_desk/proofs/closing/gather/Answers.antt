@@ -3,7 +3,8 @@ use Rattle.std.specs.List.{AllByRecursion}
 use Rattle.std.proofs.lemmas.List.{reverse-reverse}
 use Rattle.slot_desk.specs.Seats.{SeatData, IsTallied}
 use Rattle.slot_desk.specs.Slots.{known_of, table_of}
-use Rattle.slot_desk.specs.Closing.{traces_row, all_added}
+use Rattle.slot_desk.specs.Closing.{traces_row}
+use Rattle.slot_desk.specs.Gathering.{all_added}
 use Rattle.slot_desk.proofs.closing.gather.Goals as goal
 
 pub gather_reversed-requires-clause-here : goal.gather_reversed-requires-clause-here

@@ -3,7 +3,7 @@ use Rattle.std.specs.Prelude.{string_bytes}
 use Rattle.std.specs.Vec.Iter.{into_iter_items}
 use Rattle.service_profile.specs.declared.configuration.Config.{Config}
 use Rattle.verifier.specs.declared.verified.Verified.{Verified}
-use Rattle.slot_desk.specs.Desks.{name_of, first_of}
+use Rattle.slot_desk.specs.Dealing.{name_of, first_of}
 use Rattle.slot_desk.specs.Slots.{origin_of, dealt_of, back_of, known_of}
 use Rattle.slot_desk.proofs.Opening.{more_names, more_alike, handed_on}
 use Rattle.slot_desk.proofs.desks.opened.Goals as goal

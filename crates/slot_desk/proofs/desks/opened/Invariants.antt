@@ -1,7 +1,7 @@
 use Rattle.std.proofs.Common.{◌≡◌, ◌++◌, [], List, length, map, replicate}
 use Rattle.std.specs.Prelude.{string_bytes}
 use Rattle.std.specs.Vec.Iter.{into_iter_items}
-use Rattle.slot_desk.specs.Desks.{name_of, first_of}
+use Rattle.slot_desk.specs.Dealing.{name_of, first_of}
 use Rattle.slot_desk.specs.Slots.{origin_of, dealt_of, back_of, known_of}
 use Rattle.slot_desk.proofs.desks.opened.Given as goal
 

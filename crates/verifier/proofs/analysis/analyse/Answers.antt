@@ -1,7 +1,7 @@
 use Rattle.std.proofs.Common.{◌≡◌, ◌⊎◌, inl, List, Option, Box, Some, None, ◌++◌, length, take, drop, sym, ap, ◌∙◌, subst}
 use Rattle.abs_states.specs.declared.state.AbsState.{AbsState}
 use Rattle.bpf_profile.specs.Layouts.{context_size}
-use Rattle.bpf_profile.specs.Flow.{flow_fault}
+use Rattle.bpf_profile.specs.FlowFaults.{flow_fault}
 use Rattle.bpf_profile.specs.Spelling.{IsProgram}
 use Rattle.bpf_profile.specs.declared.slot.Slot.{Slot}
 use Rattle.verifier.specs.Analysis.{analysis_fault, AreKnown}

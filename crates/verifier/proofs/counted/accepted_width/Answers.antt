@@ -1,5 +1,5 @@
 use Rattle.std.proofs.Common.{List, ap, ◌∙◌, subst}
-use Rattle.bpf_profile.specs.Flow.{flow_fault}
+use Rattle.bpf_profile.specs.FlowFaults.{flow_fault}
 use Rattle.bpf_profile.specs.declared.slot.Slot.{Slot}
 use Rattle.verifier.specs.Width.{IsWidth}
 use Rattle.verifier.proofs.Edges.{is_flow_of}

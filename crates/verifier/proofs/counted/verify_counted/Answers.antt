@@ -1,6 +1,6 @@
 use Rattle.std.proofs.Common.{◌≡◌, ◌⊎◌, inl, List, sym, ap, ◌∙◌, subst}
 use Rattle.bpf_profile.specs.declared.slot.Slot.{Slot}
-use Rattle.bpf_profile.specs.Flow.{flow_fault}
+use Rattle.bpf_profile.specs.FlowFaults.{flow_fault}
 use Rattle.verifier.specs.Width.{IsWidth}
 use Rattle.verifier.specs.declared.refusal.Refusal.{Refusal}
 use Rattle.verifier.specs.Verifying.{IsRefused, fault_of, out_of_memory}

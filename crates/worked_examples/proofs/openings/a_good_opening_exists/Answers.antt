@@ -1,5 +1,5 @@
-use Rattle.service_profile.specs.Openings.{first_opening}
-use Rattle.service_profile.specs.Configuration.{default_parts}
+use Rattle.service_profile.specs.FirstOpening.{first_opening}
+use Rattle.service_profile.specs.Configured.{default_parts}
 use Rattle.worked_examples.proofs.Exists.{zero_bytes, zero_program, zero_verified, zero_opening}
 use Rattle.worked_examples.proofs.openings.a_good_opening_exists.Goals as goal
 

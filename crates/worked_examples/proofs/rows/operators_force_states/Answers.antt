@@ -5,7 +5,7 @@ use Rattle.bpf_profile.specs.Slots.{read_fields, instruction_of}
 use Rattle.book.proofs.Courses.{course}
 use Rattle.service_profile.specs.Machine.{decision_by}
 use Rattle.service_profile.specs.Verdicts.{ending_within, judgement}
-use Rattle.service_profile.specs.Configuration.{default_parts}
+use Rattle.service_profile.specs.Configured.{default_parts}
 use Rattle.worked_examples.specs.Rows.{states_are_forced, states_were_forced}
 use Rattle.worked_examples.proofs.Heard.{heard_on}
 use Rattle.worked_examples.proofs.rows.operators_force_states.Goals as goal

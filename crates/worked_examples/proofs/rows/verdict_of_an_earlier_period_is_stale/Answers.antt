@@ -5,7 +5,7 @@ use Rattle.bpf_profile.specs.Slots.{read_fields, instruction_of}
 use Rattle.book.proofs.Courses.{course}
 use Rattle.service_profile.specs.Machine.{decision_by}
 use Rattle.service_profile.specs.Verdicts.{ending_within, judgement}
-use Rattle.service_profile.specs.Configuration.{default_parts}
+use Rattle.service_profile.specs.Configured.{default_parts}
 use Rattle.worked_examples.specs.Rows.{ticket_goes_stale, ticket_went_stale}
 use Rattle.worked_examples.proofs.Heard.{heard_on}
 use Rattle.worked_examples.proofs.rows.verdict_of_an_earlier_period_is_stale.Goals as goal

@@ -8,7 +8,7 @@ use Rattle.service_profile.specs.Histories.{past_of, situation_of}
 use Rattle.service_profile.specs.Machine.{Situation, decision}
 use Rattle.book.specs.Books.{rolled_of, opening_of, journal, all_lines}
 use Rattle.book.specs.Effects.{planned}
-use Rattle.book.specs.Seen.{seen}
+use Rattle.book.specs.Accepted.{seen}
 use Rattle.book.specs.Situations.{StandsFor}
 use Rattle.book.proofs.Applying.{decided_so, unentered_there, lacking_there, situated, notes_there, can_follow, plan_installs, line_fits, refused_fits, held_fits, taken_there, kept_there, rolled_is, book_told, where_ok, where_err, word_there, applied_there}
 use Rattle.book.proofs.Journals.{all_count, held_is, all_with}

@@ -1,6 +1,6 @@
 use Rattle.std.proofs.Common.{◌≡◌, Ok, Err, ap, sym, ◌∙◌, subst}
 use Rattle.std.specs.Arc.{arc_value}
-use Rattle.service_profile.specs.Answers.{IsLooked, looks, map_ok, looked}
+use Rattle.service_profile.specs.Answers.{IsLooked, looks, looked, map_ok}
 use Rattle.service_profile.specs.Events.{History}
 use Rattle.service_profile.specs.Histories.{past_of, situation_of}
 use Rattle.book.specs.Books.{rolled_of, opening_of, journal, all_lines}

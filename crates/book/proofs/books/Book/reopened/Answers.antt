@@ -6,11 +6,11 @@ use Rattle.service_profile.specs.Events.{History, Opening, history_of}
 use Rattle.service_profile.specs.Histories.{Past, past_of, situation_of}
 use Rattle.service_profile.specs.Openings.{IsOpening}
 use Rattle.book.specs.Books.{rolled_of, opening_of, journal, all_lines}
-use Rattle.book.specs.Safe.{IsSafeProgram}
+use Rattle.book.specs.Accepted.{IsSafeProgram}
 use Rattle.book.proofs.Applying.{line_fits, situated}
 use Rattle.book.proofs.Cuts.{current_is, made_so, reopened_is, reopens_well}
 use Rattle.book.proofs.Journals.{all_count}
-use Rattle.book.proofs.Worlds.{current_safe}
+use Rattle.book.proofs.Worlds.{current_accepted}
 use Rattle.book.proofs.books.Book.reopened.Goals as goal
 
 pub overflow_add-start : goal.overflow_add-start
@@ -40,7 +40,7 @@ pub begin-requires-clause-program : goal.begin-requires-clause-program
 begin-requires-clause-program c =
     let past : Past = past_of (journal (opening_of c.self.inside.service.config c.self.inside.start) (all_lines c.self.inside.handed.items c.self.inside.entries.items) (rolled_of c.self.inside.rolled c.self.inside.service c.self.inside.start)) in
     let program : arc_value c.in_ok-try_clone.field-0 ≡ current_program past = c.in_ok-try_clone.ensures ∙ current_is past (arc_value c.current_program.result.now) (c.current_program.ensures _ _ c.self.invariant.0.situated) in
-    subst IsSafeProgram (sym program) (current_safe past c.self.invariant.0.sound)
+    subst IsSafeProgram (sym program) (current_accepted past c.self.invariant.0.sound)
 
 pub returns-clause-opened : goal.returns-clause-opened
 returns-clause-opened c =

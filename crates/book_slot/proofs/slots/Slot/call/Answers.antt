@@ -1,4 +1,4 @@
-use Rattle.book_slot.specs.Rules.{missed}
+use Rattle.book_slot.specs.Views.{missed}
 use Rattle.book_slot.proofs.Calling.{may_put, is_called, called_by}
 use Rattle.book_slot.proofs.slots.Slot.call.Goals as goal
 

@@ -1,7 +1,7 @@
 use Rattle.std.proofs.Common.{rules, ap, subst, ◌≡◌}
 use lib.ListN.{get_elem?}
 use Rattle.book_slot.specs.Origins.{IsOf}
-use Rattle.book_slot.specs.Rules.{IsCourseOf, EachBegins, IsMadeBy}
+use Rattle.book_slot.specs.Courses.{IsCourseOf, EachBegins, IsMadeBy}
 use Rattle.book_slot.specs.Places.{SlotData}
 use Rattle.book_slot.proofs.Views.{same_at}
 use Rattle.book_slot.proofs.Keeps.{closes, last_good}

@@ -1,4 +1,4 @@
-use Rattle.book.specs.Seen.{seen}
+use Rattle.book.specs.Accepted.{seen}
 use Rattle.service_profile.specs.Calls.{applies, replies}
 use Rattle.book_slot.proofs.Calling.{may_put, is_called, tried_by}
 use Rattle.book_slot.proofs.slots.Slot.try_call_with.Goals as goal

@@ -1,6 +1,7 @@
 use Rattle.std.proofs.Common.{◌∙◌, List, sym, ap, subst, length, arith, false}
 use Rattle.bpf_profile.specs.declared.slot.Slot.{Slot}
-use Rattle.bpf_profile.specs.Spelling.{Spells, fault_from}
+use Rattle.bpf_profile.specs.Spelling.{Spells}
+use Rattle.bpf_profile.specs.SpellingFaults.{fault_from}
 use Rattle.bpf_decode.specs.Faults.{fault_of}
 use Rattle.bpf_decode.specs.Kept.{AreInstructions}
 use Rattle.bpf_decode.proofs.Spelled.{read_few, read_spelled, bad_unspelled, faulty_unspelled, same_slots}

@@ -5,7 +5,8 @@ use Rattle.service_profile.specs.Events.{History}
 use Rattle.book_slot.specs.Places.{SlotData}
 use Rattle.slot_desk.specs.Desks.{DeskData}
 use Rattle.slot_desk.specs.Slots.{table_of, back_of, dealt_of, known_of, origin_of}
-use Rattle.slot_desk.specs.Closing.{Finished, AreOf, AreCourses, CoursesAreMadeBy, NumbersAgree, traces_row, all_added, last_of}
+use Rattle.slot_desk.specs.Closing.{AreOf, AreCourses, CoursesAreMadeBy, NumbersAgree, traces_row, last_of}
+use Rattle.slot_desk.specs.Gathering.{Finished, all_added}
 use Rattle.slot_desk.proofs.Counting.{Leaves, all_leave, all_back, whole, as_long}
 use Rattle.slot_desk.specs.Seats.{SeatData, IsSeatOf}
 use Rattle.slot_desk.proofs.Entries.{all_weaker, numbers_agree}

@@ -1,4 +1,4 @@
-use Rattle.slot_desk.specs.Calls.{report_of}
+use Rattle.slot_desk.specs.Places.{report_of}
 use Rattle.slot_desk.proofs.Reporting.{reported}
 use Rattle.slot_desk.proofs.desks.Desk.report.Goals as goal
 

@@ -1,5 +1,6 @@
 use Rattle.std.proofs.Common.{rules, ◌≡◌, ◌∙◌, ◌+◌, length, map, replicate, ap, sym}
-use Rattle.slot_desk.specs.Seats.{newcomer_of, entries_in}
+use Rattle.slot_desk.specs.Seats.{entries_in}
+use Rattle.slot_desk.specs.Sitting.{newcomer_of}
 use Rattle.slot_desk.specs.Slots.{origin_of, number_at, view_at}
 use Rattle.slot_desk.proofs.Counting.{numbered}
 use Rattle.slot_desk.proofs.Entries.{none_made}

@@ -1,6 +1,6 @@
 use Rattle.std.proofs.Common.{ap, refl, sym, arith, ◌∙◌, ◌+◌}
 use Rattle.service_profile.specs.Calls.{applies, replies}
-use Rattle.book.specs.Seen.{seen}
+use Rattle.book.specs.Accepted.{seen}
 use Rattle.slot_desk.specs.Desks.{DeskData}
 use Rattle.slot_desk.proofs.Entries.{tried_makes, missed_makes}
 use Rattle.slot_desk.proofs.Places.{here, numbers_stay, counts_on, is_tried_at, is_missed_at}

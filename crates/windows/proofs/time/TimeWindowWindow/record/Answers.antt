@@ -1,7 +1,8 @@
 use Rattle.std.proofs.Common.{◌≡◌, ◌-◌, ◌^◌, List, ap, sym, subst, ◌∙◌}
 use Rattle.circular_buffer.specs.Buffer.{Buffer, buffer, keep_last}
 use Rattle.service_profile.specs.declared.notes.Totals.{Totals}
-use Rattle.service_profile.specs.Windows.{second_of, AreTotals}
+use Rattle.service_profile.specs.Windows.{second_of}
+use Rattle.service_profile.specs.RunningTotals.{AreTotals}
 use Rattle.windows.specs.declared.buckets.Bucket.{Bucket}
 use Rattle.windows.specs.Kept.{HasRoomForOne}
 use Rattle.windows.specs.Rings.{IsCounted, left, totals_of_bucket}
