@@ -33,6 +33,11 @@ IsQuiet (status.Refused number) before after = ⊤
 IsQuiet status.ListenerFailed before after = ⊤
 IsQuiet other before after = IsNotice before after
 
+-- nothing of a writer changed, unless a refusal was printed
+abbrev pub IsSilent : {W : Type 0} → ServerStatus → W → W → Type 0
+IsSilent (status.Refused number) before after = ⊤
+IsSilent other before after = after ≡ before
+
 -- the line that says that standard output took no line, or not all of it
 abbrev pub lost_output_line : List ℕ
 lost_output_line = codes "standard output: a line couldn't be written" ++ 10 ∷ []
@@ -54,6 +59,12 @@ abbrev pub IsLineCut : ServerStatus → List ℕ → Option (List ℕ) → Optio
 IsLineCut status.WriteFailed line before after = AppendsProperPart before after line
 IsLineCut status.FlushFailed line before after = Appends before after line
 IsLineCut other line before after = ⊥
+
+-- a text was printed, or a part of it where that failed; nothing was written where there was no memory for it
+abbrev pub IsPrinted : ServerStatus → List ℕ → Option (List ℕ) → Option (List ℕ) → Type 0
+IsPrinted status.Done text before after = Appends before after text
+IsPrinted status.OutOfMemory text before after = after ≡ before
+IsPrinted other text before after = IsLineCut other text before after
 
 -- the refusal was printed, or a part of its line where that failed; nothing was written where there was no memory for it
 abbrev pub IsRefused : ServerStatus → RefusalNumber → Option (List ℕ) → Option (List ℕ) → Type 0

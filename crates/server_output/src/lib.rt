@@ -5,6 +5,6 @@ mod lines;
 mod listening;
 mod status;
 
-pub use lines::{notify_lost_output, refuse, refuse_for};
+pub use lines::{notify_lost_output, print_text, refuse, refuse_for};
 pub use listening::listen;
 pub use status::ServerStatus;

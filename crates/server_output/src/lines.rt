@@ -1,7 +1,7 @@
 //! Lines on standard output, each of which is printed at once, and the lines on standard error that say why.
 ghost use Rattle.std.specs.Prelude.{◌≡◌, IfErr, OnOk};
 ghost use Rattle.std.specs.Io.KnownBytes.{Appends};
-ghost use Rattle.server_output.specs.Lines.{IsLineCut, IsLossTold, IsRefused, IsQuiet, IsServerCause, status_of};
+ghost use Rattle.server_output.specs.Lines.{IsLineCut, IsLossTold, IsPrinted, IsRefused, IsQuiet, IsServerCause, IsSilent, status_of};
 
 use crate::status::ServerStatus;
 use counted_io::Counted;
@@ -49,6 +49,22 @@ pub(crate) fn print<O: Write>(line: &str, out: &mut Counted<O>) -> Result<(), Se
     Ok(())
 }
 
+/// Prints a text, whose last line ends by itself, and flushes it. Answers `Done` where it was printed, and else how that
+/// failed.
+pub fn print_text<O: Write>(text: &str, out: &mut Counted<O>) -> ServerStatus
+    // The text is whole where it is done and where it can't be flushed, and where a write failed it is cut short.
+    ensures printed { IsPrinted result text.now (O.contents out.old.inner) (O.contents out.new.inner) }
+    // It asks for no memory, and never ends for want of it.
+    ensures memory { result ≡ ServerStatus.OutOfMemory → ⊥ }
+    // A failed write and a failed flush are answered where that count went up by one, and in no other case.
+    ensures cause { IsServerCause result out.old.failures out.new.failures }
+{
+    match print(text, out) {
+        Ok(()) => ServerStatus::Done,
+        Err(status) => status,
+    }
+}
+
 /// Prints a refusal as a line. Answers `Refused` with its number where it was printed, and else how that failed.
 pub fn refuse<O: Write>(alloc: Global, number: RefusalNumber, out: &mut Counted<O>) -> ServerStatus
     // The line is whole where it was refused and where it can't be flushed; where a write failed it is cut short; and
@@ -90,6 +106,8 @@ pub fn refuse_for<O: Write, E: Write>(
     ensures refused { IsRefused result number (O.contents out.old.inner) (O.contents out.new.inner) }
     // Where the refusal wasn't printed, `err` has at most more what a server may say without one.
     ensures quiet { IsQuiet result (E.contents err.old.inner) (E.contents err.new.inner) }
+    // Nothing of `err` changes then.
+    ensures silent { IsSilent result err.old err.new }
     ensures cause { IsServerCause result out.old.failures out.new.failures }
 {
     let status = refuse(alloc, number, out);

@@ -2,8 +2,10 @@
 #![tactic(auto)]
 
 use counted_io::Counted;
+use file_check::check_path;
+use program_words::{print_help, print_version};
 use sidecar_commands::command;
-use sidecar_server::{SystemClock, notify_lost_output, serve_path};
+use sidecar_server::{ServerStatus, SystemClock, notify_lost_output, serve_path};
 use std::alloc::AllocError;
 use std::io::BufReader;
 use std::process::ExitCode;
@@ -16,6 +18,21 @@ fn arguments(rt: &HostRuntime) -> io::Result<Vec<String>> {
         arguments.push(argument)?;
     }
     Ok(arguments)
+}
+
+/// How words end that check a file, or ask for what the program says of itself; nothing for other words.
+fn check_or_tell(rt: &HostRuntime, words: &[&str]) -> Option<ServerStatus> {
+    let alloc = rt.alloc();
+    let mut out = Counted::new(rt.stdout());
+    let mut err = Counted::new(rt.stderr());
+    let status = match *words {
+        ["check", path] => check_path(rt, alloc, path, &mut out, &mut err),
+        ["version"] | ["--version"] => print_version(alloc, &mut out),
+        ["help"] | ["--help"] => print_help(&mut out),
+        _ => return None,
+    };
+    notify_lost_output(status, &mut err);
+    Some(status)
 }
 
 /// The status with which the command of these words ends.
@@ -44,6 +61,9 @@ fn main(rt: HostRuntime) -> ExitCode {
         let end = serve_path(&rt, rt.alloc(), path, &mut out, &mut err, &mut clock);
         notify_lost_output(end.status, &mut err);
         return ExitCode::from(end.status.code());
+    }
+    if let Some(status) = check_or_tell(&rt, &words) {
+        return ExitCode::from(status.code());
     }
     match run_command(&rt, &words) {
         Ok(code) => ExitCode::from(code),

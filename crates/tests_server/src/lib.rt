@@ -7,6 +7,8 @@ mod answerers;
 #[cfg(test)]
 mod checks;
 #[cfg(test)]
+mod clocks;
+#[cfg(test)]
 mod commands;
 #[cfg(test)]
 mod failing_connections;
