@@ -2,7 +2,6 @@
 use Rattle.std.proofs.Common.{◌≡◌, ℕ, zero, suc, ◌≤◌, false, List, [], ◌∷◌, length, slice_get, Option, Some, None, IsOk, lit<, lit≤, arith, refl, sym, subst}
 use Rattle.bpf_profile.specs.declared.slot.Slot.{Slot}
 use Rattle.bpf_profile.specs.declared.slot.Slot.TheVariants.{Ins, Tail}
-use Rattle.bpf_profile.specs.declared.layout.Layout.TheVariants as layout
 use Rattle.bpf_profile.specs.Flow.{successors, WalkFrom, IsWalk, IsBudget}
 use Rattle.bpf_profile.specs.FlowFaults.{flow_fault_at, flow_fault_from, flow_fault}
 use Rattle.bpf_profile.specs.Opcodes.{operation_of, comparison_of, size_of, convert_opcode, arithmetic_opcode, jump_opcode, immediate_opcode, load_opcode, store_opcode, store_register_opcode, opcode_of}
@@ -11,19 +10,12 @@ use Rattle.bpf_profile.specs.Spelling.{is_tail, FollowsWide, IsProgram}
 use Rattle.abs_states.specs.Transfers.{transfer_in}
 use Rattle.verifier.specs.Analysis.{arriving, fault_at, fault_from, analysis_fault}
 use Rattle.verifier.specs.Product.{product}
-use Rattle.bpf_profile.specs.Programs.{VerifiedProgram}
 use Rattle.std.specs.Prelude.{Contains}
 use Rattle.verifier.specs.Verifying.{IsVerification}
 use Rattle.service_profile.specs.Openings.{IsOpening}
 use Rattle.service_profile.specs.FirstOpening.{first_opening}
 use Rattle.service_profile.specs.Configured.{default_parts}
-
--- a move of 0 into R0, and an exit
-abbrev pub zero_slots : List Slot
-zero_slots = Ins 183 0 0 0 0 ∷ (Ins 149 0 0 0 0 ∷ [])
-
-abbrev pub zero_program : VerifiedProgram
-zero_program = record { slots = zero_slots; budget = 2; layout = layout.One }
+use Rattle.worked_examples.specs.Promises.{zero_slots, zero_program}
 
 abbrev pub zero_bytes : List ℕ
 zero_bytes = 183 ∷ (0 ∷ (0 ∷ (0 ∷ (0 ∷ (0 ∷ (0 ∷ (0 ∷ (149 ∷ (0 ∷ (0 ∷ (0 ∷ (0 ∷ (0 ∷ (0 ∷ (0 ∷ [])))))))))))))))

@@ -1,2 +1,3 @@
 pub mod Exists
 pub mod Heard
+mod Small

@@ -3,3 +3,4 @@ pub mod Rows
 pub mod Stays
 pub mod Breakers
 pub mod Classifiers
+pub mod Promises

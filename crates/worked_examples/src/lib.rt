@@ -4,4 +4,5 @@
 #![tactic(auto)]
 
 pub mod openings;
+pub mod promises;
 pub mod rows;
