@@ -15,7 +15,7 @@ from delvoumi.connection import Connection
 from delvoumi.errors import NoAnswer, NoService, TicketNotOpen, WithNumber, refusal
 
 from .files import BadFile, Entry, Journal, time_of
-from .tickets import OpenTickets, open_tickets
+from .tickets import OpenTickets, SidecarClock, open_tickets
 
 SECONDS_TO_ANSWER = 5.0
 ENTRIES_OF_A_PAGE = 100
@@ -86,6 +86,7 @@ class ServiceKeeper:
         self._journal = Journal(folder, service, most_bytes)
         self._release_after = release_after
         self._tickets = OpenTickets() if release_after is None else open_tickets(folder, service)
+        self._clock = SidecarClock()
         # The last entry that was kept of this run of the sidecar, and the number of the next one to read.
         self._last = self._journal.last
         self._next = 1
@@ -111,6 +112,7 @@ class ServiceKeeper:
             self._say(f"{self.service}: the sidecar was started anew: its entries are numbered from 1 again")
             self._last = None
             self._tickets = OpenTickets()
+            self._clock = SidecarClock()
         self._next = 1 if self._last is None else self._last["number"] + 1
 
     def keep_batch(self, service: Service, disk: Executor) -> bool:
@@ -124,6 +126,7 @@ class ServiceKeeper:
             missing = entries[0]["number"] - self._next
             if missing > 0 and self._journal.last is not None:
                 self._say(f"{self.service}: {missing} entries from {self._next} on were dropped before they were kept")
+            self._clock.note(entries[-1]["moment"])
             self._writing = disk.submit(self._journal.append, entries), entries
             self._next = entries[-1]["number"] + 1
         return has_more
@@ -155,7 +158,7 @@ class ServiceKeeper:
         """Releases the tickets that are open for too long, and says which."""
         if self._release_after is None:
             return
-        now = max(time.time() * 1000, self._journal.last["moment"] if self._journal.last else 0)
+        now = max(self._clock.now(), self._journal.last["moment"] if self._journal.last else 0)
         for ticket, issued in self._tickets.older_than(int(now - self._release_after * 1000)):
             try:
                 service.ask("POST", "release", {"ticket": ticket})

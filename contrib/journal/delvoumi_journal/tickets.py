@@ -1,8 +1,29 @@
-"""The tickets that are open, by the entries of a journal."""
+"""The tickets that are open, by the entries of a journal, and which moment it is for a sidecar."""
 
+import time
 from collections.abc import Iterable
 
 from .files import Entry, entries_in, files_of
+
+
+class SidecarClock:
+    """Tells which moment it is for a sidecar, by the moments of the entries that it makes: never a later one.
+
+    A sidecar's moments count on from the time of day at its start, and don't follow when that is set. So they go by a clock
+    that only goes forward, here as there. Before the first entry that is noted the time of day stands for them."""
+
+    def __init__(self) -> None:
+        # How far the sidecar's moments are ahead of this clock, at least, in milliseconds.
+        self._ahead: float | None = None
+
+    def note(self, moment: int) -> None:
+        """Notes the moment of an entry that has been read just now."""
+        ahead = moment - time.monotonic() * 1000
+        self._ahead = ahead if self._ahead is None else max(self._ahead, ahead)
+
+    def now(self) -> float:
+        """Returns the moment that it is, in milliseconds."""
+        return time.time() * 1000 if self._ahead is None else time.monotonic() * 1000 + self._ahead
 
 
 class OpenTickets:

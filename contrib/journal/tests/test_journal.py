@@ -24,6 +24,7 @@ from delvoumi_journal.files import BadFile, Journal, entries_in, files_of
 from delvoumi_journal.keeper import FolderTaken, Keeper
 from delvoumi_journal.main import main
 from delvoumi_journal.reading import check
+from delvoumi_journal.tickets import SidecarClock
 from testbed import TOP, Relay, Server, wait_for
 
 JOURNAL = f"{TOP}/contrib/journal/journal"
@@ -244,6 +245,17 @@ class EntriesAreKept(WithServer):
         files = files_of(self.folder, "pay")
         fault = f"{self.folder}/pay.jsonl: number 4 comes behind 1"
         self.assertEqual(run("verify", *files), (1, [fault, "2 entries of 1 runs, 1 faults"]))
+
+    def test_a_time_of_day_that_is_set_ages_no_ticket(self) -> None:
+        clock = SidecarClock()
+        self.assertLess(abs(clock.now() - time.time() * 1000), 5_000)
+        # The sidecar's moments are an hour behind the time of day, which was set ahead since its start.
+        an_hour_ago = int(time.time() * 1000) - 3_600_000
+        clock.note(an_hour_ago)
+        self.assertLess(abs(clock.now() - an_hour_ago), 5_000)
+        # An entry that was made long before it was read doesn't set the clock back.
+        clock.note(an_hour_ago - 60_000)
+        self.assertLess(abs(clock.now() - an_hour_ago), 5_000)
 
     def test_old_tickets_are_released_if_asked(self) -> None:
         for _ in range(3):
