@@ -1,5 +1,5 @@
--- Behind a roll of all entries no event meets a full journal.
-use Rattle.std.proofs.Common.{◌≡◌, ℕ, suc, ◌-◌, ◌≤◌, ◌<◌, Bool, true, false, List, [], length, Ok, arith, ap, sym, ◌∙◌, rules}
+-- Behind a roll that leaves at most half a journal no event meets a full one.
+use Rattle.std.proofs.Common.{◌≡◌, ℕ, suc, ◌+◌, ◌-◌, ◌≤◌, ◌<◌, Bool, true, false, List, [], length, Ok, arith, ap, sym, ◌∙◌, rules}
 use Rattle.bpf_profile.specs.Programs.{VerifiedProgram}
 use Rattle.refusals.specs.declared.RefusalNumber.TheVariants as refusal
 use Rattle.service_profile.specs.declared.decisions.Decision.{Decision}
@@ -11,6 +11,7 @@ use Rattle.service_profile.specs.Events.{EventData, EntryData, installs, Opening
 use Rattle.service_profile.specs.Histories.{Past, past_of, next_line, situation_of, programs_of, raised, IsLegal}
 use Rattle.service_profile.specs.Machine.{Situation, Judging, is_full, used, current_version, decision, decision_by}
 use Rattle.book.specs.Accepted.{Accepting}
+use Rattle.book.specs.Full.{half_a_journal}
 use Rattle.service_profile.specs.Calls as call
 use Rattle.book.specs.Interleavings.{answered}
 use Rattle.book.specs.Memory.{lacks_memory}
@@ -22,7 +23,7 @@ use Rattle.book.proofs.Rolled.{rolled_legal, roll_goes_further}
 
 -- ---- there is room
 
-roomy : (s : Situation) (event : EventData) → used s ≤ 10000 → is_full s event ≡ false
+roomy : (s : Situation) (event : EventData) → used s ≤ 42768 → is_full s event ≡ false
 roomy s event le = search rules
 
 -- ---- where there is room, no event is answered that there is none; nor is one refused for want of memory, however work is judged
@@ -48,7 +49,7 @@ decision_has_memory judging s moment event = search rules
 
 -- ---- a history
 
-roomy_after : {accepts : Accepting} (history : History) (last : ℕ) (event : EventData) → IsLegal history → IsSound accepts (past_of history) → history.rolled.lines ≤ length history.lines → next_line (past_of history) ≤ suc last
+roomy_after : {accepts : Accepting} (history : History) (last : ℕ) (event : EventData) → IsLegal history → IsSound accepts (past_of history) → history.rolled.lines ≤ length history.lines → next_line (past_of history) ≤ suc last + half_a_journal
     → is_full (situation_of (past_of (rolled_up_to history last))) event ≡ false
 roomy_after history last event legal sound there whole =
     let past : Past = past_of history in
@@ -56,7 +57,7 @@ roomy_after history last event legal sound there whole =
     ap (λ (p : Past). is_full (situation_of p) event) (rolled_legal history (taken_up_to history last) legal (roll_goes_further history last)).1
     ∙ roomy (situation_of (with_rolled (taken_up_to history last) past)) event (omega (arith, few, sound.places, stage_count history.opening history.lines history.rolled, ap (λ (o : Opening). o.line) (same_opening history.opening history.lines history.rolled)))
 
-rolled_up_roomy : {accepts : Accepting} (history : History) (last moment : ℕ) (event : EventData) → IsLegal history → IsSound accepts (past_of history) → history.rolled.lines ≤ length history.lines → next_line (past_of history) ≤ suc last
+rolled_up_roomy : {accepts : Accepting} (history : History) (last moment : ℕ) (event : EventData) → IsLegal history → IsSound accepts (past_of history) → history.rolled.lines ≤ length history.lines → next_line (past_of history) ≤ suc last + half_a_journal
     → (answer (rolled_up_to history last) moment event).reply ≡ reply.Refused refusal.JournalFull → ⊥
 rolled_up_roomy history last moment event legal sound there whole =
     let past : Past = past_of (rolled_up_to history last) in
@@ -68,7 +69,7 @@ left_by : (history : History) (last : ℕ) (lines : List EntryData) (after : His
 left_by history last lines after (rolls same left) = left ∙ ap (after_roll history last) (sym same)
 left_by history last lines after (no_room held allowed fewer lacks left) = search rules
 
-pub rolled_roomy : {accepts : Accepting} (history after : History) (last moment : ℕ) (lines : List EntryData) (event : EventData) → IsLegal history → IsSound accepts (past_of history) → history.rolled.lines ≤ length history.lines → next_line (past_of history) ≤ suc last → IsRolled history last (Ok lines) after
+pub rolled_roomy : {accepts : Accepting} (history after : History) (last moment : ℕ) (lines : List EntryData) (event : EventData) → IsLegal history → IsSound accepts (past_of history) → history.rolled.lines ≤ length history.lines → next_line (past_of history) ≤ suc last + half_a_journal → IsRolled history last (Ok lines) after
     → (answer after moment event).reply ≡ reply.Refused refusal.JournalFull → ⊥
 rolled_roomy history after last moment lines event legal sound there whole rolled full =
     rolled_up_roomy history last moment event legal sound there whole (ap (λ (h : History). (answer h moment event).reply) (sym (left_by history last lines after rolled)) ∙ full)

@@ -14,3 +14,4 @@ pub mod Rolling
 pub mod Good
 pub mod Reopened
 pub mod Counts
+pub mod Full

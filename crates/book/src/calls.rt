@@ -3,6 +3,7 @@
 ghost use Rattle.std.specs.Prelude.{◌≡◌, ℕ, None, IfSome};
 ghost use Rattle.std.specs.Arc.{arc_value};
 ghost use Rattle.book.specs.Counts.{HasRoomFor, IsFull, IsTurnedAway, cuts_by};
+ghost use Rattle.book.specs.Full.{IsMadeOnce, says_full};
 ghost use Rattle.book.specs.Good.{IsGood};
 ghost use Rattle.book.specs.Accepted.{seen};
 ghost use Rattle.service_profile.specs.Answers.{map_ok};
@@ -61,6 +62,17 @@ pub trait Call: Drop {
     /// How many cuts a call with this answer has made: one, or none.
     fn cuts(answer: &Self::Answer) -> u64
         ensures { (call : Self) → result ≡ cuts_by (called call) (answered answer.now) };
+
+    /// The same call once more, for whoever makes room in a full journal and then calls again. None where that is of no use:
+    /// for a finish, which no full journal refuses while its ticket is open, and for what is no event; and for an install
+    /// whose program can have no more owners.
+    fn again(&self) -> Option<Self>
+        ensures same { IfSome result (λ call. called call ≡ called self.now) }
+        ensures once { result ≡ None → IsMadeOnce (called self.now) };
+
+    /// Whether this answer says that the journal is full.
+    fn says_full(answer: &Self::Answer) -> bool
+        ensures { result ≡ says_full (answered answer.now) };
 }
 
 /// Applies an event at a moment, in milliseconds.
@@ -86,6 +98,22 @@ impl Call for Apply {
     fn cuts(_answer: &Reply) -> u64 {
         0
     }
+
+    fn again(&self) -> Option<Apply> {
+        let event = match &self.1 {
+            Event::Acquire => Event::Acquire,
+            Event::Finish(_, _) => return None,
+            Event::Release(ticket) => Event::Release(*ticket),
+            Event::Install(program) => Event::Install(Arc::try_clone(program).ok()?),
+            Event::Move(state) => Event::Move(*state),
+            Event::Reset => Event::Reset,
+        };
+        Some(Apply(self.0, event))
+    }
+
+    fn says_full(answer: &Reply) -> bool {
+        matches!(*answer, Reply::Refused(RefusalNumber::JournalFull))
+    }
 }
 
 /// Finds the program that judges under a ticket.
@@ -109,6 +137,14 @@ impl Call for Look {
 
     fn cuts(_answer: &Result<Arc<Verified>, RefusalNumber>) -> u64 {
         0
+    }
+
+    fn again(&self) -> Option<Look> {
+        None
+    }
+
+    fn says_full(_answer: &Result<Arc<Verified>, RefusalNumber>) -> bool {
+        false
     }
 }
 
@@ -134,6 +170,14 @@ impl Call for Read {
     fn cuts(_answer: &Reading) -> u64 {
         0
     }
+
+    fn again(&self) -> Option<Read> {
+        None
+    }
+
+    fn says_full(_answer: &Reading) -> bool {
+        false
+    }
 }
 
 /// Copies at most 100 entries of the journal, from a number on.
@@ -157,6 +201,14 @@ impl Call for Page {
 
     fn cuts(_answer: &Result<Vec<Entry>, RefusalNumber>) -> u64 {
         0
+    }
+
+    fn again(&self) -> Option<Page> {
+        None
+    }
+
+    fn says_full(_answer: &Result<Vec<Entry>, RefusalNumber>) -> bool {
+        false
     }
 }
 
@@ -185,6 +237,14 @@ impl Call for Cut {
             Err(_) => 0,
         }
     }
+
+    fn again(&self) -> Option<Cut> {
+        None
+    }
+
+    fn says_full(_answer: &Result<Vec<Entry>, RefusalNumber>) -> bool {
+        false
+    }
 }
 
 /// Hands out the entries up to a number; the book goes on.
@@ -208,5 +268,13 @@ impl Call for Roll {
 
     fn cuts(_answer: &Result<Vec<Entry>, RefusalNumber>) -> u64 {
         0
+    }
+
+    fn again(&self) -> Option<Roll> {
+        None
+    }
+
+    fn says_full(_answer: &Result<Vec<Entry>, RefusalNumber>) -> bool {
+        false
     }
 }

@@ -16,6 +16,7 @@ ghost use Rattle.service_profile.specs.Histories.{Stage, past_of, next_line, sit
 ghost use Rattle.service_profile.specs.Calls.{CallAnswer};
 ghost use Rattle.book.specs.Interleavings.{Driven, AreCalled, acts_of, Hands, World, Given, answered, Act, AreSteps, IsCourse, IsWorld, begun};
 ghost use Rattle.book.specs.Memory.{lacks_memory, HaveMemory};
+ghost use Rattle.book.specs.Full.{half_a_journal};
 ghost use Rattle.book.specs.Laws.{IsService, HasMeantNote};
 ghost use Rattle.book.specs.Rolling.{IsFurther, with_rolled, versions_needed, endless_answer, Ask, heard, history_after, without_rolls, NeverFull, PagesAreHeld, pieces};
 ghost use Rattle.service_profile.specs.Limits.{most_versions};
@@ -180,10 +181,10 @@ pub fn pieces_are_the_journal()
     ensures { (history : History) (asked : List Ask) → history.rolled.lines ≤ length history.lines → pieces history asked ++ held_lines (history_after history asked) ≡ drop history.rolled.lines (history_after history asked).lines }
 {}
 
-/// Behind a roll that handed out all entries up to the last one, no event is answered `JournalFull`, however many tickets
-/// are open. `IsRolled` is what the clause of `Book::roll` says of the history that it leaves.
+/// Behind a roll that leaves at most half a journal, 32,768 entries, no event is answered `JournalFull`, however many
+/// tickets are open. `IsRolled` is what the clause of `Book::roll` says of the history that it leaves.
 pub fn rolled_journals_have_room()
-    ensures { (history after : History) (last moment : ℕ) (lines : List EntryData) (event : EventData) → IsLegal history → IsSound IsSafeProgram (past_of history) → history.rolled.lines ≤ length history.lines → next_line (past_of history) ≤ suc last → IsRolled history last (Ok lines) after → (answer after moment event).reply ≢ reply.Refused refusal.JournalFull }
+    ensures { (history after : History) (last moment : ℕ) (lines : List EntryData) (event : EventData) → IsLegal history → IsSound IsSafeProgram (past_of history) → history.rolled.lines ≤ length history.lines → next_line (past_of history) ≤ suc last + half_a_journal → IsRolled history last (Ok lines) after → (answer after moment event).reply ≢ reply.Refused refusal.JournalFull }
 {}
 
 /// After a roll an install is not answered `VersionsFull`, however many programs were installed before, unless

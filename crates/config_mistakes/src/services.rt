@@ -39,7 +39,7 @@ pub(crate) fn service_words(
             service,
             "",
             SERVICE_KEYS,
-            "name, config, program and layout",
+            "name, config, program, layout and journal",
         ),
         ServiceMistake::Name => name_words(alloc, service),
         ServiceMistake::NameTaken => wrong(
@@ -54,6 +54,7 @@ pub(crate) fn service_words(
             config_words(alloc, Object { path: &path, value }, mistake)
         }
         ServiceMistake::Layout => wrong(alloc, service, "layout", "the whole number 1 or 2"),
+        ServiceMistake::Journal => wrong(alloc, service, "journal", "\"keep\" or \"last\""),
         ServiceMistake::NoProgram => wrong(
             alloc,
             service,

@@ -3,14 +3,15 @@ ghost use Rattle.std.specs.Prelude.{◌≡◌};
 
 use crate::answerer::Answerer;
 use book::Book;
-use service::{ONLY_SEAT, OpenGate, Request, Response, ask};
+use service::{ONLY_SEAT, OpenGate, Request, Response, Upkeep, ask};
 use std::alloc::Global;
 
-/// A service: its name, and its book.
+/// A service: its name, its book, and what it does for its own upkeep.
 #[derive(Drop)]
 pub struct NamedBook {
     pub name: String,
     pub book: Book,
+    pub upkeep: Upkeep,
 }
 
 /// Books of services, asked one request at a time. Of two services of one name the first is asked.
@@ -52,6 +53,7 @@ impl Answerer for Books {
             alloc,
             &mut named.book,
             &ONLY_SEAT,
+            named.upkeep,
             moment,
             request,
             &OpenGate,

@@ -3,6 +3,8 @@ use Rattle.std.specs.Prelude.{◌≡◌, ℕ, zero, suc, List, [], ◌∷◌, ma
 use Rattle.std.specs.List.{AllByRecursion}
 use Rattle.service.specs.Asked.{RequestData, ResponseData}
 use Rattle.service.specs.Asking.{IsServedBy}
+use Rattle.service.specs.Upkept.{IsUpkept}
+use Rattle.service.specs.declared.upkeep.Upkeep.{Upkeep}
 use Rattle.service_profile.specs.Events.{History}
 use Rattle.book.specs.Good.{IsGood}
 use Rattle.desk.specs.Calls.{IsCalledAt}
@@ -19,9 +21,9 @@ place_at desk name = position (λ service. bytes_eq service.name name) desk.serv
 abbrev pub sits_at : DeskData → SeatData → Type 0
 sits_at desk seat = ⊤
 
--- the calls that a request stands for are those of the seat
-abbrev pub asks : DeskData → SeatData → ℕ → ℕ → RequestData → ResponseData → SeatData → Type 0
-asks desk old place moment wanted given new = IsServedBy (IsCalledAt desk.services) old moment wanted given new
+-- the calls that a request stands for, and those of the service's own upkeep, are those of the seat
+abbrev pub asks : DeskData → SeatData → Upkeep → ℕ → ℕ → RequestData → ResponseData → SeatData → Type 0
+asks desk old upkeep place moment wanted given new = IsServedBy (IsUpkept upkeep (IsCalledAt desk.services)) old moment wanted given new
 
 -- so many seats, from this number on, that have made no call
 abbrev pub seats_of : ℕ → ℕ → List SeatData

@@ -1,14 +1,17 @@
 -- What contracts see of an answerer with a seat at a desk, and what it answers.
 use Rattle.std.specs.Prelude.{◌≡◌, ℕ, List, Option}
 use Rattle.service.specs.Asked.{RequestData, ResponseData}
+use Rattle.service.specs.Upkept.{upkeep_at}
+use Rattle.service.specs.declared.upkeep.Upkeep.{Upkeep}
 
--- the desk, and the seat
+-- the desk, what its services do for their own upkeep, in their order, and the seat
 pub record SeatedData (D S : Type 0) : Type 0 where
   pub desk : D
+  pub upkeeps : List Upkeep
   pub seat : S
 
-abbrev pub seated : {D S : Type 0} → D → S → SeatedData D S
-seated desk seat = record { desk = desk; seat = seat }
+abbrev pub seated : {D S : Type 0} → D → List Upkeep → S → SeatedData D S
+seated desk upkeeps seat = record { desk = desk; upkeeps = upkeeps; seat = seat }
 
 -- where the desk has the service of a name
 abbrev pub place_by : {D S : Type 0} → (D → List ℕ → Option ℕ) → SeatedData D S → List ℕ → Option ℕ
@@ -18,6 +21,7 @@ place_by place_of answerer name = place_of answerer.desk name
 abbrev pub has_by : {D S : Type 0} → (D → ℕ → Type 0) → SeatedData D S → ℕ → Type 0
 has_by has answerer place = has answerer.desk place
 
--- a request is answered as the seat is answered, and the desk is the same
-abbrev pub asks_by : {D S : Type 0} → (D → S → ℕ → ℕ → RequestData → ResponseData → S → Type 0) → SeatedData D S → ℕ → ℕ → RequestData → ResponseData → SeatedData D S → Type 0
-asks_by asks old place moment wanted given new = (new.desk ≡ old.desk) × asks old.desk old.seat place moment wanted given new.seat
+-- a request is answered as the seat is answered, and the desk and the upkeep of its services are the same
+abbrev pub asks_by : {D S : Type 0} → (D → S → Upkeep → ℕ → ℕ → RequestData → ResponseData → S → Type 0) → SeatedData D S → ℕ → ℕ → RequestData → ResponseData → SeatedData D S → Type 0
+asks_by asks old place moment wanted given new =
+    (new.desk ≡ old.desk) × (new.upkeeps ≡ old.upkeeps) × asks old.desk old.seat (upkeep_at old.upkeeps place) place moment wanted given new.seat

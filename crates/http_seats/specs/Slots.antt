@@ -3,6 +3,8 @@ use Rattle.std.specs.Prelude.{◌≡◌, ℕ, zero, suc, List, [], ◌∷◌, ma
 use Rattle.atomic_table.specs.Seated.{TableId}
 use Rattle.service.specs.Asked.{RequestData, ResponseData}
 use Rattle.service.specs.Asking.{IsServedBy}
+use Rattle.service.specs.Upkept.{IsUpkept}
+use Rattle.service.specs.declared.upkeep.Upkeep.{Upkeep}
 use Rattle.service_profile.specs.Events.{History}
 use Rattle.slot_desk.specs.Calls as seats
 use Rattle.slot_desk.specs.Closing.{AreOf, HaveCourses, NumbersAgree}
@@ -14,9 +16,9 @@ use Rattle.slot_desk.specs.Sitting.{new_seat}
 abbrev pub place_at : DeskData → List ℕ → Option ℕ
 place_at desk name = position (λ other. bytes_eq other name) desk.names
 
--- the calls that a request stands for are those of the seat at the service of this place
-abbrev pub asks : DeskData → SeatData → ℕ → ℕ → RequestData → ResponseData → SeatData → Type 0
-asks desk old place moment wanted given new = IsServedBy (seats.IsAskedAt place) old moment wanted given new
+-- the calls that a request stands for, and those of the service's own upkeep, are those of the seat at the service of this place
+abbrev pub asks : DeskData → SeatData → Upkeep → ℕ → ℕ → RequestData → ResponseData → SeatData → Type 0
+asks desk old upkeep place moment wanted given new = IsServedBy (IsUpkept upkeep (seats.IsAskedAt place)) old moment wanted given new
 
 -- so many seats at books that lie in these tables and opened so, from this number on, that have made no call
 abbrev pub seats_of : List TableId → List (Option History) → ℕ → ℕ → List SeatData

@@ -7,7 +7,7 @@ use crate::seats::DeskSeat;
 use book::Book;
 use desk::{Desk, Offered, Seat, ServiceId, ServicePlace};
 use refusals::RefusalNumber;
-use service::{Gate, Request, Response, ask};
+use service::{Gate, Request, Response, Upkeep, ask};
 use std::alloc::{AllocError, Global};
 use std::sync::Wait;
 use std::sync::ledger::Ledger;
@@ -80,13 +80,14 @@ impl<L: Ledger, M: Ledger + Offered> DeskSeat<Desk<L, M>> for Seat<L, M> {
         rt: &R,
         alloc: Global,
         desk: &Desk<L, M>,
+        upkeep: Upkeep,
         place: usize,
         moment: u64,
         request: Request,
         gate: &G,
     ) -> Response {
         let service = ServicePlace::new(rt, desk, ServiceId::at(place));
-        ask(alloc, self, &service, moment, request, gate)
+        ask(alloc, self, &service, upkeep, moment, request, gate)
     }
 
     fn deal(

@@ -4,17 +4,19 @@ ghost use Rattle.http_seats.specs.Seated.{seated};
 
 use crate::seats::DeskSeat;
 use http_front::Answerer;
-use service::{Gate, Request, Response};
+use service::{Gate, Request, Response, Upkeep, upkeep_at};
 use std::alloc::Global;
 use std::marker::Model;
 use std::sync::Wait;
 
-/// Answers for the services of a desk, by one seat. Contracts see the desk and the seat.
+/// Answers for the services of a desk, by one seat. Contracts see the desk, what its services do for their own upkeep, and
+/// the seat.
 #[derive(Drop)]
 pub struct SeatedAnswerer<'a, D, S: DeskSeat<D>, G: Gate, R: Wait> {
     rt: &'a R,
     alloc: Global,
     desk: &'a D,
+    upkeeps: &'a [Upkeep],
     seat: S,
     gate: &'a G,
 }
@@ -24,21 +26,30 @@ impl<'a, D, S: DeskSeat<D>, G: Gate, R: Wait> Model for SeatedAnswerer<'a, D, S,
 
     ghost Value = { SeatedData D S };
 
-    ghost view = { λ answerer. seated answerer.desk.now answerer.seat };
+    ghost view = { λ answerer. seated answerer.desk.now answerer.upkeeps.now answerer.seat };
 
     ghost invariant = { λ answerer. S.sits_at answerer.desk.now answerer.seat };
 }
 
 impl<'a, D, S: DeskSeat<D>, G: Gate, R: Wait> SeatedAnswerer<'a, D, S, G, R> {
-    /// Answers for a desk, by this seat of it. A report passes the gate in its middle.
-    pub fn new(rt: &'a R, alloc: Global, desk: &'a D, seat: S, gate: &'a G) -> Self
+    /// Answers for a desk, by this seat of it. Each service does for its upkeep what stands at its place among these; one
+    /// behind the last does nothing of its own. A report passes the gate in its middle.
+    pub fn new(
+        rt: &'a R,
+        alloc: Global,
+        desk: &'a D,
+        upkeeps: &'a [Upkeep],
+        seat: S,
+        gate: &'a G,
+    ) -> Self
         requires seat { S.sits_at desk.now seat }
-        ensures { result ≡ seated desk.now seat }
+        ensures { result ≡ seated desk.now upkeeps.now seat }
     {
         SeatedAnswerer {
             rt,
             alloc,
             desk,
+            upkeeps,
             seat,
             gate,
         }
@@ -73,9 +84,11 @@ impl<'a, D, S: DeskSeat<D>, G: Gate, R: Wait> Answerer for SeatedAnswerer<'a, D,
             rt,
             alloc,
             desk,
+            upkeeps,
             seat,
             gate,
         } = self;
-        seat.ask(*rt, *alloc, *desk, place, moment, request, *gate)
+        let upkeep = upkeep_at(*upkeeps, place);
+        seat.ask(*rt, *alloc, *desk, upkeep, place, moment, request, *gate)
     }
 }

@@ -2,10 +2,11 @@
 ghost use Rattle.std.specs.Prelude.{◌≡◌, ◌≤◌, ℕ, List, Option, IfOk, IfSome, vec_len};
 ghost use Rattle.std.specs.List.{AllByRecursion};
 ghost use Rattle.service.specs.Asked.{RequestData, request_data, ResponseData, response_data};
+ghost use Rattle.service.specs.declared.upkeep.Upkeep.{Upkeep as UpkeepData};
 ghost use Rattle.service_profile.specs.Events.{History};
 
 use book::Book;
-use service::{Gate, Request, Response};
+use service::{Gate, Request, Response, Upkeep};
 use std::alloc::{AllocError, Global};
 use std::sync::Wait;
 
@@ -21,9 +22,9 @@ pub trait DeskSeat<Desk>: Drop {
     // whether the seat is one of the desk's
     ghost sits_at: { Desk → Self → Type 0 };
 
-    // how a desk, a seat before a request, the service's place, the moment and the request are related to what is answered and the
-    // seat after it
-    ghost asks: { Desk → Self → ℕ → ℕ → RequestData → ResponseData → Self → Type 0 };
+    // how a desk, a seat before a request, what the service does for its upkeep, its place, the moment and the request are related to
+    // what is answered and the seat after it
+    ghost asks: { Desk → Self → UpkeepData → ℕ → ℕ → RequestData → ResponseData → Self → Type 0 };
 
     // how many seats a desk has dealt
     ghost dealt: { Desk → ℕ };
@@ -39,12 +40,14 @@ pub trait DeskSeat<Desk>: Drop {
         ensures found { result ≡ place_of desk.now service.now }
         ensures held { IfSome result (has desk.now) };
 
-    /// Asks the service at a place of the desk, at a moment in milliseconds. A report passes the gate in its middle.
+    /// Asks the service at a place of the desk, which does this for its own upkeep, at a moment in milliseconds. A report passes
+    /// the gate in its middle.
     fn ask<R: Wait, G: Gate>(
         &mut self,
         rt: &R,
         alloc: Global,
         desk: &Desk,
+        upkeep: Upkeep,
         place: usize,
         moment: u64,
         request: Request,
@@ -52,7 +55,7 @@ pub trait DeskSeat<Desk>: Drop {
     ) -> Response
         requires seat { sits_at desk.now self.old }
         requires place { has desk.now place }
-        ensures asked { asks desk.now self.old place moment (request_data request) (response_data result) self.new }
+        ensures asked { asks desk.now self.old upkeep place moment (request_data request) (response_data result) self.new }
         ensures seat { sits_at desk.now self.new };
 
     /// Takes so many seats of a desk that has dealt none. The error is want of memory.

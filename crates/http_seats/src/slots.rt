@@ -7,7 +7,7 @@ ghost use Rattle.http_seats.specs.Slots.{AreClosed, closes, counts_of, dealt, se
 use crate::seats::DeskSeat;
 use book::Book;
 use refusals::RefusalNumber;
-use service::{Gate, Request, Response, ask};
+use service::{Gate, Request, Response, Upkeep, ask};
 use slot_desk::{Desk, Seat, ServiceId, ServicePlace};
 use std::alloc::{AllocError, Global};
 use std::sync::Wait;
@@ -75,13 +75,14 @@ impl DeskSeat<Desk> for Seat {
         rt: &R,
         alloc: Global,
         desk: &Desk,
+        upkeep: Upkeep,
         place: usize,
         moment: u64,
         request: Request,
         gate: &G,
     ) -> Response {
         let service = ServicePlace::new(rt, desk, ServiceId::at(place));
-        ask(alloc, self, &service, moment, request, gate)
+        ask(alloc, self, &service, upkeep, moment, request, gate)
     }
 
     fn deal(alloc: Global, desk: &mut Desk, count: u64) -> Result<Vec<Seat>, AllocError> {

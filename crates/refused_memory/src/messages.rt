@@ -6,6 +6,7 @@ use crate::counting::{Refusals, TRIES, wrong};
 use book::{Book, Config, ConfigParts, Reading};
 use counted_io::Counted;
 use http_front::{Books, Clock, Ended, NamedBook, serve};
+use service::Upkeep;
 use std::alloc::Global;
 use std::io;
 use std::io::Write;
@@ -80,7 +81,13 @@ fn opening(alloc: Global, config: Config) -> Option<Books> {
     let book = Book::open(alloc, config, classifier).ok()?;
     let name = String::from_str(alloc, "pay").ok()?;
     let mut services = Vec::new(alloc);
-    services.push(NamedBook { name, book }).ok()?;
+    services
+        .push(NamedBook {
+            name,
+            book,
+            upkeep: Upkeep::NONE,
+        })
+        .ok()?;
     Some(Books::new(alloc, services))
 }
 

@@ -202,7 +202,7 @@ pub(crate) fn ask_by_a_seat(
     let mut desk = opened(refusals, alloc)?;
     let seat = seated(refusals, alloc, &mut desk)?;
     let gate = OpenGate;
-    let mut answerer = SeatedAnswerer::new(rt, alloc, &desk, seat, &gate);
+    let mut answerer = SeatedAnswerer::new(rt, alloc, &desk, &[], seat, &gate);
     for wish in &WISHES {
         let told = answer(refusals, alloc, &mut answerer, *wish)?;
         writeln!(out, "seat {wish:?} {told:?}")?;

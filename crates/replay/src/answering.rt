@@ -14,7 +14,7 @@ use answers::{body, status};
 use book::{Book, Reply};
 use counted_io::Counted;
 use refusals::RefusalNumber;
-use service::{ONLY_SEAT, OpenGate, Response, ask};
+use service::{ONLY_SEAT, OpenGate, Response, Upkeep, ask};
 use std::alloc::{AllocError, Global};
 use std::io::Write;
 
@@ -26,6 +26,7 @@ fn answer(alloc: Global, book: &mut Book, asked: Result<Asked, RefusalNumber>) -
             alloc,
             book,
             &ONLY_SEAT,
+            Upkeep::NONE,
             asked.moment,
             asked.request,
             &OpenGate,

@@ -3,11 +3,13 @@ ghost use Rattle.std.specs.Prelude.{◌≡◌};
 ghost use Rattle.service_profile.specs.Answers.{map_ok};
 ghost use Rattle.service.specs.Asked.{request_data, response_data, handed_out, page_of};
 ghost use Rattle.service.specs.Asking.{IsReportServed, IsInstalled, IsServedBy};
+ghost use Rattle.service.specs.Upkept.{IsUpkept};
 
 use crate::calls::BookCalls;
 use crate::gate::Gate;
 use crate::request::{Report, Request};
 use crate::response::Response;
+use crate::upkeep::{Upkeep, call};
 use book::{Apply, Cut, Entry, Event, Look, Page, Read, Reply, Roll};
 use bpf_profile::Layout;
 use bpf_run::judge;
@@ -15,6 +17,37 @@ use refusals::RefusalNumber;
 use std::alloc::{AllocError, Global};
 use std::sync::Arc;
 use verifier::{Refusal, verify};
+
+/// Judges the outcome of a call by its ticket's classifier, and ends the ticket: a look at the ticket, a run of the
+/// classifier, the gate, and the finish. While the outcome is judged, no call of the book is made. A look that is refused makes
+/// no entry. The service does this for its upkeep.
+fn report_with<P, B: BookCalls<P>, G: Gate>(
+    book: &mut B,
+    place: &P,
+    upkeep: Upkeep,
+    moment: u64,
+    report: Report,
+    gate: &G,
+) -> Reply
+    requires fits { B.fits place.now book.old }
+    ensures reported { IsReportServed (IsUpkept upkeep (B.calls place.now)) book.old moment report result book.new }
+    ensures fits { B.fits place.now book.new }
+{
+    let Report { ticket, outcome } = report;
+    match call(book, place, upkeep, Look(ticket)) {
+        Ok(program) => {
+            let judged = judge(program, outcome);
+            gate.between(ticket);
+            call(
+                book,
+                place,
+                upkeep,
+                Apply(moment, Event::Finish(judged, ticket)),
+            )
+        }
+        Err(number) => Reply::Refused(number),
+    }
+}
 
 /// Judges the outcome of a call by its ticket's classifier, and ends the ticket: a look at the ticket, a run of the
 /// classifier, the gate, and the finish. While the outcome is judged, no call of the book is made. A look that is refused makes
@@ -31,15 +64,7 @@ pub fn report<P, B: BookCalls<P>, G: Gate>(
     ensures reported { IsReportServed (B.calls place.now) book.old moment report result book.new }
     ensures fits { B.fits place.now book.new }
 {
-    let Report { ticket, outcome } = report;
-    match book.call(place, Look(ticket)) {
-        Ok(program) => {
-            let judged = judge(program, outcome);
-            gate.between(ticket);
-            book.call(place, Apply(moment, Event::Finish(judged, ticket)))
-        }
-        Err(number) => Reply::Refused(number),
-    }
+    report_with(book, place, Upkeep::NONE, moment, report, gate)
 }
 
 /// Verifies a program on records of a layout, and installs it. Memory is taken before the book is called: where there is none, the
@@ -48,12 +73,13 @@ fn install<P, B: BookCalls<P>>(
     alloc: Global,
     book: &mut B,
     place: &P,
+    upkeep: Upkeep,
     moment: u64,
     bytes: &[u8],
     layout: Layout,
 ) -> Response
     requires fits { B.fits place.now book.old }
-    ensures installed { IsInstalled (B.calls place.now) book.old moment bytes.now layout (response_data result) book.new }
+    ensures installed { IsInstalled (IsUpkept upkeep (B.calls place.now)) book.old moment bytes.now layout (response_data result) book.new }
     ensures fits { B.fits place.now book.new }
 {
     let program = match verify(alloc, bytes, layout) {
@@ -61,7 +87,12 @@ fn install<P, B: BookCalls<P>>(
         Err(refusal) => return Response::ProgramRefused(refusal),
     };
     match Arc::new(alloc, program) {
-        Ok(program) => Response::Reply(book.call(place, Apply(moment, Event::Install(program)))),
+        Ok(program) => Response::Reply(call(
+            book,
+            place,
+            upkeep,
+            Apply(moment, Event::Install(program)),
+        )),
         Err(error) => Response::ProgramRefused(Refusal::from(AllocError::from(error))),
     }
 }
@@ -88,38 +119,61 @@ fn page(from: u64, found: Result<Vec<Entry>, RefusalNumber>) -> Response
 
 /// Asks a service at a moment, in milliseconds, by whoever calls its book. A report is a look at its ticket, a run of the
 /// ticket's classifier and a finish; a program is verified before it is installed. Whatever is refused for
-/// want of memory changes nothing.
+/// want of memory changes nothing. A service that does its own upkeep makes room in a full journal before an event is refused
+/// for it, and then makes the event.
 pub fn ask<P, B: BookCalls<P>, G: Gate>(
     alloc: Global,
     book: &mut B,
     place: &P,
+    upkeep: Upkeep,
     moment: u64,
     request: Request,
     gate: &G,
 ) -> Response
     requires fits { B.fits place.now book.old }
-    // What is answered, and what the caller of the book is after it, are made of the calls that the request stands for. Where
-    // the book itself is called, these are the documented machine's (`IsServed`).
-    ensures asked { IsServedBy (B.calls place.now) book.old moment (request_data request) (response_data result) book.new }
+    // What is answered, and what the caller of the book is after it, are made of the calls that the request stands for, and of
+    // those of the service's own upkeep. Where the book itself is called, these are the documented machine's; with no upkeep
+    // that is `IsServed`.
+    ensures asked { IsServedBy (IsUpkept upkeep (B.calls place.now)) book.old moment (request_data request) (response_data result) book.new }
     ensures fits { B.fits place.now book.new }
 {
     match request {
-        Request::Acquire => Response::Reply(book.call(place, Apply(moment, Event::Acquire))),
-        Request::Report(reported) => Response::Reply(report(book, place, moment, reported, gate)),
-        Request::Release(ticket) => {
-            Response::Reply(book.call(place, Apply(moment, Event::Release(ticket))))
-        }
-        Request::Install { program, layout } => {
-            install(alloc, book, place, moment, program.as_slice(), layout)
-        }
-        Request::Move(state) => Response::Reply(book.call(
+        Request::Acquire => Response::Reply(call(
+            book,
             place,
+            upkeep,
+            Apply(moment, Event::Acquire),
+        )),
+        Request::Report(reported) => {
+            Response::Reply(report_with(book, place, upkeep, moment, reported, gate))
+        }
+        Request::Release(ticket) => Response::Reply(call(
+            book,
+            place,
+            upkeep,
+            Apply(moment, Event::Release(ticket)),
+        )),
+        Request::Install { program, layout } => {
+            install(
+                alloc,
+                book,
+                place,
+                upkeep,
+                moment,
+                program.as_slice(),
+                layout,
+            )
+        }
+        Request::Move(state) => Response::Reply(call(
+            book,
+            place,
+            upkeep,
             Apply(moment, Event::Move(state)),
         )),
-        Request::Reset => Response::Reply(book.call(place, Apply(moment, Event::Reset))),
-        Request::Read => Response::Reading(book.call(place, Read(moment))),
-        Request::Page(from) => page(from, book.call(place, Page(from))),
-        Request::Cut => handed_out(book.call(place, Cut)),
-        Request::Roll(last) => handed_out(book.call(place, Roll(last))),
+        Request::Reset => Response::Reply(call(book, place, upkeep, Apply(moment, Event::Reset))),
+        Request::Read => Response::Reading(call(book, place, upkeep, Read(moment))),
+        Request::Page(from) => page(from, call(book, place, upkeep, Page(from))),
+        Request::Cut => handed_out(call(book, place, upkeep, Cut)),
+        Request::Roll(last) => handed_out(call(book, place, upkeep, Roll(last))),
     }
 }

@@ -5,11 +5,14 @@
 mod asking;
 mod calls;
 mod gate;
+pub mod laws;
 mod request;
 mod response;
+mod upkeep;
 
 pub use asking::{ask, report};
 pub use calls::{BookCalls, ONLY_SEAT};
 pub use gate::{Gate, OpenGate};
 pub use request::{Report, Request};
 pub use response::Response;
+pub use upkeep::{Journal, Upkeep, upkeep_at};

@@ -14,15 +14,18 @@ use Rattle.requests.specs.Layouts.{layout_of}
 use Rattle.requests.specs.Programs.{program_of}
 use Rattle.texts.specs.JsonText.{json_of}
 use Rattle.requests.specs.Values.{number_at, text_at}
+use Rattle.service.specs.declared.upkeep.Journal.{Journal}
+use Rattle.service.specs.declared.upkeep.Journal.TheVariants.{Keep, Last}
 use Rattle.service_file.specs.declared.keepers.Keeper.{Keeper}
 use Rattle.service_file.specs.declared.keepers.Keeper.TheVariants.{Lock, Slot}
 
--- a service: its name, its configuration, its program's bytes, where the file has a program, and the layout that the program is for
+-- a service: its name, its configuration, its program's bytes, where the file has a program, the layout that the program is for, and what becomes of its journal where it is full
 pub record ServiceData : Type 0 where
   pub name : List ℕ
   pub config : ConfigParts
   pub program : Option (List ℕ)
   pub layout : Layout
+  pub journal : Journal
 
 -- the whole file: the text of the address, how many workers, how the books are kept between their calls, after how many connections serving ends, how many are open at once at most, and the services
 pub record FileData : Type 0 where
@@ -39,7 +42,7 @@ abbrev pub is_file_key : List ℕ → Bool
 is_file_key = is_one_of (codes "listen" ∷ codes "workers" ∷ codes "keeper" ∷ codes "connections" ∷ codes "open" ∷ codes "services" ∷ [])
 
 abbrev pub is_service_key : List ℕ → Bool
-is_service_key = is_one_of (codes "name" ∷ codes "config" ∷ codes "program" ∷ codes "layout" ∷ [])
+is_service_key = is_one_of (codes "name" ∷ codes "config" ∷ codes "program" ∷ codes "layout" ∷ codes "journal" ∷ [])
 
 -- ---- names
 
@@ -72,6 +75,17 @@ config_at d = if_there default_parts config_of (get (codes "config") d)
 abbrev pub program_at : Data → Option (Option (List ℕ))
 program_at d = if_there None (λ v. option_map Some (program_of d)) (get (codes "program") d)
 
+-- the two words for it
+unfoldable pub journal_named : List ℕ → Option Journal
+journal_named name =
+    if bytes_eq name (codes "keep") then Some Keep
+    else (if bytes_eq name (codes "last") then Some Last
+    else None)
+
+-- the journal is kept where the key is missing; None where another value stands there than one of these words
+abbrev pub journal_at : Data → Option Journal
+journal_at d = if_there Keep (λ v. option_and_then journal_named (as_str v)) (get (codes "journal") d)
+
 -- None where the value is no object, has a key of another name, or a value that can't be used
 unfoldable pub service_of : Data → Option ServiceData
 service_of d =
@@ -79,8 +93,9 @@ service_of d =
       name ← name_at d
       config ← config_at d
       layout ← layout_of d
+      journal ← journal_at d
       program ← program_at d
-      Some (record { name = name; config = config; program = program; layout = layout }))
+      Some (record { name = name; config = config; program = program; layout = layout; journal = journal }))
     else None
 
 -- ---- services

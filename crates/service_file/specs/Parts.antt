@@ -5,7 +5,7 @@ use Rattle.service_file.specs.declared.file.FilePart.{FilePart}
 use Rattle.service_file.specs.Files.{ServiceData, FileData}
 
 abbrev pub service_data : ServicePart → ServiceData
-service_data part = record { name = string_bytes part.name; config = part.config; program = option_map (λ b. b.items) part.program; layout = part.layout }
+service_data part = record { name = string_bytes part.name; config = part.config; program = option_map (λ b. b.items) part.program; layout = part.layout; journal = part.journal }
 
 abbrev pub file_data : FilePart → FileData
 file_data part = record {

@@ -3,6 +3,7 @@
 #![tactic(auto)]
 
 mod file;
+mod journals;
 mod keepers;
 mod limits;
 mod mistakes;

@@ -43,6 +43,8 @@ pub enum ServiceMistake {
     Config(ConfigMistake),
     /// `layout` is neither 1 nor 2.
     Layout,
+    /// `journal` is neither `keep` nor `last`.
+    Journal,
     /// `program` is no hexadecimal text.
     NoProgram,
     /// `program` isn't accepted.

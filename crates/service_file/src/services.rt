@@ -10,16 +10,18 @@ ghost use Rattle.service_profile.specs.Configured.{default_parts};
 ghost use Rattle.service_file.specs.Files.{is_named, name_at, config_at, program_at, service_of, with_service, services_after, services_of, services_at};
 ghost use Rattle.service_file.specs.Parts.{service_data};
 
+use crate::journals::journal_at;
 use crate::mistakes::{FileMistake, Parsed, ServiceMistake};
 use crate::names::{is_count, is_name};
 use book::{Config, ConfigParts};
 use bpf_profile::Layout;
 use requests::{ConfigMistake, config, has_known_keys, layout, program, text_at};
 use serde_json::Value;
+use service::Journal;
 use std::alloc::{AllocError, Global};
 
 /// The keys that a service may have.
-pub const SERVICE_KEYS: &[&str] = &["name", "config", "program", "layout"];
+pub const SERVICE_KEYS: &[&str] = &["name", "config", "program", "layout", "journal"];
 
 /// A service as the file has it.
 #[derive(Drop)]
@@ -30,6 +32,8 @@ pub(crate) struct ServicePart {
     pub program: Option<Vec<u8>>,
     /// The layout that the program is for.
     pub layout: Layout,
+    /// What becomes of its journal where it is full.
+    pub journal: Journal,
 }
 
 /// The name, where a service may have it.
@@ -91,6 +95,9 @@ fn service(alloc: Global, value: &Value) -> Parsed<ServicePart, ServiceMistake>
     let Some(layout) = layout(value) else {
         return Ok(Err(ServiceMistake::Layout));
     };
+    let Some(journal) = journal_at(value) else {
+        return Ok(Err(ServiceMistake::Journal));
+    };
     let Some(program) = program_at(alloc, value)? else {
         return Ok(Err(ServiceMistake::NoProgram));
     };
@@ -100,6 +107,7 @@ fn service(alloc: Global, value: &Value) -> Parsed<ServicePart, ServiceMistake>
         config,
         program,
         layout,
+        journal,
     }))
 }
 

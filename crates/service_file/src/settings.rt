@@ -13,6 +13,7 @@ use crate::services::ServicePart;
 use book::Config;
 use bpf_profile::Layout;
 use refusals::RefusalNumber;
+use service::Upkeep;
 use std::alloc::{AllocError, Global};
 use std::net::SocketAddr;
 use verifier::{Refusal, Verified, default_classifier, verify};
@@ -25,6 +26,8 @@ pub struct ServiceSettings {
     pub config: Config,
     /// Its first program, verified on records of the layout that it is for.
     pub program: Verified,
+    /// What it does for its own upkeep.
+    pub upkeep: Upkeep,
 }
 
 /// What a server needs to know.
@@ -97,6 +100,9 @@ fn service(alloc: Global, part: ServicePart) -> Parsed<ServiceSettings, Refusal>
         name: part.name,
         config: part.config,
         program,
+        upkeep: Upkeep {
+            journal: part.journal,
+        },
     }))
 }
 
@@ -147,9 +153,10 @@ fn settled(alloc: Global, part: FilePart) -> Parsed<Settings>
 /// how many connections are open at once at most, 1,024 where it is missing; and `services`, an
 /// array of 1 to 64 objects with `name` (1 to 64 small letters, digits, hyphens and underscores, each name
 /// once), `config` (as `requests::config` reads it; the defaults where it is missing), `program`
-/// (hexadecimal, in which blanks don't count; the default classifier where it is missing) and `layout` (the
-/// layout of records that the program is verified for, 1 or 2; layout 1 where it is missing). The inner error is
-/// what is wrong with another text, which is the refusal `BadConfig`; the outer one is want of memory.
+/// (hexadecimal, in which blanks don't count; the default classifier where it is missing), `layout` (the
+/// layout of records that the program is verified for, 1 or 2; layout 1 where it is missing) and `journal` (`keep` or
+/// `last`, what becomes of a full journal; `keep` where it is missing). The inner error is what is wrong with another
+/// text, which is the refusal `BadConfig`; the outer one is want of memory.
 pub fn read_settings(
     alloc: Global,
     text: &[u8],

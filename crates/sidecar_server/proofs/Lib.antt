@@ -5,3 +5,4 @@ pub mod Seating
 pub mod Endings
 pub mod Along
 pub mod SlotSeating
+mod LockSeating

@@ -2,6 +2,8 @@
 use Rattle.std.proofs.Common.{◌≡◌, ◌∙◌, ℕ, List, [], ◌∷◌, map, sum, Option, ap, refl, subst, String, Global, arith, string_bytes}
 use Rattle.std.specs.List.{AllByRecursion}
 use Rattle.service.specs.Asked.{RequestData, ResponseData}
+use Rattle.service.specs.Upkept.{upkeep_at}
+use Rattle.service.specs.declared.upkeep.Upkeep.{Upkeep}
 use Rattle.service_profile.specs.Events.{History}
 use Rattle.service_profile.specs.declared.configuration.Config.{Config}
 use Rattle.verifier.specs.declared.verified.Verified.{Verified}
@@ -17,6 +19,7 @@ use Rattle.http_pool.specs.declared.workers.Worker.{Worker}
 use Rattle.http_pool.specs.Workers.{HaveWorked}
 use Rattle.service_file.specs.declared.settings.ServiceSettings.{ServiceSettings}
 use Rattle.service_file.specs.declared.settings.Settings.{Settings}
+use Rattle.sidecar_server.specs.Opened.{upkeeps_of}
 use Rattle.sidecar_server.specs.Seats.{workers_of, seats_with, HasServedAt}
 use Rattle.sidecar_server.specs.Served.{opening_of}
 use Rattle.sidecar_server.specs.Slotted.{names_of, origins_of, HasServedAtSlots, IsAskedWithin}
@@ -24,7 +27,7 @@ use Rattle.sidecar_server.proofs.Along.{worker}
 
 module _ {C : Type 0} (ticks : C → ℕ → C → Type 0) where
   answered_within : (courses : List Course) (s : SeatedData DeskData SeatData) (place moment : ℕ) (wanted : RequestData) (given : ResponseData) (t : SeatedData DeskData SeatData) → asks_by asks s place moment wanted given t → SeatBegins courses t.seat → SeatBegins courses s.seat × IsAskedWithin courses s place moment wanted given t
-  answered_within courses s place moment wanted given t is begins = (served_back courses place s.seat moment wanted given t.seat is.1 begins, (is, begins))
+  answered_within courses s place moment wanted given t is begins = (served_back courses (upkeep_at s.upkeeps place) place s.seat moment wanted given t.seat is.2 begins, (is, begins))
 
   pub worked_within : (courses : List Course) (workers later : List (Worker (SeatedData DeskData SeatData) C)) → HaveWorked (place_by place_at) (asks_by asks) ticks workers later → AllByRecursion (SeatBegins courses) (seats_with later) → HaveWorked (place_by place_at) (IsAskedWithin courses) ticks workers later
   worked_within courses [] [] worked begin = tt
@@ -64,17 +67,18 @@ numbers_add_up origins services books seats counts are agree same =
 
 -- ---- what is said of any desk
 
-pub served_at_slots : {C : Type 0} (ticks : C → ℕ → C → Type 0) (settings : Settings) (clock : C) (desk : DeskData) (books : List History) (counts : List ℕ) → desk.names ≡ names_of settings.services.items → desk.origins ≡ origins_of settings.services.items → HasServedAt place_at asks deals closes ticks desk settings.workers clock books counts → HasServedAtSlots ticks settings clock books counts
-served_at_slots ticks settings clock desk books counts names origins served =
+pub served_at_slots : {C : Type 0} (ticks : C → ℕ → C → Type 0) (settings : Settings) (clock : C) (desk : DeskData) (upkeeps : List Upkeep) (books : List History) (counts : List ℕ) → desk.names ≡ names_of settings.services.items → desk.origins ≡ origins_of settings.services.items → upkeeps ≡ upkeeps_of settings.services.items → HasServedAt place_at asks deals closes ticks desk upkeeps settings.workers clock books counts → HasServedAtSlots ticks settings clock books counts
+served_at_slots ticks settings clock desk upkeeps books counts names origins tended served_ =
+    let served : HasServedAt place_at asks deals closes ticks desk (upkeeps_of settings.services.items) settings.workers clock books counts = subst (λ us. HasServedAt place_at asks deals closes ticks desk us settings.workers clock books counts) tended served_ in
     let shut = served.closed.0 in
     let opened = served.sat.2 ∙ origins in
-    let worked = worked_within ticks shut.begun.courses (workers_of clock (map (seated served.dealt) served.seats)) served.later served.worked shut.begun.begun in (
+    let worked = worked_within ticks shut.begun.courses (workers_of clock (map (seated served.dealt (upkeeps_of settings.services.items)) served.seats)) served.later served.worked shut.begun.begun in (
       served.dealt,
       served.later,
       shut,
       served.sat.0 ∙ names,
       opened,
-      subst (λ seats. HaveWorked (place_by place_at) (IsAskedWithin shut.begun.courses) ticks (workers_of clock (map (seated served.dealt) seats)) served.later) served.sat.3 worked,
+      subst (λ seats. HaveWorked (place_by place_at) (IsAskedWithin shut.begun.courses) ticks (workers_of clock (map (seated served.dealt (upkeeps_of settings.services.items)) seats)) served.later) served.sat.3 worked,
       served.closed.1,
       numbers_add_up served.dealt.origins settings.services.items books (seats_with served.later) counts opened shut.agree served.closed.1,
     )

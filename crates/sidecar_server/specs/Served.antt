@@ -18,7 +18,7 @@ use Rattle.http_pool.specs.Workers.{HaveWorked}
 use Rattle.service_file.specs.declared.settings.ServiceSettings.{ServiceSettings}
 use Rattle.service_file.specs.declared.settings.Settings.{Settings}
 use Rattle.service_file.specs.declared.keepers.Keeper.TheVariants as keeper
-use Rattle.sidecar_server.specs.Opened.{AreOpened}
+use Rattle.sidecar_server.specs.Opened.{AreOpened, upkeeps_of}
 use Rattle.sidecar_server.specs.Seats.{workers_of, seats_with}
 use Rattle.sidecar_server.specs.Slotted.{HasServedAtSlots}
 
@@ -47,7 +47,7 @@ abbrev pub HasServedAtDesk : {C : Type 0} → (C → ℕ → C → Type 0) → S
 HasServedAtDesk {C} ticks settings clock books counts =
     (desk : DeskData) × (later : List (Worker (SeatedData DeskData SeatData) C))
     × (desk.services ≡ services_of settings.services.items)
-    × HaveWorked (place_by place_at) (asks_by asks) ticks (workers_of clock (map (seated desk) (seats_of 1 settings.workers))) later
+    × HaveWorked (place_by place_at) (asks_by asks) ticks (workers_of clock (map (seated desk (upkeeps_of settings.services.items)) (seats_of 1 settings.workers))) later
     × (counts ≡ counts_of (seats_with later))
     × AreClosed desk.services books (seats_with later)
 

@@ -13,6 +13,7 @@ use Rattle.http_pool.specs.declared.workers.Worker.{Worker}
 use Rattle.http_pool.specs.Workers.{HaveWorked}
 use Rattle.service_file.specs.declared.settings.ServiceSettings.{ServiceSettings}
 use Rattle.service_file.specs.declared.settings.Settings.{Settings}
+use Rattle.sidecar_server.specs.Opened.{upkeeps_of}
 use Rattle.sidecar_server.specs.Seats.{workers_of, seats_with}
 
 abbrev pub names_of : List ServiceSettings → List (List ℕ)
@@ -33,6 +34,6 @@ HasServedAtSlots {C} ticks settings clock books counts =
     × (closed : AreClosed desk books (seats_with later))
     × (desk.names ≡ names_of settings.services.items)
     × (desk.origins ≡ origins_of settings.services.items)
-    × HaveWorked (place_by place_at) (IsAskedWithin closed.begun.courses) ticks (workers_of clock (map (seated desk) (seats_of desk.tables desk.origins 1 settings.workers))) later
+    × HaveWorked (place_by place_at) (IsAskedWithin closed.begun.courses) ticks (workers_of clock (map (seated desk (upkeeps_of settings.services.items)) (seats_of desk.tables desk.origins 1 settings.workers))) later
     × (counts ≡ counts_of (seats_with later))
     × (sum (map last_number books) ≡ sum counts)

@@ -9,7 +9,7 @@ ghost use Rattle.sidecar_server.specs.Served.{services_of, HasServedAtDesk};
 ghost use Rattle.sidecar_server.specs.Server.{IsServerOutput, IsServing, IsOver, ended_by, end_of};
 ghost use Rattle.sidecar_server.specs.Slotted.{HasServedAtSlots};
 
-use crate::opening::opened_by;
+use crate::opening::{opened_by, upkeeps_of};
 use crate::pooling::serve_by_pool;
 use crate::serving::{ServerEnd, limits_of};
 use counted_io::Counted;
@@ -18,7 +18,7 @@ use http_front::Clock;
 use http_pool::{Limits, Worker};
 use http_seats::{DeskSeat, SeatedAnswerer};
 use server_output::ServerStatus;
-use service::OpenGate;
+use service::{OpenGate, Upkeep};
 use service_file::Settings;
 use std::alloc::{AllocError, Global};
 use std::io::Write;
@@ -33,16 +33,17 @@ fn workers<'a, D, S: DeskSeat<D>, R: Wait, C: Clock + Copy>(
     rt: &'a R,
     alloc: Global,
     desk: &'a D,
+    upkeeps: &'a [Upkeep],
     seats: Vec<S>,
     gate: &'a OpenGate,
     clock: C,
 ) -> Result<Vec<Worker<SeatedAnswerer<'a, D, S, OpenGate, R>, C>>, AllocError>
     requires here { AllByRecursion (S.sits_at desk.now) seats.items }
-    ensures { IfOk result (λ workers. workers.items ≡ workers_of clock (map (seated desk.now) seats.items)) }
+    ensures { IfOk result (λ workers. workers.items ≡ workers_of clock (map (seated desk.now upkeeps.now) seats.items)) }
 {
     let mut workers = Vec::new(alloc);
     for seat in seats {
-        let answerer = SeatedAnswerer::new(rt, alloc, desk, seat, gate);
+        let answerer = SeatedAnswerer::new(rt, alloc, desk, upkeeps, seat, gate);
         workers.push(Worker::new(answerer, clock))?;
     }
     Ok(workers)
@@ -77,6 +78,7 @@ fn serve_at<
     rt: &R,
     alloc: Global,
     mut desk: D,
+    upkeeps: &[Upkeep],
     address: SocketAddr,
     limits: Limits,
     count: u64,
@@ -87,7 +89,7 @@ fn serve_at<
     requires fresh { S.dealt desk ≡ 0 }
     requires some { 1 ≤ count }
     requires few { count ≤ 64 }
-    ensures served { IfOk result (λ end. HasServedAt S.place_of S.asks S.deals S.closes C.ticks desk count clock end.books.items end.counts.items) }
+    ensures served { IfOk result (λ end. HasServedAt S.place_of S.asks S.deals S.closes C.ticks desk upkeeps.now count clock end.books.items end.counts.items) }
     ensures unserved { IfErr result (λ status. IsServing status → ⊥) }
     ensures over { IsOver (end_of result) limits.connections }
     ensures failed { IfOk result (λ end. end.status ≡ ended_by end.failure) }
@@ -97,7 +99,7 @@ fn serve_at<
 {
     let seats = S::deal(alloc, &mut desk, count)?;
     let gate = OpenGate;
-    let workers = workers(rt, alloc, &desk, seats, &gate, clock)?;
+    let workers = workers(rt, alloc, &desk, upkeeps, seats, &gate, clock)?;
     let (workers, failure) = serve_by_pool(rt, alloc, address, limits, workers, out, err)?;
     let seats = seats_back(alloc, workers)?;
     let (books, counts) = S::close(alloc, desk, seats)?;
@@ -138,12 +140,14 @@ pub(crate) fn serve_at_desk<
     ensures cause { IsServerCause (end_of result) out.old.failures out.new.failures }
 {
     let limits = limits_of(&settings);
+    let upkeeps = upkeeps_of(alloc, &settings)?;
     let opened = opened_by(alloc, settings.services)?;
     let desk = desk::Desk::<L, M>::open(alloc, entry_parts, cut_parts, opened)?;
     serve_at::<desk::Desk<L, M>, desk::Seat<L, M>, R, O, E, C>(
         rt,
         alloc,
         desk,
+        &upkeeps,
         settings.listen,
         limits,
         settings.workers,
@@ -178,12 +182,14 @@ pub(crate) fn serve_at_slots<
     ensures cause { IsServerCause (end_of result) out.old.failures out.new.failures }
 {
     let limits = limits_of(&settings);
+    let upkeeps = upkeeps_of(alloc, &settings)?;
     let opened = opened_by(alloc, settings.services)?;
     let desk = slot_desk::Desk::open(alloc, opened)?;
     serve_at::<slot_desk::Desk, slot_desk::Seat, R, O, E, C>(
         rt,
         alloc,
         desk,
+        &upkeeps,
         settings.listen,
         limits,
         settings.workers,

@@ -1,11 +1,13 @@
 //! Opening the services, and taking their books.
 ghost use Rattle.std.specs.Prelude.{◌≡◌, map, IfOk};
 ghost use Rattle.sidecar_server.specs.Opened.{IsOpened, AreOpened};
+ghost use Rattle.sidecar_server.specs.Opened.{upkeeps_of};
 ghost use Rattle.sidecar_server.specs.Served.{books_of, opening_of};
 
 use book::{Book, Config};
 use http_front::{Books, NamedBook};
-use service_file::ServiceSettings;
+use service::Upkeep;
+use service_file::{ServiceSettings, Settings};
 use std::alloc::{AllocError, Global};
 use verifier::Verified;
 
@@ -17,6 +19,7 @@ fn opened(alloc: Global, service: ServiceSettings) -> Result<NamedBook, AllocErr
     Ok(NamedBook {
         name: service.name,
         book,
+        upkeep: service.upkeep,
     })
 }
 
@@ -41,6 +44,17 @@ pub(crate) fn opened_by(
     services
         .into_iter()
         .map(|service| (service.name, service.config, service.program))
+        .collect(alloc)
+}
+
+/// What the services of a file do for their own upkeep, in their order. The error is want of memory.
+pub(crate) fn upkeeps_of(alloc: Global, settings: &Settings) -> Result<Vec<Upkeep>, AllocError>
+    ensures { IfOk result (λ upkeeps. upkeeps.items ≡ upkeeps_of settings.now.services.items) }
+{
+    settings
+        .services
+        .iter()
+        .map(|service| service.upkeep)
         .collect(alloc)
 }
 

@@ -5,7 +5,7 @@ use bpf_profile::{Layout, Verdict};
 use helpers::Record;
 use packed_outcomes::PackedOutcome;
 use refusals::RefusalNumber;
-use service::{Gate, ONLY_SEAT, OpenGate, Report, Request, Response, ask};
+use service::{Gate, ONLY_SEAT, OpenGate, Report, Request, Response, Upkeep, ask};
 use std::alloc::Global;
 use std::process::Abort;
 use std::sync::atomic::{AtomicU64, Ordering};
@@ -21,9 +21,14 @@ fn book(rt: &impl Abort, alloc: Global) -> Book {
     Book::open(alloc, config, classifier).expect(rt, "ample memory")
 }
 
+/// What seat 1 is answered at a moment.
+fn asked<G: Gate>(alloc: Global, book: &mut Book, request: Request, gate: &G) -> Response {
+    ask(alloc, book, &ONLY_SEAT, Upkeep::NONE, 5, request, gate)
+}
+
 /// The reply to what seat 1 asks for; None where it is answered otherwise.
 fn reply_to(alloc: Global, book: &mut Book, request: Request) -> Option<Reply> {
-    match ask(alloc, book, &ONLY_SEAT, 5, request, &OpenGate) {
+    match asked(alloc, book, request, &OpenGate) {
         Response::Reply(reply) => Some(reply),
         _ => None,
     }
@@ -95,7 +100,7 @@ fn events_are_replied_to(rt: HostRuntime) {
 
 /// Why a program is refused that seat 1 asks to install; None where it is answered otherwise.
 fn refusal_of(alloc: Global, book: &mut Book, request: Request) -> Option<Refusal> {
-    match ask(alloc, book, &ONLY_SEAT, 5, request, &OpenGate) {
+    match asked(alloc, book, request, &OpenGate) {
         Response::ProgramRefused(refusal) => Some(refusal),
         _ => None,
     }
@@ -117,7 +122,7 @@ fn refused_programs_change_nothing(rt: HostRuntime) {
 
 /// How many entries are answered; None where it is answered otherwise.
 fn entries_of(alloc: Global, book: &mut Book, request: Request) -> Option<usize> {
-    match ask(alloc, book, &ONLY_SEAT, 5, request, &OpenGate) {
+    match asked(alloc, book, request, &OpenGate) {
         Response::Page { entries, .. } | Response::HandedOut(entries) => Some(entries.len()),
         _ => None,
     }
@@ -125,7 +130,7 @@ fn entries_of(alloc: Global, book: &mut Book, request: Request) -> Option<usize>
 
 /// How many entries the journal has as it is read; None where it is answered otherwise.
 fn entries_read(alloc: Global, book: &mut Book) -> Option<u64> {
-    match ask(alloc, book, &ONLY_SEAT, 5, Request::Read, &OpenGate) {
+    match asked(alloc, book, Request::Read, &OpenGate) {
         Response::Reading(reading) => Some(reading.entries),
         _ => None,
     }
@@ -189,7 +194,7 @@ fn seen_behind(
     request: Request,
     gate: &CountingGate,
 ) -> (u64, u64) {
-    let _response = ask(alloc, book, &ONLY_SEAT, 5, request, gate);
+    let _response = asked(alloc, book, request, gate);
     gate.seen()
 }
 

@@ -8,6 +8,7 @@ use book::{Book, Config, ConfigParts};
 use counted_io::Counted;
 use desk::{Desk, Offered};
 use http_front::{Books, Clock, Ended, NamedBook, serve};
+use service::Upkeep;
 use std::alloc::Global;
 use std::io;
 use std::io::{Read, Write};
@@ -59,7 +60,11 @@ pub(crate) fn pay_with(rt: &impl Abort, alloc: Global, parts: ConfigParts) -> Bo
     let name = String::from_str(alloc, "pay").expect(rt, "ample memory");
     let mut services = Vec::new(alloc);
     services
-        .push(NamedBook { name, book })
+        .push(NamedBook {
+            name,
+            book,
+            upkeep: Upkeep::NONE,
+        })
         .expect(rt, "ample memory");
     Books::new(alloc, services)
 }

@@ -386,7 +386,7 @@ fn are_answered_at_a_desk<L: Ledger, M: Ledger + Offered, R: Wait + Abort>(
 {
     let mut desk = open_desk::<L, M, R>(rt, alloc, entries, cuts, services);
     let seat = desk.sit().expect(rt, "a seat");
-    let mut answerer = SeatedAnswerer::new(rt, alloc, &desk, seat, &OpenGate);
+    let mut answerer = SeatedAnswerer::new(rt, alloc, &desk, &[], seat, &OpenGate);
     are_answered_over_http(rt, alloc, &mut answerer);
 }
 

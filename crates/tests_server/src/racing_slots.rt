@@ -52,10 +52,10 @@ fn workers<'a, R: Wait + Abort>(
     requires second { IsSeatOf desk.now second }
 {
     let mut workers = Vec::new(alloc);
-    let first = SeatedAnswerer::new(rt, alloc, desk, first, gate);
+    let first = SeatedAnswerer::new(rt, alloc, desk, &[], first, gate);
     let pushed = workers.push(Worker::new(first, Readings::new(gate)));
     pushed.expect(rt, "ample memory");
-    let second = SeatedAnswerer::new(rt, alloc, desk, second, gate);
+    let second = SeatedAnswerer::new(rt, alloc, desk, &[], second, gate);
     let pushed = workers.push(Worker::new(second, Readings::new(gate)));
     pushed.expect(rt, "ample memory");
     workers

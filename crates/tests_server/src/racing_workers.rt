@@ -187,10 +187,10 @@ fn workers<'a, L: Ledger, M: Ledger + Offered, R: Wait + Abort>(
     gate: &'a OvertakingGate,
 ) -> Vec<Worker<SeatedAnswerer<'a, Desk<L, M>, Seat<L, M>, OvertakingGate, R>, Readings<'a>>> {
     let mut workers = Vec::new(alloc);
-    let first = SeatedAnswerer::new(rt, alloc, desk, seats.0, gate);
+    let first = SeatedAnswerer::new(rt, alloc, desk, &[], seats.0, gate);
     let pushed = workers.push(Worker::new(first, Readings::new(gate)));
     pushed.expect(rt, "ample memory");
-    let second = SeatedAnswerer::new(rt, alloc, desk, seats.1, gate);
+    let second = SeatedAnswerer::new(rt, alloc, desk, &[], seats.1, gate);
     let pushed = workers.push(Worker::new(second, Readings::new(gate)));
     pushed.expect(rt, "ample memory");
     workers

@@ -92,8 +92,8 @@ fn asked_by_two<L: Ledger, M: Ledger + Offered, R: Wait + Abort>(
     let first = desk.sit().expect(rt, "a first seat");
     let second = desk.sit().expect(rt, "a second seat");
     let gate = OpenGate;
-    let mut first = SeatedAnswerer::new(rt, alloc, &desk, first, &gate);
-    let mut second = SeatedAnswerer::new(rt, alloc, &desk, second, &gate);
+    let mut first = SeatedAnswerer::new(rt, alloc, &desk, &[], first, &gate);
+    let mut second = SeatedAnswerer::new(rt, alloc, &desk, &[], second, &gate);
     ask_by_turns(rt, alloc, &mut first, &mut second);
     same(rt, first.into_seat().count(), 1);
     same(rt, second.into_seat().count(), 2);

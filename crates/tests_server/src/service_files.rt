@@ -3,6 +3,7 @@ use crate::checks::{is_true, is_true_at, same, same_at};
 use crate::fixtures::joined;
 use config_mistakes::{config_mistake, file_mistake};
 use requests::config;
+use service::Journal;
 use service_file::{Keeper, Settings, read_settings};
 use std::alloc::Global;
 use std::process::Abort;
@@ -90,6 +91,33 @@ fn keepers_are_read(rt: HostRuntime) {
     ] {
         let (part, keeper) = row;
         same_at(&rt, keeper_of(&rt, alloc, part), keeper, part);
+    }
+}
+
+/// What becomes of the journal of a service with this text behind its name; none where the file can't be used.
+fn journal_of(rt: &impl Abort, alloc: Global, part: &str) -> Option<Journal> {
+    let text = format!(in alloc;
+        "{{\"listen\":\"127.0.0.1:1\",\"workers\":2,\"connections\":0,\"services\":[{{\"name\":\"pay\"{part}}}]}}"
+    );
+    let text = text.expect(rt, "ample memory");
+    let settings = read(rt, alloc, &text)?;
+    Some(settings.services.first()?.upkeep.journal)
+}
+
+#[test]
+fn journals_are_read(rt: HostRuntime) {
+    let alloc = rt.alloc();
+    for row in [
+        ("", Some(Journal::Keep)),
+        (",\"journal\":\"keep\"", Some(Journal::Keep)),
+        (",\"journal\":\"last\"", Some(Journal::Last)),
+        (",\"journal\":\"Last\"", None),
+        (",\"journal\":\"\"", None),
+        (",\"journal\":null", None),
+        (",\"journals\":\"last\"", None),
+    ] {
+        let (part, journal) = row;
+        same_at(&rt, journal_of(&rt, alloc, part), journal, part);
     }
 }
 

@@ -8,6 +8,7 @@ use crate::desk_histories::go_through;
 use crate::gates::{Overtaking, overtake_at_a_gate, race};
 use crate::seats::{take_all_seats, use_four_seats};
 use crate::threads::call_from_four_threads;
+use crate::upkeep::keep_last_entries;
 use book::{Book, Config, ConfigParts, Reply};
 use desk::{Desk, Gate, Offered, Seat, Unclosed};
 use refusals::RefusalNumber;
@@ -72,6 +73,8 @@ pub(crate) enum Scene<'a> {
     FourThreads,
     Overtaking(&'a Overtaking<'a>),
     Race,
+    /// The only seat makes more entries than a journal holds.
+    LastEntries,
 }
 
 /// Plays at a desk.
@@ -88,6 +91,7 @@ fn play<
         Scene::FourThreads => call_from_four_threads(rt, alloc, desk),
         Scene::Overtaking(overtaking) => overtake_at_a_gate(rt, alloc, desk, overtaking),
         Scene::Race => race(rt, alloc, desk),
+        Scene::LastEntries => keep_last_entries(rt, alloc, desk),
     }
 }
 

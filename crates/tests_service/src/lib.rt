@@ -34,3 +34,5 @@ mod seats;
 mod sliding_windows;
 #[cfg(test)]
 mod threads;
+#[cfg(test)]
+mod upkeep;

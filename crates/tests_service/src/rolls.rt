@@ -3,7 +3,7 @@ use crate::checks::{is_true, same_at};
 use crate::histories::book;
 use book::{Book, Entry, Reading, Reply};
 use refusals::RefusalNumber;
-use service::{ONLY_SEAT, OpenGate, Response};
+use service::{ONLY_SEAT, OpenGate, Response, Upkeep};
 use std::alloc::Global;
 use std::process::Abort;
 use worked_histories::{Part, Wish, request_of};
@@ -55,7 +55,15 @@ fn have_one_page(rt: &impl Abort, some: &Book, other: &Book, from: u64) {
 
 fn ask(rt: &impl Abort, alloc: Global, book: &mut Book, moment: u64, wish: Wish) -> Reply {
     let request = request_of(alloc, wish).expect(rt, "ample memory");
-    match service::ask(alloc, book, &ONLY_SEAT, moment, request, &OpenGate) {
+    match service::ask(
+        alloc,
+        book,
+        &ONLY_SEAT,
+        Upkeep::NONE,
+        moment,
+        request,
+        &OpenGate,
+    ) {
         Response::Reply(reply) => reply,
         _ => Reply::Refused(RefusalNumber::Stranger),
     }

@@ -4,7 +4,7 @@ ghost use Rattle.slot_desk.specs.Seats.{IsSeatOf};
 
 use book::{Entry, Event, Reading, Reply};
 use refusals::RefusalNumber;
-use service::{Gate, Request, Response, ask};
+use service::{Gate, Request, Response, Upkeep, ask};
 use slot_desk::{Busy, Desk, Held, Seat, ServiceId, ServicePlace};
 use std::alloc::Global;
 use std::marker::Model;
@@ -166,7 +166,15 @@ impl<'a> Caller<'a> {
     {
         let service = self.service(rt, name);
         let place = ServicePlace::new(rt, self.desk, service);
-        ask(alloc, &mut self.seat, &place, moment, request, gate)
+        ask(
+            alloc,
+            &mut self.seat,
+            &place,
+            Upkeep::NONE,
+            moment,
+            request,
+            gate,
+        )
     }
 
     /// Tries to apply an event, and waits for nobody. There is no answer where the desk has no service of the name.

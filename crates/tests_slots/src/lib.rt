@@ -26,4 +26,6 @@ mod threads;
 #[cfg(test)]
 mod tries;
 #[cfg(test)]
+mod upkeep;
+#[cfg(test)]
 mod workers;

@@ -12,6 +12,7 @@ mod parts;
 mod playing;
 mod readings;
 mod steps;
+mod upkeep;
 mod wishes;
 
 pub use answers::{Answer, FAILURE, FULL, NO_TICKET, NOT_PERMITTED, SPENT, SUCCESS, reply};
@@ -24,4 +25,5 @@ pub use parts::{Part, config_parts};
 pub use playing::{Found, Missed, asked, is_answered, play};
 pub use readings::{FRESH, Shown, reading};
 pub use steps::{Handed, History, Step, history_at};
+pub use upkeep::{LAST, failed_calls};
 pub use wishes::Wish;

@@ -9,7 +9,7 @@ use crate::steps::{Handed, Step};
 use crate::wishes::Wish;
 use book::{Apply, Entry, Event, Reading, Reply};
 use bpf_run::judge;
-use service::{BookCalls, ONLY_SEAT, OpenGate, Request, Response, ask};
+use service::{BookCalls, ONLY_SEAT, OpenGate, Request, Response, Upkeep, ask};
 use std::alloc::Global;
 
 /// More pages than a journal has.
@@ -92,7 +92,8 @@ fn make<P, B: BookCalls<P>>(
     ensures fits { B.fits place.now book.new }
 {
     let (moment, request) = asked(alloc, step).ok_or(Found::Other)?;
-    is_answered(&ask(alloc, book, place, moment, request, &OpenGate), step)
+    let answer = ask(alloc, book, place, Upkeep::NONE, moment, request, &OpenGate);
+    is_answered(&answer, step)
 }
 
 /// Makes a call, which is answered so, and answers the greatest moment after it. An entry that it makes is the only one behind
@@ -207,7 +208,15 @@ fn last_number<P, B: BookCalls<P>>(alloc: Global, book: &mut B, place: &P) -> u6
     requires fits { B.fits place.now book.old }
     ensures fits { B.fits place.now book.new }
 {
-    match ask(alloc, book, place, 0, Request::Read, &OpenGate) {
+    match ask(
+        alloc,
+        book,
+        place,
+        Upkeep::NONE,
+        0,
+        Request::Read,
+        &OpenGate,
+    ) {
         Response::Reading(reading) => reading.entries,
         _ => 0,
     }
@@ -218,7 +227,15 @@ fn page<P, B: BookCalls<P>>(alloc: Global, book: &mut B, place: &P, from: u64) -
     requires fits { B.fits place.now book.old }
     ensures fits { B.fits place.now book.new }
 {
-    match ask(alloc, book, place, 0, Request::Page(from), &OpenGate) {
+    match ask(
+        alloc,
+        book,
+        place,
+        Upkeep::NONE,
+        0,
+        Request::Page(from),
+        &OpenGate,
+    ) {
         Response::Page { entries, .. } => {
             let (count, number, _) = counted(&entries);
             (count, number)

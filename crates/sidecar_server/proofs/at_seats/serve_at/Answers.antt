@@ -15,22 +15,22 @@ serve_by_pool-requires-send-A g c κs within = param_send 1 _ (arg_send _ yes _ 
 
 pub serve_by_pool-requires-clause-some : goal.serve_by_pool-requires-clause-some
 serve_by_pool-requires-clause-some g c κs within =
-    let many = as_many_workers (seated c.deal.new.desk) c.args.clock c.in_ok-seats.seats.items c.in_ok-workers.workers.items c.in_ok-workers.ensures in
+    let many = as_many_workers (seated c.deal.new.desk c.args.upkeeps.now) c.args.clock c.in_ok-seats.seats.items c.in_ok-workers.workers.items c.in_ok-workers.ensures in
     omega (arith, c.in_ok-workers.workers.ok.0, many, c.in_ok-seats.seats.ok.0, c.in_ok-seats.ensures.all.0, c.requires.some)
 
 pub serve_by_pool-requires-clause-few : goal.serve_by_pool-requires-clause-few
 serve_by_pool-requires-clause-few g c κs within =
-    let many = as_many_workers (seated c.deal.new.desk) c.args.clock c.in_ok-seats.seats.items c.in_ok-workers.workers.items c.in_ok-workers.ensures in
+    let many = as_many_workers (seated c.deal.new.desk c.args.upkeeps.now) c.args.clock c.in_ok-seats.seats.items c.in_ok-workers.workers.items c.in_ok-workers.ensures in
     omega (arith, c.in_ok-workers.workers.ok.0, many, c.in_ok-seats.seats.ok.0, c.in_ok-seats.ensures.all.0, c.requires.few)
 
 pub close-requires-clause-here : goal.close-requires-clause-here
 close-requires-clause-here g c =
-    let here = back_here g.S.DeskSeat.sits_at g.S.DeskSeat.place_of g.S.DeskSeat.asks g.C.Clock.ticks c.deal.new.desk c.args.clock c.in_ok-seats.seats.items c.in_ok-workers.workers.items c.in_ok-workers-2.workers.items c.in_ok-workers.ensures c.in_ok-workers-2.ensures.worked c.in_ok-seats-2.ensures.held in
+    let here = back_here g.S.DeskSeat.sits_at g.S.DeskSeat.place_of g.S.DeskSeat.asks g.C.Clock.ticks c.deal.new.desk c.args.upkeeps.now c.args.clock c.in_ok-seats.seats.items c.in_ok-workers.workers.items c.in_ok-workers-2.workers.items c.in_ok-workers.ensures c.in_ok-workers-2.ensures.worked c.in_ok-seats-2.ensures.held in
     subst (AllByRecursion (g.S.DeskSeat.sits_at c.deal.new.desk)) (sym c.in_ok-seats-2.ensures.seats) here
 
 pub close-requires-clause-all : goal.close-requires-clause-all
 close-requires-clause-all g c =
-    let many = as_many_workers (seated c.deal.new.desk) c.args.clock c.in_ok-seats.seats.items c.in_ok-workers.workers.items c.in_ok-workers.ensures in
+    let many = as_many_workers (seated c.deal.new.desk c.args.upkeeps.now) c.args.clock c.in_ok-seats.seats.items c.in_ok-workers.workers.items c.in_ok-workers.ensures in
     let back : length c.in_ok-seats-2.seats.items ≡ length c.in_ok-workers.workers.items =
     all_back (place_by g.S.DeskSeat.place_of) (asks_by g.S.DeskSeat.asks) g.C.Clock.ticks (λ w. w.answerer.seat) c.in_ok-workers.workers.items c.in_ok-workers-2.workers.items c.in_ok-seats-2.seats.items c.in_ok-workers-2.ensures.worked c.in_ok-seats-2.ensures.seats in
     c.in_ok-seats-2.seats.ok.0 ∙ (back ∙ (many ∙ (sym c.in_ok-seats.seats.ok.0 ∙ (c.in_ok-seats.ensures.all.0 ∙ sym c.in_ok-seats.ensures.all.1))))
