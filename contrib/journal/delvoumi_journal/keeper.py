@@ -7,7 +7,7 @@ import fcntl
 import json
 import os
 import time
-from collections.abc import Callable
+from collections.abc import Callable, Iterator
 from concurrent.futures import Executor, Future, ThreadPoolExecutor
 from typing import Any
 
@@ -123,9 +123,10 @@ class ServiceKeeper:
         if self._writing is not None:
             self.roll(service)
         if entries:
-            missing = entries[0]["number"] - self._next
-            if missing > 0 and self._journal.last is not None:
-                self._say(f"{self.service}: {missing} entries from {self._next} on were dropped before they were kept")
+            # What came before the first entry that is ever kept isn't missing.
+            expected = entries[0]["number"] if self._journal.last is None else self._next
+            for first, count in gaps(expected, entries):
+                self._say(f"{self.service}: {count} entries from {first} on were dropped before they were kept")
             self._clock.note(entries[-1]["moment"])
             self._writing = disk.submit(self._journal.append, entries), entries
             self._next = entries[-1]["number"] + 1
@@ -271,6 +272,15 @@ class Keeper:
                     self._say(f"{keeper.service}: the sidecar has no service of this name: it is left out")
                 keeper.is_missing = True
         return services
+
+
+def gaps(expected: int, entries: list[Entry]) -> Iterator[tuple[int, int]]:
+    """Yields from which number on how many entries are missing before these and between them, of which this number was
+    expected first."""
+    for entry in entries:
+        if entry["number"] > expected:
+            yield expected, entry["number"] - expected
+        expected = entry["number"] + 1
 
 
 def span_of(seconds: float) -> str:

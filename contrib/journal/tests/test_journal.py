@@ -21,7 +21,7 @@ from typing import Any
 import delvoumi
 from delvoumi_journal.deleting import Limits, delete_old
 from delvoumi_journal.files import BadFile, Journal, entries_in, files_of
-from delvoumi_journal.keeper import FolderTaken, Keeper
+from delvoumi_journal.keeper import FolderTaken, Keeper, gaps
 from delvoumi_journal.main import main
 from delvoumi_journal.reading import check
 from delvoumi_journal.tickets import SidecarClock
@@ -245,6 +245,12 @@ class EntriesAreKept(WithServer):
         files = files_of(self.folder, "pay")
         fault = f"{self.folder}/pay.jsonl: number 4 comes behind 1"
         self.assertEqual(run("verify", *files), (1, [fault, "2 entries of 1 runs, 1 faults"]))
+
+    def test_gaps_between_pages_are_found_too(self) -> None:
+        entries = [{"number": number} for number in (3, 4, 7, 8, 9, 20)]
+        for expected, found in [(3, []), (1, [(1, 2)])]:
+            self.assertEqual(list(gaps(expected, entries)), [*found, (5, 2), (10, 10)])
+        self.assertEqual(list(gaps(7, [])), [])
 
     def test_a_time_of_day_that_is_set_ages_no_ticket(self) -> None:
         clock = SidecarClock()
