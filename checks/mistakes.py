@@ -19,9 +19,11 @@ PROGRAM_TEXT = "is not a program's bytes as text in hexadecimal"
 ADDRESS = 'is not an IP address with a port, as "127.0.0.1:8080"'
 # What is changed in that file, and what standard error says of it.
 MISTAKES = [
-    ({"worker": 4}, f"worker: {KEYS} listen, workers, keeper, connections, open and services"),
+    ({"worker": 4}, f"worker: {KEYS} listen, workers, keeper, connections, open, tickets and services"),
     ({"keeper": "locks"}, 'keeper: "locks" is not "lock" or "slot"'),
     ({"keeper": None}, 'keeper: null is not "lock" or "slot"'),
+    ({"tickets": "by a clock"}, 'tickets: "by a clock" is not "from 1" or "by the clock"'),
+    ({"tickets": 1}, 'tickets: 1 is not "from 1" or "by the clock"'),
     ({"listen": None}, f"listen: null {ADDRESS}"),
     ({"listen": "localhost:8080"}, f'listen: "localhost:8080" {ADDRESS}'),
     ({"listen": "127.0.0.1"}, f'listen: "127.0.0.1" {ADDRESS}'),
@@ -42,12 +44,13 @@ MISTAKES = [
     ({"services": [{"name": "Pay"}]}, f'services[0].name: "Pay" {NAME}'),
     ({"services": [{"name": ""}]}, f'services[0].name: "" {NAME}'),
     ({"services": [{"name": "a" * 65}]}, f"services[0].name: a long text {NAME}"),
-    (service(configs={}), f"services[1].configs: {KEYS} name, config, program, layout and journal"),
+    (service(configs={}), f"services[1].configs: {KEYS} name, config, program, layout, journal and maxTicketAge"),
     (service(config=[]), "services[1].config: an array is not an object"),
     (service(program=""), "services[1].program: refused 1 Length slot 0"),
     (service(layout=3), "services[1].layout: 3 is not the whole number 1 or 2"),
     (service(journal="first"), 'services[1].journal: "first" is not "keep" or "last"'),
     (service(journal=True), 'services[1].journal: true is not "keep" or "last"'),
+    (service(maxTicketAge="1m"), 'services[1].maxTicketAge: "1m" is not a whole number from 0 to 18446744073709551615'),
     (service(program="b7zz"), f'services[1].program: "b7zz" {PROGRAM_TEXT}'),
     (service(program=7), f"services[1].program: 7 {PROGRAM_TEXT}"),
     (service(program="b700000003000000 9500000000000000"), "services[1].program: refused 22 AnswerRange slot 1"),

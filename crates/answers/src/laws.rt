@@ -28,7 +28,7 @@ pub fn refusal_is_written_so()
 
 /// The body of the reading of a service that was moved to HALF_OPEN, and has no rates.
 pub fn reading_is_written_so()
-    ensures { body (shows (record { state = state.HalfOpen; period = 2; version = 1; budget = 6; total = 0; failed = 0; slow = 0; failure_rate = None; slow_rate = None; open_tickets = 0; free = 25; not_permitted = 0; entries = 3 })) ≡ codes "{\"budget\":6,\"entries\":3,\"failed\":0,\"failureRate\":-1,\"free\":25,\"notPermitted\":0,\"open\":0,\"period\":2,\"slow\":0,\"slowRate\":-1,\"state\":\"HALF_OPEN\",\"total\":0,\"version\":1}" }
+    ensures { body (shows (record { state = state.HalfOpen; period = 2; version = 1; budget = 6; total = 0; failed = 0; slow = 0; failure_rate = None; slow_rate = None; open_tickets = 0; free = 25; not_permitted = 0; entries = 3; oldest_ticket = None })) ≡ codes "{\"budget\":6,\"entries\":3,\"failed\":0,\"failureRate\":-1,\"free\":25,\"notPermitted\":0,\"open\":0,\"period\":2,\"slow\":0,\"slowRate\":-1,\"state\":\"HALF_OPEN\",\"total\":0,\"version\":1}" }
 {}
 
 /// Whatever the documented machine replies, HTTP has a status for it.

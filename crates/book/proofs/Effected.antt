@@ -25,12 +25,12 @@ use Rattle.book.proofs.Lists.{all_kept_by, all_weaken}
 
 -- the next ticket is issued, where a place is free, and nothing else happens
 pub record Issues (s : Situation) (moment : ℕ) (event : EventData) (d : Decision) (t : OpenTicket) : Type 0 where
-  pub next : t ≡ next_open s d.next.period
+  pub next : t ≡ next_open s d.next.period t.moment
   pub ends : end_by event d.reply ≡ None
   pub notes : note_by s.config moment event d.reply ≡ None
   pub free : length s.open_tickets < s.config.max_concurrent_calls
 
-pub issues : (s : Situation) (moment : ℕ) (event : EventData) (d : Decision) (t : OpenTicket) → Shape s event d → issue_by d.reply d.next.period ≡ Some t → Issues s moment event d t
+pub issues : (s : Situation) (moment : ℕ) (event : EventData) (d : Decision) (t : OpenTicket) → Shape s event d → issue_by d.reply d.next.period moment ≡ Some t → Issues s moment event d t
 issues s moment event d t a h = search rules
 
 -- ---- a program that gets a version
@@ -49,7 +49,7 @@ grows n z [] h = h
 grows n z (x ∷ xs) h = grows n (max z x) xs (omega (arith, h, le-max_left z x))
 
 -- no line comes after the greatest moment
-lines_before : (first : ℕ) (stages : List Stage) → AllByRecursion (λ stage. stage.line.moment ≤ fold max first (map (λ s. s.line.moment) stages)) stages
+pub lines_before : (first : ℕ) (stages : List Stage) → AllByRecursion (λ stage. stage.line.moment ≤ fold max first (map (λ s. s.line.moment) stages)) stages
 lines_before first [] = tt
 lines_before first (stage ∷ stages) =
     (grows stage.line.moment (max first stage.line.moment) (map (λ s. s.line.moment) stages) (le-max_right first stage.line.moment), lines_before (max first stage.line.moment) stages)
@@ -57,7 +57,7 @@ lines_before first (stage ∷ stages) =
 mapped_head : {B : Type 0} (Q : B → Type 0) (o : Option B) (rest : List B) → ((b : B) → o ≡ Some b → Q b) → AllByRecursion Q rest → AllByRecursion Q (cons_option o rest)
 mapped_head Q o rest f h = search rules
 
-all_mapped : {A B : Type 0} (P : A → Type 0) (Q : B → Type 0) (f : A → Option B) → ((a : A) (b : B) → P a → f a ≡ Some b → Q b) → (xs : List A) → AllByRecursion P xs → AllByRecursion Q (filter_map f xs)
+pub all_mapped : {A B : Type 0} (P : A → Type 0) (Q : B → Type 0) (f : A → Option B) → ((a : A) (b : B) → P a → f a ≡ Some b → Q b) → (xs : List A) → AllByRecursion P xs → AllByRecursion Q (filter_map f xs)
 all_mapped P Q f g [] h = tt
 all_mapped P Q f g (x ∷ xs) h = mapped_head Q (f x) (filter_map f xs) (λ b e. g x b h.0 e) (all_mapped P Q f g xs h.1)
 

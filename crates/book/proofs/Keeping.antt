@@ -42,10 +42,10 @@ pub install_moved : (event : EventData) (s : _) (period : ℕ) → install_by ev
 install_moved event s period = search rules
 
 -- what a line does to tickets and versions
-pub record IsMove (held : ℕ) (tickets : List OpenTicket) (next versions : ℕ) (event : EventData) (r : Reply) (period : ℕ) : Type 0 where
-  pub fresh : IsFresh next (end_by event r) (issue_by r period)
+pub record IsMove (held : ℕ) (tickets : List OpenTicket) (next versions : ℕ) (event : EventData) (r : Reply) (period moment : ℕ) : Type 0 where
+  pub fresh : IsFresh next (end_by event r) (issue_by r period moment)
   pub ended : (n : ℕ) → end_by event r ≡ Some n → is_open tickets n ≡ true
-  pub room : held + 1 + length (tickets_after tickets (end_by event r) (issue_by r period)) ≤ most_entries
+  pub room : held + 1 + length (tickets_after tickets (end_by event r) (issue_by r period moment)) ≤ most_entries
   pub versions_held : versions + length (option_to_list (install_by event r)) ≤ most_versions
   pub installed : (p : VerifiedProgram) → install_by event r ≡ Some p → event ≡ installs p
 
@@ -65,39 +65,39 @@ no_program : (event : EventData) (p : VerifiedProgram) → ◌≡◌ {A = Option
 no_program event p e = cc
 
 -- a line that touches neither tickets nor versions
-still : (held : ℕ) (tickets : List OpenTicket) (next versions : ℕ) (event : EventData) (r : Reply) (period : ℕ)
-    → end_by event r ≡ None → issue_by r period ≡ None → install_by event r ≡ None → held + length tickets ≤ (most_entries - 1) → versions ≤ most_versions
-    → IsMove held tickets next versions event r period
-still held tickets next versions event r period ends issues installs_ room few = search (rules, untouched)
+still : (held : ℕ) (tickets : List OpenTicket) (next versions : ℕ) (event : EventData) (r : Reply) (period moment : ℕ)
+    → end_by event r ≡ None → issue_by r period moment ≡ None → install_by event r ≡ None → held + length tickets ≤ (most_entries - 1) → versions ≤ most_versions
+    → IsMove held tickets next versions event r period moment
+still held tickets next versions event r period moment ends issues installs_ room few = search (rules, untouched)
 
-permit_move : (held : ℕ) (tickets : List OpenTicket) (next versions version : ℕ) (s : _) (period : ℕ)
-    → held + length tickets ≤ (most_entries - 2) → versions ≤ most_versions → IsMove held tickets next versions acquires (reply.Permitted next version s) period
-permit_move held tickets next versions version s period room few = search (rules, one_more, no_program)
+permit_move : (held : ℕ) (tickets : List OpenTicket) (next versions version : ℕ) (s : _) (period moment : ℕ)
+    → held + length tickets ≤ (most_entries - 2) → versions ≤ most_versions → IsMove held tickets next versions acquires (reply.Permitted next version s) period moment
+permit_move held tickets next versions version s period moment room few = search (rules, one_more, no_program)
 
-end_move : (held : ℕ) (tickets : List OpenTicket) (next versions : ℕ) (event : EventData) (r : Reply) (period : ℕ) (ticket : ℕ)
-    → end_by event r ≡ Some ticket → issue_by r period ≡ None → install_by event r ≡ None → is_open tickets ticket ≡ true → held + length tickets ≤ most_entries → versions ≤ most_versions
-    → IsMove held tickets next versions event r period
-end_move held tickets next versions event r period ticket ends issues installs_ there room few = search (rules, one_less)
+end_move : (held : ℕ) (tickets : List OpenTicket) (next versions : ℕ) (event : EventData) (r : Reply) (period moment : ℕ) (ticket : ℕ)
+    → end_by event r ≡ Some ticket → issue_by r period moment ≡ None → install_by event r ≡ None → is_open tickets ticket ≡ true → held + length tickets ≤ most_entries → versions ≤ most_versions
+    → IsMove held tickets next versions event r period moment
+end_move held tickets next versions event r period moment ticket ends issues installs_ there room few = search (rules, one_less)
 
-install_move : (held : ℕ) (tickets : List OpenTicket) (next versions : ℕ) (program : VerifiedProgram) (version budget : ℕ) (layout : Layout) (period : ℕ)
-    → versions < most_versions → held + length tickets ≤ (most_entries - 1) → IsMove held tickets next versions (installs program) (reply.Installed version budget layout) period
-install_move held tickets next versions program version budget layout period few room = search (rules, no_number, untouched)
+install_move : (held : ℕ) (tickets : List OpenTicket) (next versions : ℕ) (program : VerifiedProgram) (version budget : ℕ) (layout : Layout) (period moment : ℕ)
+    → versions < most_versions → held + length tickets ≤ (most_entries - 1) → IsMove held tickets next versions (installs program) (reply.Installed version budget layout) period moment
+install_move held tickets next versions program version budget layout period moment few room = search (rules, no_number, untouched)
 
-pub move_of : (s : Situation) (event : EventData) (d : Decision)
+pub move_of : (s : Situation) (moment : ℕ) (event : EventData) (d : Decision)
     → Shape s event d → is_entered d.reply ≡ true → used s ≤ most_entries → length s.programs - s.dropped ≤ most_versions
-    → IsMove s.held s.open_tickets s.next_ticket (length s.programs - s.dropped) event d.reply d.next.period
-move_of s event d (refuses number e room) entered most few =
-    rw e (still s.held s.open_tickets s.next_ticket (length s.programs - s.dropped) event (reply.Refused number) d.next.period (end_refused event number) refl (install_refused event number) (room (subst (λ (x : Reply). is_entered x ≡ true) e entered)) few)
-move_of s event d (permits version st e f current room free given) entered most few =
-    rw (e, f) (permit_move s.held s.open_tickets s.next_ticket (length s.programs - s.dropped) version st d.next.period room few)
-move_of s event d (concludes work ticket fate v steps version st e f there present counted is) entered most few =
-    rw (e, f) (end_move s.held s.open_tickets s.next_ticket (length s.programs - s.dropped) (finishes work ticket) (reply.Finished fate v steps version st) d.next.period ticket refl refl refl there most few)
-move_of s event d (lets_go ticket st e f there) entered most few =
-    rw (e, f) (end_move s.held s.open_tickets s.next_ticket (length s.programs - s.dropped) (releases ticket) (reply.Released st) d.next.period ticket refl refl refl there most few)
-move_of s event d (takes_in program version budget layout e f less room) entered most few =
-    rw (e, f) (install_move s.held s.open_tickets s.next_ticket (length s.programs - s.dropped) program version budget layout d.next.period less room)
-move_of s event d (turns st p e room) entered most few =
-    rw e (still s.held s.open_tickets s.next_ticket (length s.programs - s.dropped) event (reply.Moved st p) d.next.period (end_moved event st p) refl (install_moved event st p) room few)
+    → IsMove s.held s.open_tickets s.next_ticket (length s.programs - s.dropped) event d.reply d.next.period moment
+move_of s moment event d (refuses number e room) entered most few =
+    rw e (still s.held s.open_tickets s.next_ticket (length s.programs - s.dropped) event (reply.Refused number) d.next.period moment (end_refused event number) refl (install_refused event number) (room (subst (λ (x : Reply). is_entered x ≡ true) e entered)) few)
+move_of s moment event d (permits version st e f current room free given) entered most few =
+    rw (e, f) (permit_move s.held s.open_tickets s.next_ticket (length s.programs - s.dropped) version st d.next.period moment room few)
+move_of s moment event d (concludes work ticket fate v steps version st e f there present counted is) entered most few =
+    rw (e, f) (end_move s.held s.open_tickets s.next_ticket (length s.programs - s.dropped) (finishes work ticket) (reply.Finished fate v steps version st) d.next.period moment ticket refl refl refl there most few)
+move_of s moment event d (lets_go ticket st e f there) entered most few =
+    rw (e, f) (end_move s.held s.open_tickets s.next_ticket (length s.programs - s.dropped) (releases ticket) (reply.Released st) d.next.period moment ticket refl refl refl there most few)
+move_of s moment event d (takes_in program version budget layout e f less room) entered most few =
+    rw (e, f) (install_move s.held s.open_tickets s.next_ticket (length s.programs - s.dropped) program version budget layout d.next.period moment less room)
+move_of s moment event d (turns st p e room) entered most few =
+    rw e (still s.held s.open_tickets s.next_ticket (length s.programs - s.dropped) event (reply.Moved st p) d.next.period moment (end_moved event st p) refl (install_moved event st p) room few)
 
 -- ---- one line more
 
@@ -122,11 +122,11 @@ open_are_issued past sound = λ number e.
 pub shape_there : {accepts : Accepting} (past : Past) (line : EntryData) → IsSound accepts past → Shape (situation_of past) line.event (machine past line.moment line.event)
 shape_there past line sound = decision_shape (situation_of past) line.moment line.event (open_are_issued past sound)
 
-pub move_there : {accepts : Accepting} (past : Past) (line : EntryData) → IsSound accepts past → Follows past line → IsMove (length past.stages - past.rolled.lines) (open_of past.stages) (next_ticket past) (length (programs_of past) - past.rolled.programs) line.event line.reply (next_standing past line).period
+pub move_there : {accepts : Accepting} (past : Past) (line : EntryData) → IsSound accepts past → Follows past line → IsMove (length past.stages - past.rolled.lines) (open_of past.stages) (next_ticket past) (length (programs_of past) - past.rolled.programs) line.event line.reply (next_standing past line).period line.moment
 move_there past line sound follows =
     let entered = subst (λ (r : Reply). is_entered r ≡ true) follows.replied follows.entered in
-    let move = move_of (situation_of past) line.event (machine past line.moment line.event) (shape_there past line sound) entered sound.used sound.versions in
-    subst (λ (r : Reply). IsMove (length past.stages - past.rolled.lines) (open_of past.stages) (next_ticket past) (length (programs_of past) - past.rolled.programs) line.event r (next_standing past line).period) (sym follows.replied) move
+    let move = move_of (situation_of past) line.moment line.event (machine past line.moment line.event) (shape_there past line sound) entered sound.used sound.versions in
+    subst (λ (r : Reply). IsMove (length past.stages - past.rolled.lines) (open_of past.stages) (next_ticket past) (length (programs_of past) - past.rolled.programs) line.event r (next_standing past line).period line.moment) (sym follows.replied) move
 
 pub situated_step : {accepts : Accepting} (past : Past) (line : EntryData) → IsSound accepts past → past.rolled.lines ≤ length past.stages → Follows past line → situation_of (passed past line) ≡ situation_after (situation_of past) line (next_standing past line)
 situated_step past line sound held_there follows =
@@ -134,8 +134,8 @@ situated_step past line sound held_there follows =
     let move = move_there past line sound follows in
     let notes : notes_of (passed past line) ≡ notes_after past.standing (next_standing past line) (notes_of past) _ = notes_step past.opening.config past.stages (stage_of past line) sound.periods near.least in
     let programs : programs_of (passed past line) ≡ programs_of past ++ option_to_list (install_by line.event line.reply) = ap (λ (ps : List VerifiedProgram). past.opening.program ∷ ps) (map_with install_at past.stages (stage_of past line)) in
-    let tickets : open_of (passed past line).stages ≡ tickets_after (open_of past.stages) (end_by line.event line.reply) (issue_by line.reply (next_standing past line).period) = open_step past.stages (stage_of past line) (next_ticket past) sound.ended move.fresh in
-    let next : next_ticket (passed past line) ≡ next_ticket past + one_where_some (issue_by line.reply (next_standing past line).period) = omega (arith, issued_step past.stages (stage_of past line)) in
+    let tickets : open_of (passed past line).stages ≡ tickets_after (open_of past.stages) (end_by line.event line.reply) (issue_by line.reply (next_standing past line).period line.moment) = open_step past.stages (stage_of past line) (next_ticket past) sound.ended move.fresh in
+    let next : next_ticket (passed past line) ≡ next_ticket past + one_where_some (issue_by line.reply (next_standing past line).period line.moment) = omega (arith, issued_step past.stages (stage_of past line)) in
     let held : length (passed past line).stages - past.rolled.lines ≡ (length past.stages - past.rolled.lines) + 1 = omega (arith, held_there, length-append past.stages (stage_of past line ∷ [])) in
     cc
 
@@ -162,7 +162,7 @@ ended_step past line sound follows le =
 issued_there : (next later : ℕ) (o : Option OpenTicket) (e : Option ℕ) → 1 ≤ next → IsFresh next e o → next + one_where_some o ≡ later → AllByRecursion (λ ticket. (1 ≤ ticket.number) × (ticket.number < later)) (option_to_list o)
 issued_there next later o e first fresh le = search rules
 
-open_issued_step : {accepts : Accepting} (past : Past) (line : EntryData) → IsSound accepts past → Follows past line → next_ticket past + one_where_some (issue_by line.reply (next_standing past line).period) ≡ next_ticket (passed past line)
+open_issued_step : {accepts : Accepting} (past : Past) (line : EntryData) → IsSound accepts past → Follows past line → next_ticket past + one_where_some (issue_by line.reply (next_standing past line).period line.moment) ≡ next_ticket (passed past line)
     → AllByRecursion (λ ticket. (1 ≤ ticket.number) × (ticket.number < next_ticket (passed past line))) (open_of (passed past line).stages)
 open_issued_step past line sound follows next =
     let move = move_there past line sound follows in
@@ -170,43 +170,43 @@ open_issued_step past line sound follows next =
     let test : OpenTicket → Type 0 = λ ticket. (1 ≤ ticket.number) × (ticket.number < later) in
     let earlier = all_weaken (λ ticket. (1 ≤ ticket.number) × (ticket.number < next_ticket past)) test (λ (t : OpenTicket) h. (h.0, omega (arith, h.1, next))) (open_of past.stages) sound.open_issued in
     let kept = all_kept_by test (λ (t : OpenTicket). not (is_number (end_by line.event line.reply) t.number)) (open_of past.stages) earlier in
-    let last = issued_there (next_ticket past) later (issue_by line.reply (next_standing past line).period) (end_by line.event line.reply) (omega (arith, sound.opening.first_ticket)) move.fresh next in
-    let all = all_append test (filter (λ (t : OpenTicket). not (is_number (end_by line.event line.reply) t.number)) (open_of past.stages)) (option_to_list (issue_by line.reply (next_standing past line).period)) kept last in
+    let last = issued_there (next_ticket past) later (issue_by line.reply (next_standing past line).period line.moment) (end_by line.event line.reply) (omega (arith, sound.opening.first_ticket)) move.fresh next in
+    let all = all_append test (filter (λ (t : OpenTicket). not (is_number (end_by line.event line.reply) t.number)) (open_of past.stages)) (option_to_list (issue_by line.reply (next_standing past line).period line.moment)) kept last in
     subst (λ (ts : List OpenTicket). AllByRecursion test ts) (sym (open_step past.stages (stage_of past line) (next_ticket past) sound.ended move.fresh)) all
 
 -- ---- places
 
-places_after : (s : Situation) (event : EventData) (d : Decision) → Shape s event d → length s.open_tickets ≤ s.config.max_concurrent_calls
-    → length (tickets_after s.open_tickets (end_by event d.reply) (issue_by d.reply d.next.period)) ≤ s.config.max_concurrent_calls
-places_after s event d a le = search (rules, untouched, one_more, one_less)
+places_after : (s : Situation) (moment : ℕ) (event : EventData) (d : Decision) → Shape s event d → length s.open_tickets ≤ s.config.max_concurrent_calls
+    → length (tickets_after s.open_tickets (end_by event d.reply) (issue_by d.reply d.next.period moment)) ≤ s.config.max_concurrent_calls
+places_after s moment event d a le = search (rules, untouched, one_more, one_less)
 
 -- the tickets after a line, as the machine's reply has them
-tickets_there : {accepts : Accepting} (past : Past) (line : EntryData) → IsSound accepts past → Follows past line
-    → open_of (passed past line).stages ≡ tickets_after (open_of past.stages) (end_by line.event (machine past line.moment line.event).reply) (issue_by (machine past line.moment line.event).reply (next_standing past line).period)
+pub tickets_there : {accepts : Accepting} (past : Past) (line : EntryData) → IsSound accepts past → Follows past line
+    → open_of (passed past line).stages ≡ tickets_after (open_of past.stages) (end_by line.event (machine past line.moment line.event).reply) (issue_by (machine past line.moment line.event).reply (next_standing past line).period line.moment)
 tickets_there past line sound follows =
     open_step past.stages (stage_of past line) (next_ticket past) sound.ended (move_there past line sound follows).fresh
-    ∙ ap (λ (r : Reply). tickets_after (open_of past.stages) (end_by line.event r) (issue_by r (next_standing past line).period)) follows.replied
+    ∙ ap (λ (r : Reply). tickets_after (open_of past.stages) (end_by line.event r) (issue_by r (next_standing past line).period line.moment)) follows.replied
 
 places_step : {accepts : Accepting} (past : Past) (line : EntryData) → IsSound accepts past → Follows past line → length (open_of (passed past line).stages) ≤ past.opening.config.max_concurrent_calls
 places_step past line sound follows =
-    omega (arith, ap length (tickets_there past line sound follows), places_after (situation_of past) line.event (machine past line.moment line.event) (shape_there past line sound) sound.places)
+    omega (arith, ap length (tickets_there past line sound follows), places_after (situation_of past) line.moment line.event (machine past line.moment line.event) (shape_there past line sound) sound.places)
 
-issued_period : (r : Reply) (period : ℕ) → AllByRecursion (λ ticket. ticket.period ≤ period) (option_to_list (issue_by r period))
-issued_period r period = search rules
+issued_period : (r : Reply) (period moment : ℕ) → AllByRecursion (λ ticket. ticket.period ≤ period) (option_to_list (issue_by r period moment))
+issued_period r period moment = search rules
 
-periods_after : (before period : ℕ) (tickets : List OpenTicket) (over : Option ℕ) (r : Reply) → before ≤ period → AllByRecursion (λ ticket. ticket.period ≤ before) tickets
-    → AllByRecursion (λ ticket. ticket.period ≤ period) (tickets_after tickets over (issue_by r period))
-periods_after before period tickets over r le all =
+periods_after : (before period moment : ℕ) (tickets : List OpenTicket) (over : Option ℕ) (r : Reply) → before ≤ period → AllByRecursion (λ ticket. ticket.period ≤ before) tickets
+    → AllByRecursion (λ ticket. ticket.period ≤ period) (tickets_after tickets over (issue_by r period moment))
+periods_after before period moment tickets over r le all =
     let Before : OpenTicket → Type 0 = λ ticket. ticket.period ≤ before in
     let After : OpenTicket → Type 0 = λ ticket. ticket.period ≤ period in
     let kept = all_kept_by After (λ (ticket : OpenTicket). not (is_number over ticket.number)) tickets (all_weaken Before After (λ ticket early. omega (arith, early, le)) tickets all) in
-    all_append After (filter (λ (ticket : OpenTicket). not (is_number over ticket.number)) tickets) (option_to_list (issue_by r period)) kept (issued_period r period)
+    all_append After (filter (λ (ticket : OpenTicket). not (is_number over ticket.number)) tickets) (option_to_list (issue_by r period moment)) kept (issued_period r period moment)
 
 ticket_periods_step : {accepts : Accepting} (past : Past) (line : EntryData) → IsSound accepts past → Follows past line → AllByRecursion (λ ticket. ticket.period ≤ (next_standing past line).period) (open_of (passed past line).stages)
 ticket_periods_step past line sound follows =
     let near = decision_near (situation_of past) line.moment line.event in
     subst (λ (ts : List OpenTicket). AllByRecursion (λ ticket. ticket.period ≤ (next_standing past line).period) ts) (sym (tickets_there past line sound follows))
-    (periods_after past.standing.period (next_standing past line).period (open_of past.stages) (end_by line.event (machine past line.moment line.event).reply) (machine past line.moment line.event).reply near.least sound.ticket_periods)
+    (periods_after past.standing.period (next_standing past line).period line.moment (open_of past.stages) (end_by line.event (machine past line.moment line.event).reply) (machine past line.moment line.event).reply near.least sound.ticket_periods)
 
 some_permitted : {accepts : Accepting} (past : Past) → IsSound accepts past → 1 ≤ past.opening.config.permitted_number_of_calls_in_half_open_state
 some_permitted past sound = within_least 1 10000 past.opening.config.permitted_number_of_calls_in_half_open_state (ranges past.opening.config sound.opening.config).permitted
@@ -257,7 +257,7 @@ sound_step accepts safely past line sound follows good =
     let move = move_there past line sound follows in
     let held : length (passed past line).stages ≡ length past.stages + 1 = length-append past.stages (stage_of past line ∷ []) in
     let count = issued_step past.stages (stage_of past line) in
-    let next : next_ticket past + one_where_some (issue_by line.reply (next_standing past line).period) ≡ next_ticket (passed past line) = omega (arith, count) in
+    let next : next_ticket past + one_where_some (issue_by line.reply (next_standing past line).period line.moment) ≡ next_ticket (passed past line) = omega (arith, count) in
     let tickets = open_step past.stages (stage_of past line) (next_ticket past) sound.ended move.fresh in
     let programs : programs_of (passed past line) ≡ programs_of past ++ option_to_list (install_by line.event line.reply) = ap (λ (ps : List VerifiedProgram). past.opening.program ∷ ps) (map_with install_at past.stages (stage_of past line)) in
     record {
@@ -266,7 +266,7 @@ sound_step accepts safely past line sound follows good =
       period = omega (arith, held, near.most, sound.period);
       ended = ended_step past line sound follows (omega (arith, next));
       open_issued = open_issued_step past line sound follows next;
-      few_issued = omega (arith, held, count, sound.few_issued, one_at_most (issue_by line.reply (next_standing past line).period));
+      few_issued = omega (arith, held, count, sound.few_issued, one_at_most (issue_by line.reply (next_standing past line).period line.moment));
       ticket_periods = ticket_periods_step past line sound follows;
       places = places_step past line sound follows;
       permissions = permissions_step past line sound follows;

@@ -79,7 +79,7 @@ end_none_moved event s period = search rules
 -- ---- a line in the same period
 
 abbrev Left : Situation → EventData → Reply → ℕ → ℕ → ℕ
-Left s event r period moment = permissions_held s.standing.period (tickets_after s.open_tickets (end_by event r) (issue_by r period)) + length (s.notes ++ option_to_list (note_by s.config moment event r))
+Left s event r period moment = permissions_held s.standing.period (tickets_after s.open_tickets (end_by event r) (issue_by r period moment)) + length (s.notes ++ option_to_list (note_by s.config moment event r))
 
 no_more_notes : (notes : List Note) → length (notes ++ []) ≡ length notes
 no_more_notes notes = ap length (append-nil notes)
@@ -97,7 +97,7 @@ left_there s event d moment (refuses number e room) same half le =
     rw (e, end_none event number, note_refused s.config moment event number) (omega (arith, le, held_after_none s.standing.period s.open_tickets, no_more_notes s.notes))
 left_there s event d moment (permits version st e f current room free given) same half le =
     let less = given half (ap (λ (x : Standing). x.period) same) in
-    rw (e, f) (omega (arith, less, held_after_issue s.standing.period s.open_tickets (record { number = s.next_ticket; version = version; period = d.next.period }), no_more_notes s.notes))
+    rw (e, f) (omega (arith, less, held_after_issue s.standing.period s.open_tickets (record { number = s.next_ticket; version = version; period = d.next.period; moment = moment }), no_more_notes s.notes))
 left_there s event d moment (concludes work ticket f v steps version st e r there present counted version_is) same half le =
     rw (e, r) (concluded_left s work ticket f v steps version st d.next.period moment s.config.permitted_number_of_calls_in_half_open_state d.next present (ap (λ (x : Standing). x.period) same) le)
 left_there s event d moment (lets_go ticket st e r there) same half le =
@@ -117,22 +117,22 @@ by_period : (s : Situation) (event : EventData) (d : Decision) (moment : ℕ) (t
     → AllByRecursion (λ ticket. ticket.period ≤ s.standing.period) s.open_tickets → 1 ≤ s.config.permitted_number_of_calls_in_half_open_state
     → (is_half_open s.standing.state ≡ true → permissions_held s.standing.period s.open_tickets + length s.notes ≤ s.config.permitted_number_of_calls_in_half_open_state)
     → is_half_open d.next.state ≡ true
-    → permissions_held d.next.period (tickets_after s.open_tickets (end_by event d.reply) (issue_by d.reply d.next.period))
+    → permissions_held d.next.period (tickets_after s.open_tickets (end_by event d.reply) (issue_by d.reply d.next.period moment))
     + length (if test then s.notes ++ option_to_list (note_by s.config moment event d.reply) else []) ≤ s.config.permitted_number_of_calls_in_half_open_state
 by_period s event d moment true e shape near all some old half =
     let period : d.next.period ≡ s.standing.period = (Decides-eqb _ _).0 e in
     let same = near.same period in
     let before = old (ap (λ (x : Standing). is_half_open x.state) (sym same) ∙ half) in
-    subst (λ (q : ℕ). permissions_held q (tickets_after s.open_tickets (end_by event d.reply) (issue_by d.reply d.next.period)) + length (s.notes ++ option_to_list (note_by s.config moment event d.reply)) ≤ s.config.permitted_number_of_calls_in_half_open_state)
+    subst (λ (q : ℕ). permissions_held q (tickets_after s.open_tickets (end_by event d.reply) (issue_by d.reply d.next.period moment)) + length (s.notes ++ option_to_list (note_by s.config moment event d.reply)) ≤ s.config.permitted_number_of_calls_in_half_open_state)
     (sym period) (left_there s event d moment shape same half before)
 by_period s event d moment false e shape near all some old half =
     let later = strictly s.standing.period d.next.period near.least e in
-    omega (arith, some, held_later s.standing.period d.next.period s.open_tickets (end_by event d.reply) (issue_by d.reply d.next.period) all later)
+    omega (arith, some, held_later s.standing.period d.next.period s.open_tickets (end_by event d.reply) (issue_by d.reply d.next.period moment) all later)
 
 pub permissions_after : (s : Situation) (event : EventData) (d : Decision) (moment : ℕ) → Shape s event d → IsNear s.standing d.next 2
     → AllByRecursion (λ ticket. ticket.period ≤ s.standing.period) s.open_tickets → 1 ≤ s.config.permitted_number_of_calls_in_half_open_state
     → (is_half_open s.standing.state ≡ true → permissions_held s.standing.period s.open_tickets + length s.notes ≤ s.config.permitted_number_of_calls_in_half_open_state)
     → is_half_open d.next.state ≡ true
-    → permissions_held d.next.period (tickets_after s.open_tickets (end_by event d.reply) (issue_by d.reply d.next.period))
+    → permissions_held d.next.period (tickets_after s.open_tickets (end_by event d.reply) (issue_by d.reply d.next.period moment))
     + length (notes_after s.standing d.next s.notes (note_by s.config moment event d.reply)) ≤ s.config.permitted_number_of_calls_in_half_open_state
 permissions_after s event d moment shape near all some old half = by_period s event d moment (d.next.period == s.standing.period) refl shape near all some old half

@@ -73,7 +73,7 @@ pub no_place : (s : Situation) (moment : ℕ) (p : Permission) (plan : Plan) →
 no_place s moment p plan is given full e = search rules
 
 pub call_permitted : (s : Situation) (moment : ℕ) (p : Permission) (number version : ℕ) (plan : Plan) → p ≡ permission_at s moment → p.given ≡ true → nat_le s.config.max_concurrent_calls (length s.open_tickets) ≡ false
-    → number ≡ s.next_ticket → version ≡ current_version s → plan ≡ permitted_plan p.standing (record { number = number; version = version; period = p.standing.period })
+    → number ≡ s.next_ticket → version ≡ current_version s → plan ≡ permitted_plan p.standing (record { number = number; version = version; period = p.standing.period; moment = moment })
     → plan ≡ planned s.config moment acquires (acquired s moment)
 call_permitted s moment p number version plan is given free n v e = search rules
 

@@ -75,8 +75,8 @@ found_by issued found t e = search rules
 pub ended_open : (r : RegistryData) (number : ℕ) (t : OpenTicket) → ticket_in r number ≡ Ok t → open_ticket r.open_tickets number ≡ Some t
 ended_open r number t e = found_by (is_issued r number) (open_ticket r.open_tickets number) t e
 
-pub registered_with : (before after : RegistryData) (s : Situation) (next : Standing) → after ≡ registries.with_ticket before next.period → IsRegistered before s → IsRegistered after (admitted s next)
-registered_with before after s next e is = search (rules, current_same, all_append)
+pub registered_with : (before after : RegistryData) (s : Situation) (next : Standing) (moment : ℕ) → after ≡ registries.with_ticket before next.period moment → IsRegistered before s → IsRegistered after (admitted s next moment)
+registered_with before after s next moment e is = search (rules, current_same, all_append)
 
 pub registered_without : (before after : RegistryData) (s : Situation) (number : ℕ) → after ≡ registries.without_ticket before number → IsRegistered before s → IsRegistered after (without s (Some number))
 registered_without before after s number e is = search (rules, all_kept_by)
@@ -95,7 +95,7 @@ by_issue None s next effects installs e changes =
     rw (tickets, number) refl
 by_issue (Some t) s next effects installs e changes =
     let is = changes.issue t e in
-    let tickets : tickets_after s.open_tickets effects.ended effects.issued ≡ s.open_tickets ++ next_open s next.period ∷ [] =
+    let tickets : tickets_after s.open_tickets effects.ended effects.issued ≡ s.open_tickets ++ next_open s next.period t.moment ∷ [] =
     ap (tickets_after s.open_tickets effects.ended) e ∙ ap (λ (o : Option ℕ). tickets_after s.open_tickets o (Some t)) is.1 ∙ ap (λ (ts : List OpenTicket). ts ++ t ∷ []) (all_kept s.open_tickets) ∙ ap (λ (u : OpenTicket). s.open_tickets ++ u ∷ []) is.0 in
     let number : s.next_ticket + one_where_some effects.issued ≡ s.next_ticket + 1 = ap (λ (o : Option OpenTicket). s.next_ticket + one_where_some o) e in
     rw (tickets, number, is.2) refl

@@ -110,7 +110,7 @@ entered_kept accepts safely history seat moment event true e kept word bits good
       sound = subst (λ (p : Past). IsSound accepts p) (sym (past_with history.opening history.lines history.rolled l)) (sound_step accepts safely past l kept.sound follows (record { word = omega (arith, bound); seat = bits; event = good }));
     }
 
-applied_kept : (accepts : Accepting) → Safely accepts → (history : History) (seat moment : ℕ) (event : EventData) (r : Reply) (after : History) → IsKept accepts history → moment < 2 ^ 64 → seat < 2 ^ 32 → IsEvent accepts event → IsApplied history seat moment event r after → IsKept accepts after
+pub applied_kept : (accepts : Accepting) → Safely accepts → (history : History) (seat moment : ℕ) (event : EventData) (r : Reply) (after : History) → IsKept accepts history → moment < 2 ^ 64 → seat < 2 ^ 32 → IsEvent accepts event → IsApplied history seat moment event r after → IsKept accepts after
 applied_kept accepts safely history seat moment event r after kept word bits good (as_documented is leads) =
     subst (IsKept accepts) (sym leads) (entered_kept accepts safely history seat moment event (is_entered (machine (past_of history) (raised (past_of history) moment) event).reply) refl kept word bits good)
 applied_kept accepts safely history seat moment event r after kept word bits good (out_of_memory is entered stays) = subst (IsKept accepts) (sym stays) kept

@@ -23,7 +23,7 @@ abbrev pub effects_of : ConfigParts → ℕ → EventData → Decision → Effec
 effects_of config moment event decision = record {
   note = note_by config moment event decision.reply;
   ended = end_by event decision.reply;
-  issued = issue_by decision.reply decision.next.period;
+  issued = issue_by decision.reply decision.next.period moment;
   installs = is_some (install_by event decision.reply);
   refuses_call = is_refused_call decision.reply;
 }

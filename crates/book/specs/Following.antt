@@ -41,8 +41,8 @@ situation_after s line next = record {
   first_version = s.first_version;
   programs = s.programs ++ option_to_list (install_by line.event line.reply);
   dropped = s.dropped;
-  open_tickets = tickets_after s.open_tickets (end_by line.event line.reply) (issue_by line.reply next.period);
-  next_ticket = s.next_ticket + one_where_some (issue_by line.reply next.period);
+  open_tickets = tickets_after s.open_tickets (end_by line.event line.reply) (issue_by line.reply next.period line.moment);
+  next_ticket = s.next_ticket + one_where_some (issue_by line.reply next.period line.moment);
   held = s.held + 1;
 }
 
@@ -64,13 +64,13 @@ settled s next effects = standing_so (without s effects.ended) next effects.note
 abbrev pub with_ticket : Situation → OpenTicket → Situation
 with_ticket s ticket = record s { open_tickets = s.open_tickets ++ ticket ∷ []; next_ticket = s.next_ticket + 1 }
 
--- where a call is permitted
-abbrev pub admitted : Situation → Standing → Situation
-admitted s next = with_ticket (standing_so s next None) (next_open s next.period)
+-- where a call is permitted at a moment
+abbrev pub admitted : Situation → Standing → ℕ → Situation
+admitted s next moment = with_ticket (standing_so s next None) (next_open s next.period moment)
 
 abbrev pub changed_by : Option OpenTicket → Situation → Standing → Effects → Situation
 changed_by None s next effects = settled s next effects
-changed_by (Some ticket) s next effects = admitted s next
+changed_by (Some ticket) s next effects = admitted s next ticket.moment
 
 -- a program gets a version
 abbrev pub installed_in : Situation → Option VerifiedProgram → Situation

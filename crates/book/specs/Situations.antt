@@ -58,14 +58,14 @@ pub record IsLater (before after : Standing) : Type 0 where
   pub least : before.period ≤ after.period
   pub same : after.period ≡ before.period → after ≡ before
 
--- the next ticket, of a period
-abbrev pub next_open : Situation → ℕ → OpenTicket
-next_open s period = record { number = s.next_ticket; version = current_version s; period = period }
+-- the next ticket, of a period and a moment
+abbrev pub next_open : Situation → ℕ → ℕ → OpenTicket
+next_open s period moment = record { number = s.next_ticket; version = current_version s; period = period; moment = moment }
 
 -- the next ticket is issued where a place is free and nothing else happens, and a note is not before another
 pub record AreEffects (s : Situation) (next : Standing) (effects : Effects) : Type 0 where
   pub later : IsLater s.standing next
-  pub issue : (ticket : OpenTicket) → effects.issued ≡ Some ticket → (ticket ≡ next_open s next.period) × (effects.ended ≡ None) × (effects.note ≡ None) × (length s.open_tickets < s.config.max_concurrent_calls)
+  pub issue : (ticket : OpenTicket) → effects.issued ≡ Some ticket → (ticket ≡ next_open s next.period ticket.moment) × (effects.ended ≡ None) × (effects.note ≡ None) × (length s.open_tickets < s.config.max_concurrent_calls)
   pub note : (n : Note) → effects.note ≡ Some n → AreNotAfter n.moment s.notes
 
 -- what a change of tickets and of the breaker leaves

@@ -4,7 +4,8 @@ ghost use Rattle.std.specs.Arc.{arc_value};
 ghost use Rattle.std.specs.Vec.{vec_len, vec_capacity};
 ghost use Rattle.service_profile.specs.Answers.{IsApplied, IsLooked, reading, lines_from, map_ok};
 ghost use Rattle.service_profile.specs.Openings.{IsOpening};
-ghost use Rattle.service_profile.specs.FirstOpening.{first_opening};
+ghost use Rattle.service_profile.specs.FirstOpening.{first_opening, first_opening_from};
+ghost use Rattle.service_profile.specs.Limits.{greatest_number};
 ghost use Rattle.service_profile.specs.Events.{history_of};
 ghost use Rattle.book.specs.Books.{opening_of};
 ghost use Rattle.service_profile.specs.Histories.{IsLegal, past_of, situation_of, next_line};
@@ -69,6 +70,23 @@ impl Book {
         ensures legal { IfOk result IsLegal }
         ensures sound { IfOk result (λ book. IsSound IsSafeProgram (past_of book)) }
     {
+        Book::open_from(alloc, config, program, 1)
+    }
+
+    /// The same, whose first ticket has a number of its own, from 1 to 2^63. A ticket of a number below it counts as
+    /// issued and ended.
+    pub fn open_from(
+        alloc: Global,
+        config: Config,
+        program: Verified,
+        first_ticket: u64,
+    ) -> Result<Book, AllocError>
+        requires least { 1 ≤ first_ticket }
+        requires most { first_ticket ≤ greatest_number }
+        ensures opened { IfOk result (λ book. book ≡ history_of (first_opening_from first_ticket config program) []) }
+        ensures legal { IfOk result IsLegal }
+        ensures sound { IfOk result (λ book. IsSound IsSafeProgram (past_of book)) }
+    {
         // What is known of a configuration and of a verified program is kept by the book.
         know_config(&config);
         know_program(&program);
@@ -76,7 +94,7 @@ impl Book {
             program: Arc::new(alloc, program)?,
             version: 1,
             period: 1,
-            ticket: 1,
+            ticket: first_ticket,
             line: 1,
             moment: 0,
         };
@@ -166,6 +184,7 @@ impl Book {
             free: service.free_places(),
             not_permitted: service.refused,
             entries: self.last_number(),
+            oldest_ticket: service.oldest_ticket(),
         }
     }
 

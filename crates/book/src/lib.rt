@@ -22,6 +22,6 @@ pub use books::Book;
 pub use calls::{Apply, Call, Cut, Look, Page, Read, Roll};
 pub use events::{Entry, Event};
 pub use service_profile::{
-    BadConfig, Config, ConfigField, ConfigParts, Fate, Note, Reading, Reply, SlidingWindowType,
-    State, Totals,
+    BadConfig, Config, ConfigField, ConfigParts, Fate, Note, OpenTicket, Reading, Reply,
+    SlidingWindowType, State, Totals,
 };

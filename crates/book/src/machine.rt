@@ -59,6 +59,7 @@ fn acquired(found: &FoundService<'_>, moment: u64) -> Plan
         number: found.next_ticket(),
         version: found.current_version(),
         period: permission.standing.period,
+        moment,
     };
     permitted(permission.standing, ticket)
 }

@@ -1,6 +1,6 @@
 //! The parts of a service, and what the book asks of them. Contracts speak of a situation that the parts stand
 //! for.
-ghost use Rattle.std.specs.Prelude.{◌≡◌, ◌+◌, ◌-◌, ◌≤◌, ◌++◌, ◌∷◌, [], ℕ, length, nat_le, Some, IfOk};
+ghost use Rattle.std.specs.Prelude.{◌≡◌, ◌+◌, ◌-◌, ◌≤◌, ◌++◌, ◌∷◌, [], ℕ, length, nat_le, slice_get, Some, IfOk};
 ghost use Rattle.std.specs.Arc.{arc_value};
 ghost use Rattle.std.specs.Option.{option_map};
 ghost use Rattle.breaker.specs.Calls.{metrics_of};
@@ -21,7 +21,7 @@ use breaker::{Breaker, Metrics};
 use bulkhead::Bulkhead;
 use refusals::RefusalNumber;
 use registry::Registry;
-use service_profile::{Config, Note, Permission, Standing};
+use service_profile::{Config, Note, OpenTicket, Permission, Standing};
 use std::alloc::{AllocError, Global};
 use std::sync::Arc;
 use verifier::Verified;
@@ -100,6 +100,13 @@ impl Parts {
         ensures { (held : ℕ) (s : Situation) → StandsFor self.now held s → result ≡ length s.open_tickets }
     {
         self.registry.open_count()
+    }
+
+    /// The open ticket that was issued first, where any is open.
+    pub(crate) fn oldest_ticket(&self) -> Option<OpenTicket>
+        ensures { (held : ℕ) (s : Situation) → StandsFor self.now held s → result ≡ slice_get s.open_tickets 0 }
+    {
+        self.registry.oldest_ticket()
     }
 
     /// Whether the bulkhead has no place left.

@@ -80,16 +80,16 @@ impl Parts {
         self.stand(next, effects.note);
     }
 
-    /// Goes on where a call is permitted: a ticket is issued, and takes a permission and a place. An error,
+    /// Goes on where a call is permitted at a moment: a ticket is issued, and takes a permission and a place. An error,
     /// want of memory, leaves everything as it was.
-    fn admit(&mut self, next: Standing) -> Result<(), AllocError>
+    fn admit(&mut self, next: Standing, moment: u64) -> Result<(), AllocError>
         requires situation { HasSituation self.old }
         requires leads { Leads self.old next }
         ensures kept { KeepsVersions self.old self.new }
-        ensures stands { OnOk result ((held : ℕ) (s : Situation) → StandsFor self.old held s → IsOrderly s → IsLater s.standing next → length s.open_tickets < s.config.max_concurrent_calls → StandsFor self.new held (admitted s next)) }
+        ensures stands { OnOk result ((held : ℕ) (s : Situation) → StandsFor self.old held s → IsOrderly s → IsLater s.standing next → length s.open_tickets < s.config.max_concurrent_calls → StandsFor self.new held (admitted s next moment)) }
         ensures unchanged { OnErr result ((held : ℕ) (s : Situation) → StandsFor self.old held s → StandsFor self.new held s) }
     {
-        self.registry.issue(next.period)?;
+        self.registry.issue(next.period, moment)?;
         few_notes_leave_room();
         self.breaker.follow(next, None);
         self.breaker.take_permission();
@@ -106,7 +106,7 @@ impl Parts {
         ensures unchanged { OnErr result ((held : ℕ) (s : Situation) → StandsFor self.old held s → StandsFor self.new held s) }
     {
         match effects.issued {
-            Some(_) => self.admit(next),
+            Some(ticket) => self.admit(next, ticket.moment),
             None => {
                 self.settle(next, effects);
                 Ok(())

@@ -1,8 +1,9 @@
 //! Slots, each with the book of a service, and places from which it is called.
-ghost use Rattle.std.specs.Prelude.{◌≡◌, ◌<◌, ◌+◌, [], Some, IfOk, IfSome, IfNone};
+ghost use Rattle.std.specs.Prelude.{◌≡◌, ◌<◌, ◌≤◌, ◌+◌, [], Some, IfOk, IfSome, IfNone};
 ghost use Rattle.book_slot.specs.Origins.{IsOf};
 ghost use Rattle.service_profile.specs.Events.{history_of};
-ghost use Rattle.service_profile.specs.FirstOpening.{first_opening};
+ghost use Rattle.service_profile.specs.FirstOpening.{first_opening, first_opening_from};
+ghost use Rattle.service_profile.specs.Limits.{greatest_number};
 ghost use Rattle.book_slot.specs.Courses.{AreOfOne, Course, IsCourseOf, EachBegins, IsMadeBy};
 ghost use Rattle.book_slot.specs.Views.{trace};
 ghost use Rattle.book_slot.specs.Trying.{newcomer};
@@ -69,7 +70,22 @@ impl Slot {
         ensures opened { IfOk result (λ slot. slot.origin ≡ Some (history_of (first_opening config program) [])) }
         ensures none_dealt { IfOk result (λ slot. (slot.dealt ≡ 0) × (slot.back ≡ 0) × (slot.known ≡ [])) }
     {
-        let book = Book::open(alloc, config, program)?;
+        Slot::open_from(alloc, config, program, 1)
+    }
+
+    /// The same, whose first ticket has this number, from 1 to 2^63.
+    pub fn open_from(
+        alloc: Global,
+        config: Config,
+        program: Verified,
+        first_ticket: u64,
+    ) -> Result<Slot, AllocError>
+        requires least { 1 ≤ first_ticket }
+        requires most { first_ticket ≤ greatest_number }
+        ensures opened { IfOk result (λ slot. slot.origin ≡ Some (history_of (first_opening_from first_ticket config program) [])) }
+        ensures none_dealt { IfOk result (λ slot. (slot.dealt ≡ 0) × (slot.back ≡ 0) × (slot.known ≡ [])) }
+    {
+        let book = Book::open_from(alloc, config, program, first_ticket)?;
         let mut slots = Vec::new(alloc);
         let origin = GhostList::new().and(&book);
         slots.push(book)?;

@@ -35,7 +35,7 @@ fn file_words(alloc: Global, file: Object<'_>, mistake: FileMistake) -> Result<S
             file,
             "the file",
             FILE_KEYS,
-            "listen, workers, keeper, connections, open and services",
+            "listen, workers, keeper, connections, open, tickets and services",
         ),
         FileMistake::Listen => wrong(
             alloc,
@@ -47,6 +47,7 @@ fn file_words(alloc: Global, file: Object<'_>, mistake: FileMistake) -> Result<S
         FileMistake::Keeper => wrong(alloc, file, "keeper", "\"lock\" or \"slot\""),
         FileMistake::Connections => bad_number(alloc, file, "connections", CONNECTIONS),
         FileMistake::Open => bad_number(alloc, file, "open", OPEN_LIMITS),
+        FileMistake::Tickets => wrong(alloc, file, "tickets", "\"from 1\" or \"by the clock\""),
         FileMistake::Services => services_words(alloc, file),
         FileMistake::Service(number, mistake) => service_words(alloc, file.value, number, mistake),
     }

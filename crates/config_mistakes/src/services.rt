@@ -1,10 +1,16 @@
 //! Mistakes of the services in a file.
 use crate::configurations::config_words;
-use crate::values::{Object, bad_keys, wrong};
+use crate::values::{Object, bad_keys, bad_number, wrong};
 use serde_json::Value;
 use service_file::{COUNTS, SERVICE_KEYS, ServiceMistake};
 use service_profile::Range;
 use std::alloc::{AllocError, Global};
+
+/// How old tickets may get, in milliseconds; 0 for any age.
+const AGES: Range = Range {
+    least: 0,
+    most: u64::MAX,
+};
 
 /// Returns the service of a number in a file, from 0 on, or the file where it has none.
 fn found(file: &Value, number: usize) -> &Value {
@@ -39,7 +45,7 @@ pub(crate) fn service_words(
             service,
             "",
             SERVICE_KEYS,
-            "name, config, program, layout and journal",
+            "name, config, program, layout, journal and maxTicketAge",
         ),
         ServiceMistake::Name => name_words(alloc, service),
         ServiceMistake::NameTaken => wrong(
@@ -55,6 +61,7 @@ pub(crate) fn service_words(
         }
         ServiceMistake::Layout => wrong(alloc, service, "layout", "the whole number 1 or 2"),
         ServiceMistake::Journal => wrong(alloc, service, "journal", "\"keep\" or \"last\""),
+        ServiceMistake::MaxTicketAge => bad_number(alloc, service, "maxTicketAge", AGES),
         ServiceMistake::NoProgram => wrong(
             alloc,
             service,

@@ -15,17 +15,17 @@ use Rattle.service_profile.specs.Histories.{Past, past_of, opened, passed, situa
 use Rattle.service_profile.specs.Limits.{greatest_number}
 use Rattle.service_profile.specs.Machine.{is_entered, current_version}
 use Rattle.book.proofs.Deciding.{decision_near}
-use Rattle.service_profile.specs.FirstOpening.{first_opening}
+use Rattle.service_profile.specs.FirstOpening.{first_opening_from}
 use Rattle.book.specs.Good.{IsGood}
 use Rattle.desk.specs.Kept.{IsOfOne, AreOfSome, most_cuts}
 use Rattle.book.specs.Reopened.{IsOpeningAfter}
 use Rattle.service_profile.specs.declared.configuration.Config.{Config}
 use Rattle.verifier.specs.declared.verified.Verified.{Verified}
-use Rattle.desk.specs.Services.{ServiceData, service_of}
+use Rattle.desk.specs.Services.{ServiceData, service_from}
 
 -- it goes by the opening
 pub of_same : (services : List ServiceData) (number : ℕ) (h after : History) → after.opening ≡ h.opening → IsOfOne services number h → IsOfOne services number after
-of_same services number h after same of_ = (of_.0, of_.1, subst (λ o. IsOpeningAfter (first_opening of_.0.config of_.0.program) number o) (sym same) of_.2)
+of_same services number h after same of_ = (of_.0, of_.1, subst (λ o. IsOpeningAfter (first_opening_from of_.0.ticket of_.0.config of_.0.program) number o) (sym same) of_.2)
 
 entered_opening : (h : History) (l : EntryData) (b : Bool) → (if b then with_line h l else h).opening ≡ h.opening
 entered_opening h l true = refl
@@ -112,24 +112,26 @@ fewer : {A B : Type 0} (f : A → B) (done : List A) (x : A) (later : List A) �
 fewer f [] x later = omega arith
 fewer f (y ∷ done) x later = let e : length done < length (map f (done ++ x ∷ later)) = fewer f done x later in omega (arith, e)
 
--- the history of a service that opens is of one of those that are opened
-pub opens_one : (done later : List (String Global × Config × Verified)) (part : String Global × Config × Verified) (services : List ServiceData) (whole : List (String Global × Config × Verified)) → services ≡ map service_of whole → whole ≡ done ++ (part ∷ later) → IsOfOne services 0 (history_of (first_opening part.1 part.2) [])
-opens_one done later part services whole offered is =
-    let all : services ≡ map service_of (done ++ part ∷ later) = offered ∙ ap (λ w. map service_of w) is in
-    let among : Contains (map service_of (done ++ part ∷ later)) (service_of part) = (length done, fewer service_of done part later, behind service_of done part later (service_of part)) in
-    (service_of part, subst (λ s. Contains s (service_of part)) (sym all) among, refl)
+-- the services that are opened are numbered by this first ticket
+module _ (ticket : ℕ) where
+  -- the history of a service that opens is of one of those that are opened
+  pub opens_one : (done later : List (String Global × Config × Verified)) (part : String Global × Config × Verified) (services : List ServiceData) (whole : List (String Global × Config × Verified)) → services ≡ map (service_from ticket) whole → whole ≡ done ++ (part ∷ later) → IsOfOne services 0 (history_of (first_opening_from ticket part.1 part.2) [])
+  opens_one done later part services whole offered is =
+      let all : services ≡ map (service_from ticket) (done ++ part ∷ later) = offered ∙ ap (λ w. map (service_from ticket) w) is in
+      let among : Contains (map (service_from ticket) (done ++ part ∷ later)) (service_from ticket part) = (length done, fewer (service_from ticket) done part later, behind (service_from ticket) done part later (service_from ticket part)) in
+      (service_from ticket part, subst (λ s. Contains s (service_from ticket part)) (sym all) among, refl)
 
-named : (openings : List (String Global × Config × Verified)) → map (λ (s : ServiceData). s.name) (map service_of openings) ≡ map (λ (o : String Global × Config × Verified). string_bytes o.0) openings
-named [] = refl
-named (opening ∷ openings) = ap (λ later. string_bytes opening.0 ∷ later) (named openings)
+  named : (openings : List (String Global × Config × Verified)) → map (λ (s : ServiceData). s.name) (map (service_from ticket) openings) ≡ map (λ (o : String Global × Config × Verified). string_bytes o.0) openings
+  named [] = refl
+  named (opening ∷ openings) = ap (λ later. string_bytes opening.0 ∷ later) (named openings)
 
--- what lies behind the locks has the names of the services that are opened, and as many there are
-pub names_offered : {A : Type 0} (name : A → List ℕ) (services : List ServiceData) (openings : List (String Global × Config × Verified)) (opened : List A) → services ≡ map service_of openings → map name opened ≡ map (λ (o : String Global × Config × Verified). string_bytes o.0) openings → map (λ (s : ServiceData). s.name) services ≡ map name opened
-names_offered name services openings opened offered names = ap (λ ss. map (λ (s : ServiceData). s.name) ss) offered ∙ (named openings ∙ sym names)
+  -- what lies behind the locks has the names of the services that are opened, and as many there are
+  pub names_offered : {A : Type 0} (name : A → List ℕ) (services : List ServiceData) (openings : List (String Global × Config × Verified)) (opened : List A) → services ≡ map (service_from ticket) openings → map name opened ≡ map (λ (o : String Global × Config × Verified). string_bytes o.0) openings → map (λ (s : ServiceData). s.name) services ≡ map name opened
+  names_offered name services openings opened offered names = ap (λ ss. map (λ (s : ServiceData). s.name) ss) offered ∙ (named openings ∙ sym names)
 
-pub as_many_offered : {A : Type 0} (name : A → List ℕ) (services : List ServiceData) (openings : List (String Global × Config × Verified)) (opened : List A) → services ≡ map service_of openings → map name opened ≡ map (λ (o : String Global × Config × Verified). string_bytes o.0) openings → length services ≡ length opened
-as_many_offered name services openings opened offered names =
-    sym (length-map services (λ (s : ServiceData). s.name)) ∙ (ap length (names_offered name services openings opened offered names) ∙ length-map opened name)
+  pub as_many_offered : {A : Type 0} (name : A → List ℕ) (services : List ServiceData) (openings : List (String Global × Config × Verified)) (opened : List A) → services ≡ map (service_from ticket) openings → map name opened ≡ map (λ (o : String Global × Config × Verified). string_bytes o.0) openings → length services ≡ length opened
+  as_many_offered name services openings opened offered names =
+      sym (length-map services (λ (s : ServiceData). s.name)) ∙ (ap length (names_offered name services openings opened offered names) ∙ length-map opened name)
 
 -- one history more
 pub one_more_of : (services : List ServiceData) (numbers : List ℕ) (histories : List History) (number : ℕ) (h : History) → AreOfSome services numbers histories → IsOfOne services number h → AreOfSome services (numbers ++ number ∷ []) (histories ++ h ∷ [])
@@ -145,7 +147,7 @@ sum_more numbers n = let e : sum (numbers ++ n ∷ []) ≡ sum numbers + sum (n 
 pub has_left : (services : List ServiceData) (number left : ℕ) (h : History) (lines : List EntryData) (after : History) → IsGood h → IsCut h (Ok lines) after → IsOfOne services number h → left + number ≡ most_cuts → 1 ≤ left
 has_left services number left h lines after good was of_ all =
     let next = of_cut services number h lines after good was of_ in
-    let few = few_cuts (first_opening next.0.config next.0.program) (suc number) after.opening refl next.2 in
+    let few = few_cuts (first_opening_from next.0.ticket next.0.config next.0.program) (suc number) after.opening refl next.2 in
     omega (arith, all, few.0, few.1)
 
 pub good_more : (histories : List History) (h : History) → AllByRecursion IsGood histories → IsGood h → AllByRecursion IsGood (histories ++ h ∷ [])

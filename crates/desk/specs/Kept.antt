@@ -2,7 +2,7 @@
 use Rattle.std.specs.Prelude.{◌≡◌, ℕ, ◌+◌, ◌-◌, ◌^◌, List, [], ◌∷◌, Contains, ⊤}
 use Rattle.service_profile.specs.Events.{History}
 use Rattle.service_profile.specs.Histories.{past_of, next_line}
-use Rattle.service_profile.specs.FirstOpening.{first_opening}
+use Rattle.service_profile.specs.FirstOpening.{first_opening_from}
 use Rattle.desk.specs.Services.{ServiceData}
 use Rattle.book.specs.Reopened.{IsOpeningAfter}
 use Rattle.book.specs.Good.{IsGood}
@@ -11,9 +11,9 @@ use Rattle.book.specs.Good.{IsGood}
 abbrev pub last_number : History → ℕ
 last_number history = next_line (past_of history) - 1
 
--- the history is that of one of these services, with its configuration and its first program, after so many cuts
+-- the history is that of one of these services, with its configuration, its first program and the number of its first ticket, after so many cuts
 abbrev pub IsOfOne : List ServiceData → ℕ → History → Type 0
-IsOfOne services cuts history = (service : ServiceData) × Contains services service × IsOpeningAfter (first_opening service.config service.program) cuts history.opening
+IsOfOne services cuts history = (service : ServiceData) × Contains services service × IsOpeningAfter (first_opening_from service.ticket service.config service.program) cuts history.opening
 
 -- each of these histories is, after as many cuts as stand at its place
 abbrev pub AreOfSome : List ServiceData → List ℕ → List History → Type 0

@@ -3,10 +3,11 @@ ghost use Rattle.std.specs.Prelude.{◌≡◌, ◌<◌, ◌≤◌, ◌+◌, ◌*
 ghost use Rattle.desk.specs.Desks.{desk_of, IsServiceOf};
 ghost use Rattle.service.specs.Desks.{most_seats, most_services};
 ghost use Rattle.service_profile.specs.Events.{history_of};
-ghost use Rattle.service_profile.specs.FirstOpening.{first_opening};
+ghost use Rattle.service_profile.specs.FirstOpening.{first_opening_from};
+ghost use Rattle.service_profile.specs.Limits.{greatest_number};
 ghost use Rattle.desk.specs.Kept.{IsOfOne, most_numbers, most_cuts};
 ghost use Rattle.desk.specs.Seats.{seat_of};
-ghost use Rattle.desk.specs.Services.{service_of};
+ghost use Rattle.desk.specs.Services.{service_of, service_from};
 ghost use Rattle.refusals.specs.declared.RefusalNumber.TheVariants.{SeatsFull};
 
 use crate::kept::Kept;
@@ -115,9 +116,30 @@ impl<L: Ledger, M: Ledger + Offered> Desk<L, M> {
         requires offered { M.services ≡ map service_of services.items }
         ensures opened { IfOk result (λ desk. desk ≡ desk_of (map service_of services.items) 0) }
     {
+        Desk::open_from(alloc, entries, cuts, services, 1)
+    }
+
+    /// The same, where each service's first ticket has this number, from 1 to 2^63.
+    pub fn open_from(
+        alloc: Global,
+        entries: Blank,
+        cuts: Blank,
+        services: Vec<(String, Config, Verified)>,
+        first_ticket: u64,
+    ) -> Result<Desk<L, M>, AllocError>
+        requires entries_name { entries.name ≡ L.name }
+        requires entries_parts { (entries.parts ≡ L.parts) × (L.parts ≡ 193) }
+        requires cuts_name { cuts.name ≡ M.name }
+        requires cuts_parts { (cuts.parts ≡ M.parts) × (M.parts ≡ 193) }
+        requires few { vec_len services ≤ most_services }
+        requires least { 1 ≤ first_ticket }
+        requires most { first_ticket ≤ greatest_number }
+        requires offered { M.services ≡ map (service_from first_ticket) services.items }
+        ensures opened { IfOk result (λ desk. desk ≡ desk_of (map (service_from first_ticket) services.items) 0) }
+    {
         let mut entries = Tokens::new(entries);
         let mut cuts = Tokens::new(cuts);
-        let services = behind_locks(alloc, &mut entries, &mut cuts, services)?;
+        let services = behind_locks(alloc, &mut entries, &mut cuts, services, first_ticket)?;
         Ok(Desk {
             services,
             given: 0,
@@ -171,12 +193,15 @@ fn opened<L: Ledger, M: Ledger + Offered>(
     cuts: &mut Tokens<M>,
     config: Config,
     program: Verified,
+    first_ticket: u64,
 ) -> Result<Kept<L, M>, AllocError>
     requires entry_parts { 1 ≤ entries.old.left.parts }
     requires no_entry { entries.old.left.amount ≡ 0 }
     requires cut_parts { 1 ≤ cuts.old.left.parts }
     requires no_cut { cuts.old.left.amount ≡ 0 }
-    requires of_service { IsOfOne M.services 0 (history_of (first_opening config program) []) }
+    requires least { 1 ≤ first_ticket }
+    requires most { first_ticket ≤ greatest_number }
+    requires of_service { IsOfOne M.services 0 (history_of (first_opening_from first_ticket config program) []) }
     ensures entry_parts { IfOk result (λ kept. entries.new.left.parts + 1 ≡ entries.old.left.parts) }
     ensures no_entry { IfOk result (λ kept. entries.new.left.amount ≡ 0) }
     ensures entries { IfOk result (λ kept. entries.new.book.total ≡ entries.old.book.total + most_numbers) }
@@ -184,7 +209,7 @@ fn opened<L: Ledger, M: Ledger + Offered>(
     ensures no_cut { IfOk result (λ kept. cuts.new.left.amount ≡ 0) }
     ensures cuts { IfOk result (λ kept. cuts.new.book.total ≡ cuts.old.book.total + most_cuts) }
 {
-    let book = Book::open(alloc, config, program)?;
+    let book = Book::open_from(alloc, config, program, first_ticket)?;
     let entries = entries.part(MOST_NUMBERS);
     let cuts = cuts.part(MOST_CUTS);
     Ok(Kept::new(book, entries, cuts))
@@ -196,12 +221,15 @@ fn behind_locks<L: Ledger, M: Ledger + Offered>(
     entries: &mut Tokens<L>,
     cuts: &mut Tokens<M>,
     services: Vec<(String, Config, Verified)>,
+    first_ticket: u64,
 ) -> Result<Vec<LockedService<L, M>>, AllocError>
     requires entry_parts { vec_len services < entries.old.left.parts }
     requires no_entry { entries.old.left.amount ≡ 0 }
     requires cut_parts { vec_len services < cuts.old.left.parts }
     requires no_cut { cuts.old.left.amount ≡ 0 }
-    requires offered { M.services ≡ map service_of services.items }
+    requires least { 1 ≤ first_ticket }
+    requires most { first_ticket ≤ greatest_number }
+    requires offered { M.services ≡ map (service_from first_ticket) services.items }
     ensures names { IfOk result (λ opened. map (λ service. string_bytes service.name) opened.items ≡ map (λ service. string_bytes service.0) services.items) }
     ensures entry_parts { IfOk result (λ opened. entries.new.left.parts + vec_len opened ≡ entries.old.left.parts) }
     ensures no_entry { IfOk result (λ opened. entries.new.left.amount ≡ 0) }
@@ -212,7 +240,7 @@ fn behind_locks<L: Ledger, M: Ledger + Offered>(
 {
     let mut behind = Vec::new(alloc);
     for (name, config, program) in services {
-        let kept = Mutex::new(opened(alloc, entries, cuts, config, program)?);
+        let kept = Mutex::new(opened(alloc, entries, cuts, config, program, first_ticket)?);
         behind.push(LockedService { name, kept })?;
     }
     Ok(behind)

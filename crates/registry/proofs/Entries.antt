@@ -1,6 +1,6 @@
 -- What a map's entries say of the tickets that they stand for. The map has the greatest number first, and the
 -- tickets are in the order of their numbers.
-use Rattle.std.proofs.Common.{◌≡◌, ℕ, min, ◌<◌, ◌==◌, ◌||◌, not, Bool, true, false, cond, map, length, Option, Some, None, List, [], ◌∷◌, ◌++◌, arith, refl, sym, ap, subst, ◌∙◌, Ordering, Less}
+use Rattle.std.proofs.Common.{◌≡◌, ℕ, min, ◌<◌, ◌==◌, ◌||◌, not, Bool, true, false, cond, map, length, slice_get, ◌-◌, Option, Some, None, List, [], ◌∷◌, ◌++◌, arith, refl, sym, ap, subst, ◌∙◌, Ordering, Less}
 use Rattle.std.proofs.lemmas.Bool.Decides.{nat_tests}
 use Rattle.std.proofs.lemmas.List.{length-append}
 use Rattle.std.proofs.lemmas.List.Elements.{filter-append}
@@ -194,6 +194,24 @@ in_order es sorted = IsStrictlyIncreasing-from_sorted (numbers_of (tickets_of es
 pub as_many : (es : List (Reverse ℕ × Terms)) → length (tickets_of es) ≡ length es
 as_many [] = refl
 as_many (e ∷ es) = let rest = as_many es in let joined = length-append (tickets_of es) (ticket_of e.0.0 e.1 ∷ []) in omega (arith, rest, joined)
+
+-- ---- the oldest
+
+-- a ticket more behind others changes nothing about the first
+first_stays : (ts : List OpenTicket) (u t : OpenTicket) → slice_get ((ts ++ u ∷ []) ++ t ∷ []) 0 ≡ slice_get (ts ++ u ∷ []) 0
+first_stays [] u t = refl
+first_stays (x ∷ ts) u t = refl
+
+oldest_at : (e : Reverse ℕ × Terms) (es : List (Reverse ℕ × Terms)) → slice_get (tickets_of (e ∷ es)) 0 ≡ option_map (λ d. ticket_of d.0.0 d.1) (slice_get (e ∷ es) (length es))
+oldest_at e [] = refl
+oldest_at e (f ∷ es) = first_stays (tickets_of es) (ticket_of f.0.0 f.1) (ticket_of e.0.0 e.1) ∙ oldest_at f es
+
+-- the first ticket is that of the map's last entry
+pub oldest_is : (es : List (Reverse ℕ × Terms)) → slice_get (tickets_of es) 0 ≡ option_map (λ e. ticket_of e.0.0 e.1) (slice_get es (length es - 1))
+oldest_is [] = refl
+oldest_is (e ∷ es) =
+    let last : length es ≡ length (e ∷ es) - 1 = omega arith in
+    oldest_at e es ∙ ap (λ (n : ℕ). option_map (λ d. ticket_of d.0.0 d.1) (slice_get (e ∷ es) n)) last
 
 -- ---- the least version
 

@@ -1,5 +1,5 @@
 -- What is said of the tickets where the newest one lies beside the others.
-use Rattle.std.proofs.Common.{◌≡◌, ℕ, ◌<◌, ◌==◌, not, Bool, true, false, cond, Option, Some, None, List, [], ◌∷◌, ◌++◌, arith, refl, sym, ap, subst, ◌∙◌, Less}
+use Rattle.std.proofs.Common.{◌≡◌, ℕ, ◌<◌, ◌==◌, not, Bool, true, false, cond, slice_get, Option, Some, None, List, [], ◌∷◌, ◌++◌, arith, refl, sym, ap, subst, ◌∙◌, Less}
 use Rattle.std.proofs.lemmas.Bool.Decides.{nat_tests}
 use Rattle.std.proofs.lemmas.List.Elements.{filter-append}
 use Rattle.std.proofs.lemmas.Map.Keys.{IsStrictlyIncreasing-from_sorted, sorted_from_strictly_increasing}
@@ -27,6 +27,18 @@ none_below n (t ∷ ts) below = ap (λ (b : Bool). cond b (Some t) (open_ticket 
 
 at_number : (t : OpenTicket) (n : ℕ) (ts : List OpenTicket) → (t.number == n) ≡ true → AreBelow t.number ts → AreBelow n ts
 at_number t n ts same below = subst (λ (m : ℕ). AreBelow m ts) (same_number n t.number same) below
+
+-- where any ticket is older, the first of them comes first
+pub oldest_older : (older : List OpenTicket) (newest : Option OpenTicket) (oldest : OpenTicket) → Some oldest ≡ slice_get older 0 → Some oldest ≡ slice_get (with_newest older newest) 0
+oldest_older [] newest oldest e = let bad : ◌≡◌ {A = Option OpenTicket} (Some oldest) None = e in cc
+oldest_older (t ∷ older) None oldest e = e
+oldest_older (t ∷ older) (Some u) oldest e = e
+
+-- else the newest one
+pub oldest_newest : (older : List OpenTicket) (newest : Option OpenTicket) → None ≡ slice_get older 0 → newest ≡ slice_get (with_newest older newest) 0
+oldest_newest [] None e = refl
+oldest_newest [] (Some u) e = refl
+oldest_newest (t ∷ older) newest e = let bad : ◌≡◌ {A = Option OpenTicket} None (Some t) = e in cc
 
 pub newest_found : (n : ℕ) (older : List OpenTicket) (newest : Option OpenTicket) → IsNewest older newest → has_number newest n ≡ true → newest ≡ open_ticket (with_newest older newest) n
 newest_found n older None is has = let bad : ◌≡◌ {A = Bool} false true = has in cc

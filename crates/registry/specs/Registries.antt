@@ -77,12 +77,12 @@ is_issued r ticket = nat_le 1 ticket && nat_lt ticket r.next_ticket
 abbrev pub Ascend : List OpenTicket → Type 0
 Ascend tickets = IsStrictlyIncreasing (map (λ ticket. ticket.number) tickets)
 
--- the next ticket of a period
-abbrev pub next_open : RegistryData → ℕ → OpenTicket
-next_open r period = record { number = r.next_ticket; version = current_version r; period = period }
+-- the next ticket, of a period and a moment
+abbrev pub next_open : RegistryData → ℕ → ℕ → OpenTicket
+next_open r period moment = record { number = r.next_ticket; version = current_version r; period = period; moment = moment }
 
-abbrev pub with_ticket : RegistryData → ℕ → RegistryData
-with_ticket r period = record r { open_tickets = r.open_tickets ++ next_open r period ∷ []; next_ticket = r.next_ticket + 1 }
+abbrev pub with_ticket : RegistryData → ℕ → ℕ → RegistryData
+with_ticket r period moment = record r { open_tickets = r.open_tickets ++ next_open r period moment ∷ []; next_ticket = r.next_ticket + 1 }
 
 abbrev pub without_ticket : RegistryData → ℕ → RegistryData
 without_ticket r number = record r { open_tickets = filter (λ ticket. not (ticket.number == number)) r.open_tickets }

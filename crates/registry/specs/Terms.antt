@@ -7,7 +7,7 @@ use Rattle.registry.specs.declared.ticket_map.Terms.{Terms}
 
 -- the ticket of a number and its terms
 abbrev pub ticket_of : ℕ → Terms → OpenTicket
-ticket_of number terms = record { number = number; version = terms.version; period = terms.period }
+ticket_of number terms = record { number = number; version = terms.version; period = terms.period; moment = terms.moment }
 
 -- the tickets that a map's entries stand for, in the order of their numbers; the map has the greatest first
 abbrev pub tickets_of : List (Reverse ℕ × Terms) → List OpenTicket

@@ -1,5 +1,5 @@
 //! What a registry holds.
-ghost use Rattle.std.specs.Prelude.{◌≡◌, ◌<◌, ◌≤◌, ◌+◌, ◌^◌, nat_le, nat_lt, ◌&&◌, length, Some, IsTrue, IfSome, IfOk};
+ghost use Rattle.std.specs.Prelude.{◌≡◌, ◌<◌, ◌≤◌, ◌+◌, ◌^◌, nat_le, nat_lt, ◌&&◌, length, slice_get, Some, IsTrue, IfSome, IfOk};
 ghost use Rattle.std.specs.Arc.{arc_value};
 ghost use Rattle.std.specs.Option.{option_map};
 ghost use Rattle.service_profile.specs.Limits.{most_versions};
@@ -119,6 +119,13 @@ impl Registry {
         ensures held { AreTicketsOf self.now self.now.open_tickets }
     {
         self.open_tickets.len()
+    }
+
+    /// The open ticket that was issued first, where any is open. Its number is the least.
+    pub fn oldest_ticket(&self) -> Option<OpenTicket>
+        ensures { result ≡ slice_get self.now.open_tickets 0 }
+    {
+        self.open_tickets.oldest()
     }
 
     /// The open ticket of a number. Its version is held.

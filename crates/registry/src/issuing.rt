@@ -13,17 +13,19 @@ use std::sync::Arc;
 use verifier::Verified;
 
 impl Registry {
-    /// Issues a ticket of a period, with the next number and the current version. Without memory nothing changes.
-    pub fn issue(&mut self, period: u64) -> Result<OpenTicket, AllocError>
+    /// Issues a ticket of a period at a moment, with the next number and the current version. Without memory nothing
+    /// changes.
+    pub fn issue(&mut self, period: u64, moment: u64) -> Result<OpenTicket, AllocError>
         requires { self.old.next_ticket + 1 < 2 ^ 64 }
-        ensures ticket { IfOk result (λ ticket. ticket ≡ next_open self.old period) }
-        ensures ok { OnOk result (self.new ≡ with_ticket self.old period) }
+        ensures ticket { IfOk result (λ ticket. ticket ≡ next_open self.old period moment) }
+        ensures ok { OnOk result (self.new ≡ with_ticket self.old period moment) }
         ensures err { OnErr result (self.new ≡ self.old) }
     {
         let ticket = OpenTicket {
             number: self.next_ticket,
             version: self.current_version(),
             period,
+            moment,
         };
         self.open_tickets.insert(ticket)?;
         self.next_ticket += 1;

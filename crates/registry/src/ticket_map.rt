@@ -1,5 +1,5 @@
 //! Tickets in a map, by their numbers.
-ghost use Rattle.std.specs.Prelude.{◌≡◌, ◌==◌, ◌<◌, ◌^◌, not, length, [], ◌∷◌, ◌++◌, OnOk, OnErr};
+ghost use Rattle.std.specs.Prelude.{◌≡◌, ◌==◌, ◌<◌, ◌^◌, not, length, slice_get, [], ◌∷◌, ◌++◌, OnOk, OnErr};
 ghost use Rattle.std.specs.BTreeMap.{values};
 ghost use Rattle.std.specs.List.{AllByRecursion, filter};
 ghost use Rattle.std.specs.Option.{option_map};
@@ -19,6 +19,7 @@ use std::marker::Model;
 pub(crate) struct Terms {
     pub version: u64,
     pub period: u64,
+    pub moment: u64,
 }
 
 /// Tickets in a map. Contracts see their list, in the order of their numbers. Each call takes time
@@ -53,6 +54,7 @@ fn ticket_of(number: u64, terms: Option<Terms>) -> Option<OpenTicket>
             number,
             version: terms.version,
             period: terms.period,
+            moment: terms.moment,
         }),
         None => None,
     }
@@ -88,6 +90,16 @@ impl TicketMap {
         self.terms.len()
     }
 
+    /// The ticket that was issued first, where any is open: that of the least number, the last one of the map.
+    pub(crate) fn oldest(&self) -> Option<OpenTicket>
+        ensures { result ≡ slice_get self.now 0 }
+    {
+        match self.terms.last_key_value() {
+            Some((Reverse(number), terms)) => ticket_of(*number, Some(*terms)),
+            None => None,
+        }
+    }
+
     /// The open ticket of a number.
     pub(crate) fn get(&self, number: u64) -> Option<OpenTicket>
         ensures { result ≡ open_ticket self.now number }
@@ -118,6 +130,7 @@ impl TicketMap {
         let terms = Terms {
             version: ticket.version,
             period: ticket.period,
+            moment: ticket.moment,
         };
         self.terms.insert(Reverse(ticket.number), terms)?;
         Ok(())

@@ -1,5 +1,5 @@
 //! Open tickets.
-ghost use Rattle.std.specs.Prelude.{◌≡◌, ◌==◌, ◌<◌, not, length, [], ◌∷◌, ◌++◌, OnOk, OnErr};
+ghost use Rattle.std.specs.Prelude.{◌≡◌, ◌==◌, ◌<◌, not, length, slice_get, [], ◌∷◌, ◌++◌, OnOk, OnErr};
 ghost use Rattle.std.specs.List.{AllByRecursion, filter};
 ghost use Rattle.service_profile.specs.Answers.{least_version};
 ghost use Rattle.service_profile.specs.Machine.{open_ticket, is_open};
@@ -63,6 +63,16 @@ impl OpenTickets {
         match self.newest {
             Some(_) => older + 1,
             None => older,
+        }
+    }
+
+    /// The ticket that was issued first, where any is open.
+    pub(crate) fn oldest(&self) -> Option<OpenTicket>
+        ensures { result ≡ slice_get self.now 0 }
+    {
+        match self.older.oldest() {
+            Some(oldest) => Some(oldest),
+            None => self.newest,
         }
     }
 

@@ -1,1 +1,2 @@
 mod Roomy
+mod Aging

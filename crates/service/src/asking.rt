@@ -9,7 +9,7 @@ use crate::calls::BookCalls;
 use crate::gate::Gate;
 use crate::request::{Report, Request};
 use crate::response::Response;
-use crate::upkeep::{Upkeep, call};
+use crate::upkeep::{Upkeep, acquire, call};
 use book::{Apply, Cut, Entry, Event, Look, Page, Read, Reply, Roll};
 use bpf_profile::Layout;
 use bpf_run::judge;
@@ -34,14 +34,14 @@ fn report_with<P, B: BookCalls<P>, G: Gate>(
     ensures fits { B.fits place.now book.new }
 {
     let Report { ticket, outcome } = report;
-    match call(book, place, upkeep, Look(ticket)) {
+    match call(book, place, upkeep.journal, Look(ticket)) {
         Ok(program) => {
             let judged = judge(program, outcome);
             gate.between(ticket);
             call(
                 book,
                 place,
-                upkeep,
+                upkeep.journal,
                 Apply(moment, Event::Finish(judged, ticket)),
             )
         }
@@ -90,7 +90,7 @@ fn install<P, B: BookCalls<P>>(
         Ok(program) => Response::Reply(call(
             book,
             place,
-            upkeep,
+            upkeep.journal,
             Apply(moment, Event::Install(program)),
         )),
         Err(error) => Response::ProgramRefused(Refusal::from(AllocError::from(error))),
@@ -120,7 +120,7 @@ fn page(from: u64, found: Result<Vec<Entry>, RefusalNumber>) -> Response
 /// Asks a service at a moment, in milliseconds, by whoever calls its book. A report is a look at its ticket, a run of the
 /// ticket's classifier and a finish; a program is verified before it is installed. Whatever is refused for
 /// want of memory changes nothing. A service that does its own upkeep makes room in a full journal before an event is refused
-/// for it, and then makes the event.
+/// for it, and then makes the event; and releases tickets that are too old before it asks for another.
 pub fn ask<P, B: BookCalls<P>, G: Gate>(
     alloc: Global,
     book: &mut B,
@@ -138,19 +138,14 @@ pub fn ask<P, B: BookCalls<P>, G: Gate>(
     ensures fits { B.fits place.now book.new }
 {
     match request {
-        Request::Acquire => Response::Reply(call(
-            book,
-            place,
-            upkeep,
-            Apply(moment, Event::Acquire),
-        )),
+        Request::Acquire => Response::Reply(acquire(book, place, upkeep, moment)),
         Request::Report(reported) => {
             Response::Reply(report_with(book, place, upkeep, moment, reported, gate))
         }
         Request::Release(ticket) => Response::Reply(call(
             book,
             place,
-            upkeep,
+            upkeep.journal,
             Apply(moment, Event::Release(ticket)),
         )),
         Request::Install { program, layout } => {
@@ -167,13 +162,18 @@ pub fn ask<P, B: BookCalls<P>, G: Gate>(
         Request::Move(state) => Response::Reply(call(
             book,
             place,
-            upkeep,
+            upkeep.journal,
             Apply(moment, Event::Move(state)),
         )),
-        Request::Reset => Response::Reply(call(book, place, upkeep, Apply(moment, Event::Reset))),
-        Request::Read => Response::Reading(call(book, place, upkeep, Read(moment))),
-        Request::Page(from) => page(from, call(book, place, upkeep, Page(from))),
-        Request::Cut => handed_out(call(book, place, upkeep, Cut)),
-        Request::Roll(last) => handed_out(call(book, place, upkeep, Roll(last))),
+        Request::Reset => Response::Reply(call(
+            book,
+            place,
+            upkeep.journal,
+            Apply(moment, Event::Reset),
+        )),
+        Request::Read => Response::Reading(call(book, place, upkeep.journal, Read(moment))),
+        Request::Page(from) => page(from, call(book, place, upkeep.journal, Page(from))),
+        Request::Cut => handed_out(call(book, place, upkeep.journal, Cut)),
+        Request::Roll(last) => handed_out(call(book, place, upkeep.journal, Roll(last))),
     }
 }

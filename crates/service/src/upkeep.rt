@@ -1,9 +1,12 @@
-//! What a service does for its own upkeep, before a call is answered that it would otherwise refuse.
-ghost use Rattle.std.specs.Prelude.{◌≡◌};
-ghost use Rattle.service.specs.Upkept.{HasMadeRoom, IsUpkept, upkeep_at};
+//! What a service does for its own upkeep, before it makes a call that it is asked for.
+ghost use Rattle.std.specs.Prelude.{◌≡◌, ℕ, List};
+ghost use Rattle.service_profile.specs.declared.replies.Reply.{Reply};
+ghost use Rattle.service_profile.specs.Calls.{applies, replies};
+ghost use Rattle.service_profile.specs.Events.{acquires};
+ghost use Rattle.service.specs.Upkept.{HasMadeRoom, HasReleased, IsKeptBy, IsMadeWithRoom, IsUpkept, overdue, upkeep_at};
 
 use crate::calls::BookCalls;
-use book::{Call, Read, Roll};
+use book::{Apply, Call, Event, Read, Reading, Reply, Roll};
 
 /// What becomes of a journal that is full.
 #[derive(Clone, Copy, Debug, PartialEq, Eq)]
@@ -21,12 +24,16 @@ pub enum Journal {
 pub struct Upkeep {
     /// What becomes of a full journal.
     pub journal: Journal,
+    /// How old an open ticket may get, in milliseconds since its acquire: before an acquire, tickets that are that old are
+    /// released, the oldest first, at most 100. 0 lets a ticket get any age.
+    pub max_ticket_age: u64,
 }
 
 impl Upkeep {
     /// None: the service does what it is asked for, and nothing else.
     pub const NONE: Upkeep = Upkeep {
         journal: Journal::Keep,
+        max_ticket_age: 0,
     };
 }
 
@@ -44,6 +51,9 @@ pub fn upkeep_at(upkeeps: &[Upkeep], place: usize) -> Upkeep
 /// How many entries stay in a journal whose older half is rolled out.
 const STAY: u64 = 32_768;
 
+/// How many tickets are released at most before an acquire.
+const MOST_RELEASES: u64 = 100;
+
 /// Rolls the older half out of a journal: all but its last 32,768 entries. What is rolled out is dropped. Where the roll is
 /// refused, for want of memory or since a number is worn out, nothing changes.
 fn make_room<P, B: BookCalls<P>>(book: &mut B, place: &P)
@@ -55,21 +65,12 @@ fn make_room<P, B: BookCalls<P>>(book: &mut B, place: &P)
     let _rolled = book.call(place, Roll(last.saturating_sub(STAY)));
 }
 
-/// Makes a call for a service that does this for its upkeep: steps that the documented machine has, each a call of the same
-/// caller at the same place.
-pub(crate) fn call<P, B: BookCalls<P>, C: Call>(
-    book: &mut B,
-    place: &P,
-    upkeep: Upkeep,
-    call: C,
-) -> C::Answer
+/// Makes a call; where its answer is that the journal is full, makes room and then makes the call again.
+fn call_with_room<P, B: BookCalls<P>, C: Call>(book: &mut B, place: &P, call: C) -> C::Answer
     requires fits { B.fits place.now book.old }
-    ensures called { IsUpkept upkeep (B.calls place.now) book.old (C.called call) (C.answered result) book.new }
+    ensures called { IsMadeWithRoom (B.calls place.now) book.old (C.called call) (C.answered result) book.new }
     ensures fits { B.fits place.now book.new }
 {
-    if upkeep.journal == Journal::Keep {
-        return book.call(place, call);
-    }
     let again = call.again();
     let answer = book.call(place, call);
     if !C::says_full(&answer) {
@@ -80,4 +81,65 @@ pub(crate) fn call<P, B: BookCalls<P>, C: Call>(
     };
     make_room(book, place);
     book.call(place, call)
+}
+
+/// Makes a call where this becomes of a full journal.
+pub(crate) fn call<P, B: BookCalls<P>, C: Call>(
+    book: &mut B,
+    place: &P,
+    journal: Journal,
+    call: C,
+) -> C::Answer
+    requires fits { B.fits place.now book.old }
+    ensures called { IsKeptBy journal (B.calls place.now) book.old (C.called call) (C.answered result) book.new }
+    ensures fits { B.fits place.now book.new }
+{
+    match journal {
+        Journal::Keep => book.call(place, call),
+        Journal::Last => call_with_room(book, place, call),
+    }
+}
+
+/// The number of the open ticket that was issued first, where that was this long before a moment, or longer.
+fn overdue(age: u64, moment: u64, shown: &Reading) -> Option<u64>
+    ensures { result ≡ overdue age moment shown.now }
+{
+    let oldest = shown.oldest_ticket?;
+    if age <= moment.saturating_sub(oldest.moment) {
+        Some(oldest.number)
+    } else {
+        None
+    }
+}
+
+/// Releases the tickets that are this old at a moment, the oldest first, at most 100. An entry tells of each.
+fn release_overdue<P, B: BookCalls<P>>(book: &mut B, place: &P, age: u64, moment: u64)
+    requires fits { B.fits place.now book.old }
+    ensures released { (replies : List Reply) × HasReleased (B.calls place.now) age moment book.old replies book.new }
+    ensures fits { B.fits place.now book.new }
+{
+    for _release in 0..MOST_RELEASES {
+        let shown = book.call(place, Read(moment));
+        let Some(ticket) = overdue(age, moment, &shown) else {
+            return;
+        };
+        let _reply = book.call(place, Apply(moment, Event::Release(ticket)));
+    }
+}
+
+/// Asks for a ticket at a moment, once tickets that are too old are released.
+pub(crate) fn acquire<P, B: BookCalls<P>>(
+    book: &mut B,
+    place: &P,
+    upkeep: Upkeep,
+    moment: u64,
+) -> Reply
+    requires fits { B.fits place.now book.old }
+    ensures called { IsUpkept upkeep (B.calls place.now) book.old (applies moment acquires) (replies result) book.new }
+    ensures fits { B.fits place.now book.new }
+{
+    if upkeep.max_ticket_age > 0 {
+        release_overdue(book, place, upkeep.max_ticket_age, moment);
+    }
+    call(book, place, upkeep.journal, Apply(moment, Event::Acquire))
 }

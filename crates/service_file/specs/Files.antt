@@ -18,31 +18,35 @@ use Rattle.service.specs.declared.upkeep.Journal.{Journal}
 use Rattle.service.specs.declared.upkeep.Journal.TheVariants.{Keep, Last}
 use Rattle.service_file.specs.declared.keepers.Keeper.{Keeper}
 use Rattle.service_file.specs.declared.keepers.Keeper.TheVariants.{Lock, Slot}
+use Rattle.service_file.specs.declared.numbering.Tickets.{Tickets}
+use Rattle.service_file.specs.declared.numbering.Tickets.TheVariants.{FromOne, ByTheClock}
 
--- a service: its name, its configuration, its program's bytes, where the file has a program, the layout that the program is for, and what becomes of its journal where it is full
+-- a service: its name, its configuration, its program's bytes, where the file has a program, the layout that the program is for, what becomes of its journal where it is full, and how old its tickets may get
 pub record ServiceData : Type 0 where
   pub name : List ℕ
   pub config : ConfigParts
   pub program : Option (List ℕ)
   pub layout : Layout
   pub journal : Journal
+  pub max_ticket_age : ℕ
 
--- the whole file: the text of the address, how many workers, how the books are kept between their calls, after how many connections serving ends, how many are open at once at most, and the services
+-- the whole file: the text of the address, how many workers, how the books are kept between their calls, after how many connections serving ends, how many are open at once at most, from which number on tickets are numbered, and the services
 pub record FileData : Type 0 where
   pub listen : List ℕ
   pub workers : ℕ
   pub keeper : Keeper
   pub connections : ℕ
   pub most_open : ℕ
+  pub tickets : Tickets
   pub services : List ServiceData
 
 -- ---- keys
 
 abbrev pub is_file_key : List ℕ → Bool
-is_file_key = is_one_of (codes "listen" ∷ codes "workers" ∷ codes "keeper" ∷ codes "connections" ∷ codes "open" ∷ codes "services" ∷ [])
+is_file_key = is_one_of (codes "listen" ∷ codes "workers" ∷ codes "keeper" ∷ codes "connections" ∷ codes "open" ∷ codes "tickets" ∷ codes "services" ∷ [])
 
 abbrev pub is_service_key : List ℕ → Bool
-is_service_key = is_one_of (codes "name" ∷ codes "config" ∷ codes "program" ∷ codes "layout" ∷ codes "journal" ∷ [])
+is_service_key = is_one_of (codes "name" ∷ codes "config" ∷ codes "program" ∷ codes "layout" ∷ codes "journal" ∷ codes "maxTicketAge" ∷ [])
 
 -- ---- names
 
@@ -86,6 +90,10 @@ journal_named name =
 abbrev pub journal_at : Data → Option Journal
 journal_at d = if_there Keep (λ v. option_and_then journal_named (as_str v)) (get (codes "journal") d)
 
+-- in milliseconds; 0, for any age, where the key is missing; None where another value than such a number stands there
+abbrev pub max_ticket_age_at : Data → Option ℕ
+max_ticket_age_at d = if_there 0 (λ v. number_at (codes "maxTicketAge") d) (get (codes "maxTicketAge") d)
+
 -- None where the value is no object, has a key of another name, or a value that can't be used
 unfoldable pub service_of : Data → Option ServiceData
 service_of d =
@@ -94,8 +102,9 @@ service_of d =
       config ← config_at d
       layout ← layout_of d
       journal ← journal_at d
+      max_ticket_age ← max_ticket_age_at d
       program ← program_at d
-      Some (record { name = name; config = config; program = program; layout = layout; journal = journal }))
+      Some (record { name = name; config = config; program = program; layout = layout; journal = journal; max_ticket_age = max_ticket_age }))
     else None
 
 -- ---- services
@@ -150,7 +159,18 @@ is_open_limit n = nat_le 1 n && nat_le n 65536
 abbrev pub open_at : Data → Option ℕ
 open_at d = if_there 1024 (λ v. option_and_then (kept_if is_open_limit) (number_at (codes "open") d)) (get (codes "open") d)
 
--- None where the value is no object, lacks a key other than the keeper and the limit of open connections, has one of another name, or a value that can't be used
+-- the two texts for it
+unfoldable pub tickets_named : List ℕ → Option Tickets
+tickets_named name =
+    if bytes_eq name (codes "from 1") then Some FromOne
+    else (if bytes_eq name (codes "by the clock") then Some ByTheClock
+    else None)
+
+-- from 1 where the key is missing; None where another value than one of these texts stands there
+abbrev pub tickets_at : Data → Option Tickets
+tickets_at d = if_there FromOne (λ v. option_and_then tickets_named (as_str v)) (get (codes "tickets") d)
+
+-- None where the value is no object, lacks a key other than the keeper, the limit of open connections and that of the tickets, has one of another name, or a value that can't be used
 unfoldable pub file_of : Data → Option FileData
 file_of d =
     if has_known_keys is_file_key d then (do
@@ -159,8 +179,9 @@ file_of d =
       keeper ← keeper_at d
       connections ← number_at (codes "connections") d
       most_open ← open_at d
+      tickets ← tickets_at d
       services ← services_at d
-      Some (record { listen = listen; workers = workers; keeper = keeper; connections = connections; most_open = most_open; services = services }))
+      Some (record { listen = listen; workers = workers; keeper = keeper; connections = connections; most_open = most_open; tickets = tickets; services = services }))
     else None
 
 -- the same of JSON text

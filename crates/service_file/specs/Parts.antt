@@ -5,7 +5,7 @@ use Rattle.service_file.specs.declared.file.FilePart.{FilePart}
 use Rattle.service_file.specs.Files.{ServiceData, FileData}
 
 abbrev pub service_data : ServicePart → ServiceData
-service_data part = record { name = string_bytes part.name; config = part.config; program = option_map (λ b. b.items) part.program; layout = part.layout; journal = part.journal }
+service_data part = record { name = string_bytes part.name; config = part.config; program = option_map (λ b. b.items) part.program; layout = part.layout; journal = part.journal; max_ticket_age = part.max_ticket_age }
 
 abbrev pub file_data : FilePart → FileData
 file_data part = record {
@@ -14,5 +14,6 @@ file_data part = record {
   keeper = part.keeper;
   connections = part.connections;
   most_open = part.most_open;
+  tickets = part.tickets;
   services = map service_data part.services.items;
 }

@@ -8,6 +8,7 @@ ghost use Rattle.service_file.specs.Parts.{file_data};
 use crate::keepers::{Keeper, keeper_at};
 use crate::limits::{open_at, workers_at};
 use crate::mistakes::{FileMistake, Parsed};
+use crate::numbering::{Tickets, tickets_at};
 use crate::services::{ServicePart, services_at};
 use requests::{has_known_keys, number_at, text_at};
 use serde_json::Value;
@@ -21,6 +22,7 @@ pub const FILE_KEYS: &[&str] = &[
     "keeper",
     "connections",
     "open",
+    "tickets",
     "services",
 ];
 
@@ -33,6 +35,7 @@ pub(crate) struct FilePart {
     pub keeper: Keeper,
     pub connections: u64,
     pub most_open: u64,
+    pub tickets: Tickets,
     pub services: Vec<ServicePart>,
 }
 
@@ -59,6 +62,9 @@ fn file(alloc: Global, value: &Value) -> Parsed<FilePart>
     let Some(most_open) = open_at(value) else {
         return Ok(Err(FileMistake::Open));
     };
+    let Some(tickets) = tickets_at(value) else {
+        return Ok(Err(FileMistake::Tickets));
+    };
     let services = match services_at(alloc, value)? {
         Ok(services) => services,
         Err(mistake) => return Ok(Err(mistake)),
@@ -70,6 +76,7 @@ fn file(alloc: Global, value: &Value) -> Parsed<FilePart>
         keeper,
         connections,
         most_open,
+        tickets,
         services,
     }))
 }

@@ -1,5 +1,5 @@
-//! The file of `sidecar serve`: a JSON object with the address to listen on, the workers, how they keep the books, and
-//! the services with their configurations and programs.
+//! The file of `sidecar serve`: a JSON object with the address to listen on, the workers, how they keep the books, how
+//! tickets are numbered, and the services with their configurations and programs.
 #![tactic(auto)]
 
 mod file;
@@ -8,6 +8,7 @@ mod keepers;
 mod limits;
 mod mistakes;
 mod names;
+mod numbering;
 mod services;
 mod settings;
 
@@ -16,5 +17,6 @@ pub use keepers::Keeper;
 pub use limits::OPEN_LIMITS;
 pub use mistakes::{FileMistake, ServiceMistake};
 pub use names::COUNTS;
+pub use numbering::Tickets;
 pub use services::SERVICE_KEYS;
 pub use settings::{ServiceSettings, Settings, read_settings};

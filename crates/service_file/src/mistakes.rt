@@ -24,6 +24,8 @@ pub enum FileMistake {
     Connections,
     /// `open` isn't 1 to 65,536.
     Open,
+    /// `tickets` is neither `from 1` nor `by the clock`.
+    Tickets,
     /// `services` is missing, or no array of 1 to 64 services.
     Services,
     /// What is wrong with the service of this number, from 0 on.
@@ -45,6 +47,8 @@ pub enum ServiceMistake {
     Layout,
     /// `journal` is neither `keep` nor `last`.
     Journal,
+    /// `maxTicketAge` is no whole number below 2^64.
+    MaxTicketAge,
     /// `program` is no hexadecimal text.
     NoProgram,
     /// `program` isn't accepted.

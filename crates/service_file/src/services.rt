@@ -11,6 +11,7 @@ ghost use Rattle.service_file.specs.Files.{is_named, name_at, config_at, program
 ghost use Rattle.service_file.specs.Parts.{service_data};
 
 use crate::journals::journal_at;
+use crate::limits::max_ticket_age_at;
 use crate::mistakes::{FileMistake, Parsed, ServiceMistake};
 use crate::names::{is_count, is_name};
 use book::{Config, ConfigParts};
@@ -21,7 +22,14 @@ use service::Journal;
 use std::alloc::{AllocError, Global};
 
 /// The keys that a service may have.
-pub const SERVICE_KEYS: &[&str] = &["name", "config", "program", "layout", "journal"];
+pub const SERVICE_KEYS: &[&str] = &[
+    "name",
+    "config",
+    "program",
+    "layout",
+    "journal",
+    "maxTicketAge",
+];
 
 /// A service as the file has it.
 #[derive(Drop)]
@@ -34,6 +42,8 @@ pub(crate) struct ServicePart {
     pub layout: Layout,
     /// What becomes of its journal where it is full.
     pub journal: Journal,
+    /// How old its tickets may get, in milliseconds; 0 for any age.
+    pub max_ticket_age: u64,
 }
 
 /// The name, where a service may have it.
@@ -98,6 +108,9 @@ fn service(alloc: Global, value: &Value) -> Parsed<ServicePart, ServiceMistake>
     let Some(journal) = journal_at(value) else {
         return Ok(Err(ServiceMistake::Journal));
     };
+    let Some(max_ticket_age) = max_ticket_age_at(value) else {
+        return Ok(Err(ServiceMistake::MaxTicketAge));
+    };
     let Some(program) = program_at(alloc, value)? else {
         return Ok(Err(ServiceMistake::NoProgram));
     };
@@ -108,6 +121,7 @@ fn service(alloc: Global, value: &Value) -> Parsed<ServicePart, ServiceMistake>
         program,
         layout,
         journal,
+        max_ticket_age,
     }))
 }
 

@@ -9,6 +9,7 @@ ghost use Rattle.service_file.specs.Settled.{bytes_of, IsService, AreServices, H
 use crate::file::{FilePart, file_in};
 use crate::keepers::Keeper;
 use crate::mistakes::{FileMistake, Parsed, ServiceMistake};
+use crate::numbering::Tickets;
 use crate::services::ServicePart;
 use book::Config;
 use bpf_profile::Layout;
@@ -43,6 +44,8 @@ pub struct Settings {
     pub connections: u64,
     /// How many connections are open at once at most, 1 to 65,536.
     pub most_open: u64,
+    /// From which number on the tickets of each service are numbered.
+    pub tickets: Tickets,
     /// 1 to 64 services, no two of one name.
     pub services: Vec<ServiceSettings>,
 }
@@ -102,6 +105,7 @@ fn service(alloc: Global, part: ServicePart) -> Parsed<ServiceSettings, Refusal>
         program,
         upkeep: Upkeep {
             journal: part.journal,
+            max_ticket_age: part.max_ticket_age,
         },
     }))
 }
@@ -142,6 +146,7 @@ fn settled(alloc: Global, part: FilePart) -> Parsed<Settings>
         keeper: part.keeper,
         connections: part.connections,
         most_open: part.most_open,
+        tickets: part.tickets,
         services,
     }))
 }
@@ -150,12 +155,14 @@ fn settled(alloc: Global, part: FilePart) -> Parsed<Settings>
 ///
 /// The text is a JSON object: `listen` is an IP address with its port, as text; `workers`, 1 to 64; `keeper`, `lock` or
 /// `slot`, the lock where it is missing; `connections`, below 2^64, after how many connections serving ends, or 0 for never; `open`, 1 to 65,536,
-/// how many connections are open at once at most, 1,024 where it is missing; and `services`, an
+/// how many connections are open at once at most, 1,024 where it is missing; `tickets`, `from 1` or `by the clock`, from
+/// which number on the tickets of each service are numbered, from 1 where it is missing; and `services`, an
 /// array of 1 to 64 objects with `name` (1 to 64 small letters, digits, hyphens and underscores, each name
 /// once), `config` (as `requests::config` reads it; the defaults where it is missing), `program`
 /// (hexadecimal, in which blanks don't count; the default classifier where it is missing), `layout` (the
-/// layout of records that the program is verified for, 1 or 2; layout 1 where it is missing) and `journal` (`keep` or
-/// `last`, what becomes of a full journal; `keep` where it is missing). The inner error is what is wrong with another
+/// layout of records that the program is verified for, 1 or 2; layout 1 where it is missing), `journal` (`keep` or
+/// `last`, what becomes of a full journal; `keep` where it is missing) and `maxTicketAge` (below 2^64, how old tickets may
+/// get, in milliseconds, or 0 for any age; 0 where it is missing). The inner error is what is wrong with another
 /// text, which is the refusal `BadConfig`; the outer one is want of memory.
 pub fn read_settings(
     alloc: Global,

@@ -48,9 +48,9 @@ new_there : (history : History) (place : ℕ) (line : EntryData) (ticket version
 new_there history place line ticket version reached legal e r =
     let past : Past = past_of (first_lines place history) in
     let given = all_given (first_lines place history) (legal_there history place legal) in
-    let next = issued_next past line 0 (line_follows history place line legal e) in
-    let t : OpenTicket = record { number = ticket; version = version; period = 0 } in
-    let same : ticket ≡ next_ticket past = next.number t (ap (λ (x : Reply). issue_by x 0) r) in
+    let next = issued_next past line 0 0 (line_follows history place line legal e) in
+    let t : OpenTicket = record { number = ticket; version = version; period = 0; moment = 0 } in
+    let same : ticket ≡ next_ticket past = next.number t (ap (λ (x : Reply). issue_by x 0 0) r) in
     subst (λ (n : ℕ). is_listed (numbers_issued past.stages) n ≡ false) (sym same) (unlisted (next_ticket past) (numbers_issued past.stages) given.below)
 
 -- and it is given behind that line

@@ -92,17 +92,17 @@ pub record IsNext (next current : ℕ) (o : Option OpenTicket) : Type 0 where
   pub number : (t : OpenTicket) → o ≡ Some t → t.number ≡ next
   pub version : (t : OpenTicket) → o ≡ Some t → t.version ≡ current
 
-issues_next : (s : Situation) (moment : ℕ) (event : EventData) (d : Decision) (period : ℕ) → Way s moment event d → IsNext s.next_ticket (current_version s) (issue_by d.reply period)
-issues_next s moment event d period a = search rules
+issues_next : (s : Situation) (moment : ℕ) (event : EventData) (d : Decision) (period now : ℕ) → Way s moment event d → IsNext s.next_ticket (current_version s) (issue_by d.reply period now)
+issues_next s moment event d period now a = search rules
 
-pub issued_next : (past : Past) (line : EntryData) (period : ℕ) → Follows past line → IsNext (next_ticket past) (current_version (situation_of past)) (issue_by line.reply period)
-issued_next past line period follows =
+pub issued_next : (past : Past) (line : EntryData) (period now : ℕ) → Follows past line → IsNext (next_ticket past) (current_version (situation_of past)) (issue_by line.reply period now)
+issued_next past line period now follows =
     let s : Situation = situation_of past in
     let r : Reply = (machine past line.moment line.event).reply in
-    let there = issues_next (at_moment s line.moment) line.moment line.event (machine past line.moment line.event) period (way_there past line follows) in
-    subst (λ (x : Reply). IsNext (next_ticket past) (current_version s) (issue_by x period)) (sym follows.replied)
-    (subst (λ (n : ℕ). IsNext n (current_version s) (issue_by r period)) (same_next (overstays s line.moment) line.moment s)
-    (subst (λ (n : ℕ). IsNext (at_moment s line.moment).next_ticket n (issue_by r period)) (same_version (overstays s line.moment) line.moment s) there))
+    let there = issues_next (at_moment s line.moment) line.moment line.event (machine past line.moment line.event) period now (way_there past line follows) in
+    subst (λ (x : Reply). IsNext (next_ticket past) (current_version s) (issue_by x period now)) (sym follows.replied)
+    (subst (λ (n : ℕ). IsNext n (current_version s) (issue_by r period now)) (same_next (overstays s line.moment) line.moment s)
+    (subst (λ (n : ℕ). IsNext (at_moment s line.moment).next_ticket n (issue_by r period now)) (same_version (overstays s line.moment) line.moment s) there))
 
 unfoldable pub number_option : Option OpenTicket → Option ℕ
 number_option None = None
@@ -132,7 +132,7 @@ given_step : (past : Past) (line : EntryData) → Follows past line → AreGiven
 given_step past line follows given =
     let next : Standing = (machine past line.moment line.event).next in
     let stage : Stage = record { line = line; before = past.standing; after = next } in
-    let is = issued_next past line next.period follows in
+    let is = issued_next past line next.period line.moment follows in
     let steps = numbers_step past.stages stage in
     let later : ℕ = next_ticket (passed past line) in
     let count : next_ticket past + length (option_to_list (issue_at stage)) ≡ later = omega (arith, ap length (map_with issue_at past.stages stage), length-append (issued past.stages) (option_to_list (issue_at stage))) in

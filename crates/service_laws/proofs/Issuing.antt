@@ -101,29 +101,29 @@ same_ticket : (a b : OpenTicket) → ◌≡◌ {A = Option OpenTicket} (Some a) 
 same_ticket a b e = cc
 
 -- what a reply says that issues a ticket
-permitted : (r : Reply) (period : ℕ) (t : OpenTicket) → issue_by r period ≡ Some t → (reached : State) × (r ≡ reply.Permitted t.number t.version reached)
-permitted (reply.Permitted number version reached) period t e =
-    let same = same_ticket (record { number = number; version = version; period = period }) t e in
+permitted : (r : Reply) (period moment : ℕ) (t : OpenTicket) → issue_by r period moment ≡ Some t → (reached : State) × (r ≡ reply.Permitted t.number t.version reached)
+permitted (reply.Permitted number version reached) period moment t e =
+    let same = same_ticket (record { number = number; version = version; period = period; moment = moment }) t e in
     (reached, ap (λ (u : OpenTicket). reply.Permitted u.number u.version reached) same)
-permitted (reply.Refused number) period t e = no_ticket t e
-permitted (reply.Finished f v steps version reached) period t e = no_ticket t e
-permitted (reply.Released reached) period t e = no_ticket t e
-permitted (reply.Installed version budget layout) period t e = no_ticket t e
-permitted (reply.Moved reached p) period t e = no_ticket t e
+permitted (reply.Refused number) period moment t e = no_ticket t e
+permitted (reply.Finished f v steps version reached) period moment t e = no_ticket t e
+permitted (reply.Released reached) period moment t e = no_ticket t e
+permitted (reply.Installed version budget layout) period moment t e = no_ticket t e
+permitted (reply.Moved reached p) period moment t e = no_ticket t e
 
 only_one : (o : Option OpenTicket) (t : OpenTicket) → Contains (option_to_list o) t → o ≡ Some t
 only_one o t h = search rules
 
-issued_here : (past : Past) (l : EntryData) (lines : List EntryData) (period : ℕ) (t : OpenTicket) → Follows past l → issue_by l.reply period ≡ Some t → IsIssuedIn past (l ∷ lines) t
-issued_here past l lines period t follows e =
-    let says = permitted l.reply period t e in
+issued_here : (past : Past) (l : EntryData) (lines : List EntryData) (period moment : ℕ) (t : OpenTicket) → Follows past l → issue_by l.reply period moment ≡ Some t → IsIssuedIn past (l ∷ lines) t
+issued_here past l lines period moment t follows e =
+    let says = permitted l.reply period moment t e in
     record {
       place = 0;
       line = l;
       there = refl;
       reached = says.0;
       permits = says.1;
-      named = rw ((issued_next past l period follows).version t e) (from_last past.opening.version past.opening.program (filter_map install_at past.stages));
+      named = rw ((issued_next past l period moment follows).version t e) (from_last past.opening.version past.opening.program (filter_map install_at past.stages));
     }
 
 issued_later : (past : Past) (l : EntryData) (lines : List EntryData) (t : OpenTicket) → IsIssuedIn (passed past l) lines t → IsIssuedIn past (l ∷ lines) t
@@ -140,13 +140,13 @@ issued_in : (past : Past) (lines : List EntryData) (t : OpenTicket) → AreLegal
 issued_in past [] t legal listed = inl listed
 issued_in past (l ∷ lines) t legal listed = by_rest (issued_in (passed past l) lines t legal.1 listed)
   where
-    by_step : Contains (issued past.stages) t ⊎ Contains (option_to_list (issue_by l.reply (machine past l.moment l.event).next.period)) t → Contains (issued past.stages) t ⊎ IsIssuedIn past (l ∷ lines) t
+    by_step : Contains (issued past.stages) t ⊎ Contains (option_to_list (issue_by l.reply (machine past l.moment l.event).next.period l.moment)) t → Contains (issued past.stages) t ⊎ IsIssuedIn past (l ∷ lines) t
     by_step (inl before) = inl before
-    by_step (inr new) = inr (issued_here past l lines (machine past l.moment l.event).next.period t legal.0 (only_one (issue_by l.reply (machine past l.moment l.event).next.period) t new))
+    by_step (inr new) = inr (issued_here past l lines (machine past l.moment l.event).next.period l.moment t legal.0 (only_one (issue_by l.reply (machine past l.moment l.event).next.period l.moment) t new))
 
     by_rest : Contains (issued (passed past l).stages) t ⊎ IsIssuedIn (passed past l) lines t → Contains (issued past.stages) t ⊎ IsIssuedIn past (l ∷ lines) t
     by_rest (inl so_far) =
-        by_step (Contains-append_cases (issued past.stages) (option_to_list (issue_by l.reply (machine past l.moment l.event).next.period)) t
+        by_step (Contains-append_cases (issued past.stages) (option_to_list (issue_by l.reply (machine past l.moment l.event).next.period l.moment)) t
         (subst (λ (ts : List OpenTicket). Contains ts t) (map_with issue_at past.stages (record { line = l; before = past.standing; after = (machine past l.moment l.event).next })) so_far))
     by_rest (inr later) = inr (issued_later past l lines t later)
 

@@ -50,7 +50,7 @@ within_step past line follows within =
     record {
       issued = subst (AllByRecursion (IsWithin after)) (sym (numbers_step past.stages stage))
           (all_append (IsWithin after) (numbers_issued past.stages) (option_to_list (number_option (issue_at stage))) (all_weaken (IsWithin past) (IsWithin after) wider (numbers_issued past.stages) within.issued)
-          (issued_option past after _ (issue_at stage) (issued_next past line next.period follows) refl count));
+          (issued_option past after _ (issue_at stage) (issued_next past line next.period line.moment follows) refl count));
       ended = subst (AllByRecursion (IsWithin after)) (sym (map_with end_at past.stages stage))
           (all_append (IsWithin after) (ended past.stages) (option_to_list (end_at stage)) (all_weaken (IsWithin past) (IsWithin after) wider (ended past.stages) within.ended)
           (ended_option (IsWithin after) (end_by line.event line.reply)

@@ -1,5 +1,5 @@
 -- What a book answers to calls, by its history.
-use Rattle.std.specs.Prelude.{◌≡◌, ℕ, suc, max, min, ◌-◌, ◌<◌, nat_lt, ◌||◌, Bool, true, false, if◌then◌else◌, List, [], ◌∷◌, ◌++◌, length, take, drop, Option, Some, None, Result, Ok, Err}
+use Rattle.std.specs.Prelude.{◌≡◌, ℕ, suc, max, min, ◌-◌, ◌<◌, nat_lt, ◌||◌, Bool, true, false, if◌then◌else◌, List, [], ◌∷◌, ◌++◌, length, take, drop, slice_get, Option, Some, None, Result, Ok, Err}
 use Rattle.std.specs.List.{filter_map, fold}
 use Rattle.std.specs.Option.{ok_or, option_map_or}
 use Rattle.refusals.specs.declared.RefusalNumber.{RefusalNumber}
@@ -90,6 +90,7 @@ reading_by s totals refused last = record {
   free = s.config.max_concurrent_calls - length s.open_tickets;
   not_permitted = refused;
   entries = last;
+  oldest_ticket = slice_get s.open_tickets 0;
 }
 
 -- what stands at a moment, which is raised for the answer alone

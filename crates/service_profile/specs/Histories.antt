@@ -47,13 +47,13 @@ notes_of past = filter_map (note_at past.opening.config) (taken_in past.standing
 
 -- ---- tickets
 
--- a ticket's period is the one after its line
-abbrev pub issue_by : Reply → ℕ → Option OpenTicket
-issue_by (reply.Permitted ticket version state) period = Some (record { number = ticket; version = version; period = period })
-issue_by other period = None
+-- a ticket's period is the one after its line, and its moment that of the line
+abbrev pub issue_by : Reply → ℕ → ℕ → Option OpenTicket
+issue_by (reply.Permitted ticket version state) period moment = Some (record { number = ticket; version = version; period = period; moment = moment })
+issue_by other period moment = None
 
 abbrev pub issue_at : Stage → Option OpenTicket
-issue_at stage = issue_by stage.line.reply stage.after.period
+issue_at stage = issue_by stage.line.reply stage.after.period stage.line.moment
 
 abbrev pub end_by : EventData → Reply → Option ℕ
 end_by (finishes work ticket) (reply.Finished fate verdict steps version state) = Some ticket

@@ -1,6 +1,7 @@
 //! What a book shows of itself.
 
 use crate::states::State;
+use crate::tickets::OpenTicket;
 
 /// How a service stands.
 #[derive(Clone, Copy, Debug, PartialEq, Eq)]
@@ -25,4 +26,6 @@ pub struct Reading {
     pub not_permitted: u64,
     /// The number of the last entry, 0 before the first.
     pub entries: u64,
+    /// The open ticket that was issued first, where any is open.
+    pub oldest_ticket: Option<OpenTicket>,
 }

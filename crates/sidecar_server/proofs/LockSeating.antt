@@ -11,9 +11,9 @@ use Rattle.sidecar_server.specs.Opened.{upkeeps_of}
 use Rattle.sidecar_server.specs.Seats.{workers_of, HasServedAt}
 use Rattle.sidecar_server.specs.Served.{services_of, HasServedAtDesk}
 
-pub served_at_desk : {C : Type 0} (ticks : C → ℕ → C → Type 0) (settings : Settings) (clock : C) (desk : DeskData) (upkeeps : List Upkeep) (books : List History) (counts : List ℕ) → desk.services ≡ services_of settings.services.items → upkeeps ≡ upkeeps_of settings.services.items
-    → HasServedAt place_at asks deals closes ticks desk upkeeps settings.workers clock books counts → HasServedAtDesk ticks settings clock books counts
-served_at_desk ticks settings clock desk upkeeps books counts services tended served =
+pub served_at_desk : {C : Type 0} (ticks : C → ℕ → C → Type 0) (settings : Settings) (first : ℕ) (clock : C) (desk : DeskData) (upkeeps : List Upkeep) (books : List History) (counts : List ℕ) → desk.services ≡ services_of first settings.services.items → upkeeps ≡ upkeeps_of settings.services.items
+    → HasServedAt place_at asks deals closes ticks desk upkeeps settings.workers clock books counts → HasServedAtDesk ticks settings first clock books counts
+served_at_desk ticks settings first clock desk upkeeps books counts services tended served =
     let worked = subst (λ us. HaveWorked (place_by place_at) (asks_by asks) ticks (workers_of clock (map (seated served.dealt us) served.seats)) served.later) tended served.worked in (
       served.dealt,
       served.later,

@@ -10,7 +10,7 @@ use Rattle.verifier.specs.declared.verified.Verified.{Verified}
 use Rattle.book_slot.specs.Courses.{Course}
 use Rattle.slot_desk.specs.Closing.{SeatBegins, NumbersAgree, last_number, first_number}
 use Rattle.slot_desk.specs.Desks.{DeskData}
-use Rattle.slot_desk.specs.Dealing.{name_of, first_of}
+use Rattle.slot_desk.specs.Dealing.{name_of, first_from}
 use Rattle.slot_desk.specs.Seats.{SeatData}
 use Rattle.slot_desk.proofs.Backwards.{served_back}
 use Rattle.http_seats.specs.Seated.{SeatedData, seated, place_by, asks_by}
@@ -45,30 +45,30 @@ named_as services openings opened = ap (map name_of) opened ∙ named services
     named (s ∷ services) = ap (λ names. string_bytes s.name ∷ names) (named services)
 
 -- and their books, as they open
-pub opened_as : (services : List ServiceSettings) (openings : List (String Global × Config × Verified)) → openings ≡ map opening_of services → map first_of openings ≡ origins_of services
-opened_as services openings opened = ap (map first_of) opened ∙ firsts services
-  where
-    firsts : (services : List ServiceSettings) → map first_of (map opening_of services) ≡ origins_of services
-    firsts [] = refl
-    firsts (s ∷ services) = ap (λ later. first_of (opening_of s) ∷ later) (firsts services)
+firsts : (first : ℕ) (services : List ServiceSettings) → map (first_from first) (map opening_of services) ≡ origins_of first services
+firsts first [] = refl
+firsts first (s ∷ services) = ap (λ later. first_from first (opening_of s) ∷ later) (firsts first services)
+
+pub opened_as : (first : ℕ) (services : List ServiceSettings) (openings : List (String Global × Config × Verified)) → openings ≡ map opening_of services → map (first_from first) openings ≡ origins_of first services
+opened_as first services openings opened = ap (map (first_from first)) opened ∙ firsts first services
 
 -- ---- the numbers of the last entries
 
 -- each book opened with none
-none_numbered : (services : List ServiceSettings) → sum (map first_number (origins_of services)) ≡ 0
-none_numbered [] = refl
-none_numbered (service ∷ services) = none_numbered services
+none_numbered : (first : ℕ) (services : List ServiceSettings) → sum (map first_number (origins_of first services)) ≡ 0
+none_numbered first [] = refl
+none_numbered first (service ∷ services) = none_numbered first services
 
-pub numbers_add_up : (origins : List (Option History)) (services : List ServiceSettings) (books : List History) (seats : List SeatData) (counts : List ℕ) → origins ≡ origins_of services → NumbersAgree origins books seats → counts ≡ counts_of seats → sum (map last_number books) ≡ sum counts
-numbers_add_up origins services books seats counts are agree same =
-    let none : sum (map first_number origins) ≡ 0 = ap (λ os. sum (map first_number os)) are ∙ none_numbered services in
+pub numbers_add_up : (first : ℕ) (origins : List (Option History)) (services : List ServiceSettings) (books : List History) (seats : List SeatData) (counts : List ℕ) → origins ≡ origins_of first services → NumbersAgree origins books seats → counts ≡ counts_of seats → sum (map last_number books) ≡ sum counts
+numbers_add_up first origins services books seats counts are agree same =
+    let none : sum (map first_number origins) ≡ 0 = ap (λ os. sum (map first_number os)) are ∙ none_numbered first services in
     let counted : sum counts ≡ sum (map (λ seat. seat.count) seats) = ap sum same in
     omega (arith, agree, none, counted)
 
 -- ---- what is said of any desk
 
-pub served_at_slots : {C : Type 0} (ticks : C → ℕ → C → Type 0) (settings : Settings) (clock : C) (desk : DeskData) (upkeeps : List Upkeep) (books : List History) (counts : List ℕ) → desk.names ≡ names_of settings.services.items → desk.origins ≡ origins_of settings.services.items → upkeeps ≡ upkeeps_of settings.services.items → HasServedAt place_at asks deals closes ticks desk upkeeps settings.workers clock books counts → HasServedAtSlots ticks settings clock books counts
-served_at_slots ticks settings clock desk upkeeps books counts names origins tended served_ =
+pub served_at_slots : {C : Type 0} (ticks : C → ℕ → C → Type 0) (settings : Settings) (first : ℕ) (clock : C) (desk : DeskData) (upkeeps : List Upkeep) (books : List History) (counts : List ℕ) → desk.names ≡ names_of settings.services.items → desk.origins ≡ origins_of first settings.services.items → upkeeps ≡ upkeeps_of settings.services.items → HasServedAt place_at asks deals closes ticks desk upkeeps settings.workers clock books counts → HasServedAtSlots ticks settings first clock books counts
+served_at_slots ticks settings first clock desk upkeeps books counts names origins tended served_ =
     let served : HasServedAt place_at asks deals closes ticks desk (upkeeps_of settings.services.items) settings.workers clock books counts = subst (λ us. HasServedAt place_at asks deals closes ticks desk us settings.workers clock books counts) tended served_ in
     let shut = served.closed.0 in
     let opened = served.sat.2 ∙ origins in
@@ -80,5 +80,5 @@ served_at_slots ticks settings clock desk upkeeps books counts names origins ten
       opened,
       subst (λ seats. HaveWorked (place_by place_at) (IsAskedWithin shut.begun.courses) ticks (workers_of clock (map (seated served.dealt (upkeeps_of settings.services.items)) seats)) served.later) served.sat.3 worked,
       served.closed.1,
-      numbers_add_up served.dealt.origins settings.services.items books (seats_with served.later) counts opened shut.agree served.closed.1,
+      numbers_add_up first served.dealt.origins settings.services.items books (seats_with served.later) counts opened shut.agree served.closed.1,
     )

@@ -1,3 +1,4 @@
+pub mod Numbering
 pub mod Opened
 pub mod Seats
 pub mod Slotted

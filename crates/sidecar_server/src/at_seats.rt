@@ -2,6 +2,7 @@
 ghost use Rattle.std.specs.Prelude.{◌≡◌, ◌≤◌, map, IfOk, IfErr};
 ghost use Rattle.std.specs.List.{AllByRecursion};
 ghost use Rattle.service_file.specs.Settled.{HasCounts};
+ghost use Rattle.service_profile.specs.Limits.{greatest_number};
 ghost use Rattle.server_output.specs.Lines.{IsServerCause, IsQuiet};
 ghost use Rattle.http_seats.specs.Seated.{seated};
 ghost use Rattle.sidecar_server.specs.Seats.{workers_of, seats_with, HasServedAt};
@@ -106,7 +107,7 @@ fn serve_at<
     Ok(ServerEnd::served(alloc, books, counts, failure, err))
 }
 
-/// Opens a desk whose books lie behind locks, and serves by as many workers as the settings say.
+/// Opens a desk whose books lie behind locks, from a number of the first tickets on, and serves by as many workers as the settings say.
 #[tactic(auto, using(server_output::proofs::Silence::quiet_kept))]
 pub(crate) fn serve_at_desk<
     L: Ledger + Send + Sync,
@@ -121,6 +122,7 @@ pub(crate) fn serve_at_desk<
     entry_parts: Blank,
     cut_parts: Blank,
     settings: Settings,
+    first_ticket: u64,
     out: &mut Counted<O>,
     err: &mut Counted<E>,
     clock: C,
@@ -129,9 +131,11 @@ pub(crate) fn serve_at_desk<
     requires entries_parts { (entry_parts.parts ≡ L.parts) × (L.parts ≡ 193) }
     requires cuts_name { cut_parts.name ≡ M.name }
     requires cuts_parts { (cut_parts.parts ≡ M.parts) × (M.parts ≡ 193) }
-    requires offered { M.services ≡ services_of settings.services.items }
+    requires offered { M.services ≡ services_of first_ticket settings.services.items }
     requires counts { HasCounts settings }
-    ensures served { IfOk result (λ end. HasServedAtDesk C.ticks settings clock end.books.items end.counts.items) }
+    requires least { 1 ≤ first_ticket }
+    requires most { first_ticket ≤ greatest_number }
+    ensures served { IfOk result (λ end. HasServedAtDesk C.ticks settings first_ticket clock end.books.items end.counts.items) }
     ensures unserved { IfErr result (λ status. IsServing status → ⊥) }
     ensures over { IsOver (end_of result) settings.connections }
     ensures failed { IfOk result (λ end. end.status ≡ ended_by end.failure) }
@@ -142,7 +146,7 @@ pub(crate) fn serve_at_desk<
     let limits = limits_of(&settings);
     let upkeeps = upkeeps_of(alloc, &settings)?;
     let opened = opened_by(alloc, settings.services)?;
-    let desk = desk::Desk::<L, M>::open(alloc, entry_parts, cut_parts, opened)?;
+    let desk = desk::Desk::<L, M>::open_from(alloc, entry_parts, cut_parts, opened, first_ticket)?;
     serve_at::<desk::Desk<L, M>, desk::Seat<L, M>, R, O, E, C>(
         rt,
         alloc,
@@ -157,7 +161,7 @@ pub(crate) fn serve_at_desk<
     )
 }
 
-/// Opens a desk whose books lie in slots, and serves by as many workers as the settings say.
+/// Opens a desk whose books lie in slots, from a number of the first tickets on, and serves by as many workers as the settings say.
 #[tactic(auto, using(server_output::proofs::Silence::quiet_kept))]
 pub(crate) fn serve_at_slots<
     R: Threads + Wait + time::Clock + Sync + Net<Listener = TcpListener, Stream = TcpStream>,
@@ -168,12 +172,15 @@ pub(crate) fn serve_at_slots<
     rt: &R,
     alloc: Global,
     settings: Settings,
+    first_ticket: u64,
     out: &mut Counted<O>,
     err: &mut Counted<E>,
     clock: C,
 ) -> Result<ServerEnd, ServerStatus>
     requires counts { HasCounts settings }
-    ensures served { IfOk result (λ end. HasServedAtSlots C.ticks settings clock end.books.items end.counts.items) }
+    requires least { 1 ≤ first_ticket }
+    requires most { first_ticket ≤ greatest_number }
+    ensures served { IfOk result (λ end. HasServedAtSlots C.ticks settings first_ticket clock end.books.items end.counts.items) }
     ensures unserved { IfErr result (λ status. IsServing status → ⊥) }
     ensures over { IsOver (end_of result) settings.connections }
     ensures failed { IfOk result (λ end. end.status ≡ ended_by end.failure) }
@@ -184,7 +191,7 @@ pub(crate) fn serve_at_slots<
     let limits = limits_of(&settings);
     let upkeeps = upkeeps_of(alloc, &settings)?;
     let opened = opened_by(alloc, settings.services)?;
-    let desk = slot_desk::Desk::open(alloc, opened)?;
+    let desk = slot_desk::Desk::open_from(alloc, opened, first_ticket)?;
     serve_at::<slot_desk::Desk, slot_desk::Seat, R, O, E, C>(
         rt,
         alloc,

@@ -5,6 +5,7 @@
 mod at_seats;
 mod clock;
 mod notices;
+mod numbering;
 mod opening;
 mod pooling;
 mod serving;

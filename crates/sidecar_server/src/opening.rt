@@ -1,5 +1,6 @@
 //! Opening the services, and taking their books.
-ghost use Rattle.std.specs.Prelude.{◌≡◌, map, IfOk};
+ghost use Rattle.std.specs.Prelude.{◌≡◌, ◌≤◌, map, IfOk};
+ghost use Rattle.service_profile.specs.Limits.{greatest_number};
 ghost use Rattle.sidecar_server.specs.Opened.{IsOpened, AreOpened};
 ghost use Rattle.sidecar_server.specs.Opened.{upkeeps_of};
 ghost use Rattle.sidecar_server.specs.Served.{books_of, opening_of};
@@ -11,11 +12,17 @@ use service_file::{ServiceSettings, Settings};
 use std::alloc::{AllocError, Global};
 use verifier::Verified;
 
-/// Opens a service.
-fn opened(alloc: Global, service: ServiceSettings) -> Result<NamedBook, AllocError>
-    ensures { IfOk result (IsOpened service) }
+/// Opens a service, whose first ticket has a number of its own.
+fn opened(
+    alloc: Global,
+    service: ServiceSettings,
+    first_ticket: u64,
+) -> Result<NamedBook, AllocError>
+    requires least { 1 ≤ first_ticket }
+    requires most { first_ticket ≤ greatest_number }
+    ensures { IfOk result (IsOpened first_ticket service) }
 {
-    let book = Book::open(alloc, service.config, service.program)?;
+    let book = Book::open_from(alloc, service.config, service.program, first_ticket)?;
     Ok(NamedBook {
         name: service.name,
         book,
@@ -23,13 +30,20 @@ fn opened(alloc: Global, service: ServiceSettings) -> Result<NamedBook, AllocErr
     })
 }
 
-/// Opens services, each in CLOSED and with no entry. The error is want of memory.
-pub(crate) fn open(alloc: Global, services: Vec<ServiceSettings>) -> Result<Books, AllocError>
-    ensures { IfOk result (λ books. AreOpened services.items books.services.items) }
+/// Opens services, each in CLOSED and with no entry, and with the same number of its first ticket. The error is want of
+/// memory.
+pub(crate) fn open(
+    alloc: Global,
+    services: Vec<ServiceSettings>,
+    first_ticket: u64,
+) -> Result<Books, AllocError>
+    requires least { 1 ≤ first_ticket }
+    requires most { first_ticket ≤ greatest_number }
+    ensures { IfOk result (λ books. AreOpened first_ticket services.items books.services.items) }
 {
     let mut named = Vec::new(alloc);
     for service in services {
-        named.push(opened(alloc, service)?)?;
+        named.push(opened(alloc, service, first_ticket)?)?;
     }
     Ok(Books::new(alloc, named))
 }

@@ -1,14 +1,16 @@
 //! The command `serve`.
-ghost use Rattle.std.specs.Prelude.{◌≡◌, ℕ, List, [], None, IfOk, IfErr, IsSome, ⊤};
+ghost use Rattle.std.specs.Prelude.{◌≡◌, ◌≤◌, ℕ, List, [], None, IfOk, IfErr, IsSome, ⊤};
 ghost use Rattle.std.specs.Io.KnownBytes.{Appends};
 ghost use Rattle.refusals.specs.declared.RefusalNumber.TheVariants.{BadConfig};
 ghost use Rattle.service_file.specs.Settled.{HasCounts};
+ghost use Rattle.service_profile.specs.Limits.{greatest_number};
 ghost use Rattle.server_output.specs.Lines.{refused_line, IsCutShort, IsRefused, IsServerCause, IsQuiet};
 ghost use Rattle.sidecar_server.specs.Server.{IsAddressOf, IsFileRefused, IsServerRefusal, IsServerOutput, IsServing, IsOver, HasServedFile, ended_by, end_of};
 ghost use Rattle.sidecar_server.specs.Served.{HasServedAlone, HasServedBy};
 
 use crate::at_seats::{serve_at_desk, serve_at_slots};
 use crate::notices::notify_mistake;
+use crate::numbering::first_ticket;
 use crate::opening::{books_of, open};
 use book::Book;
 use counted_io::Counted;
@@ -91,19 +93,23 @@ pub(crate) fn limits_of(settings: &Settings) -> Limits
     }
 }
 
-/// Opens the services, listens and serves by one worker, who has the books to itself.
+/// Opens the services, from a number of their first tickets on, listens and serves by one worker, who has the books to
+/// itself.
 #[tactic(auto, using(server_output::proofs::Silence::quiet_kept))]
 fn serve_alone<R, O: Write, E: Write, C: Clock>(
     rt: &R,
     alloc: Global,
     settings: Settings,
+    first_ticket: u64,
     out: &mut Counted<O>,
     err: &mut Counted<E>,
     clock: &mut C,
 ) -> Result<ServerEnd, ServerStatus>
 where
     R: Wait + time::Clock + Net<Listener = TcpListener, Stream = TcpStream>,
-    ensures served { IfOk result (λ end. HasServedAlone C.ticks settings clock.old clock.new end.books.items × (end.counts.items ≡ [])) }
+    requires least { 1 ≤ first_ticket }
+    requires most { first_ticket ≤ greatest_number }
+    ensures served { IfOk result (λ end. HasServedAlone C.ticks settings first_ticket clock.old clock.new end.books.items × (end.counts.items ≡ [])) }
     ensures unserved { IfErr result (λ status. IsServing status → ⊥) }
     ensures over { IsOver (end_of result) settings.connections }
     ensures failed { IfOk result (λ end. end.status ≡ ended_by end.failure) }
@@ -112,7 +118,7 @@ where
     ensures cause { IsServerCause (end_of result) out.old.failures out.new.failures }
 {
     let limits = limits_of(&settings);
-    let mut books = open(alloc, settings.services)?;
+    let mut books = open(alloc, settings.services, first_ticket)?;
     let listener = listen(rt, alloc, settings.listen, out, err)?;
     let ended = serve_connections(rt, alloc, &listener, limits, &mut books, clock);
     let books = books_of(alloc, books.services)?;
@@ -120,7 +126,8 @@ where
     Ok(ServerEnd::served(alloc, books, counts, ended.err(), err))
 }
 
-/// Opens the services, listens and serves, by one worker or by many, who keep the books as the settings say.
+/// Opens the services, from the number of their first tickets on that the settings and the clock give, listens and
+/// serves, by one worker or by many, who keep the books as the settings say.
 fn serve_settings<R, O: Write, E: Write, C: Clock + Copy + Send>(
     rt: &R,
     alloc: Global,
@@ -140,8 +147,9 @@ where
     ensures quiet { IsQuiet (end_of result) (E.contents err.old.inner) (E.contents err.new.inner) }
     ensures cause { IsServerCause (end_of result) out.old.failures out.new.failures }
 {
+    let first = first_ticket(settings.tickets, clock);
     if settings.workers == 1 {
-        return serve_alone(rt, alloc, settings, out, err, clock);
+        return serve_alone(rt, alloc, settings, first, out, err, clock);
     }
     match settings.keeper {
         Keeper::Lock => serve_at_desk::<Brand, Brand, R, O, E, C>(
@@ -150,11 +158,12 @@ where
             Blank::new(193),
             Blank::new(193),
             settings,
+            first,
             out,
             err,
             *clock,
         ),
-        Keeper::Slot => serve_at_slots(rt, alloc, settings, out, err, *clock),
+        Keeper::Slot => serve_at_slots(rt, alloc, settings, first, out, err, *clock),
     }
 }
 
@@ -180,8 +189,8 @@ fn refuse_text<O: Write, E: Write>(
 
 /// Serves as the text of a file says, which `service_file::read_settings` reads: it opens the services, listens,
 /// prints the line `listening ADDRESS`, which it flushes, and serves connections side by side, by one worker, or by as
-/// many as the file has, each with a copy of the clock and a thread of its own. Where the text
-/// can't be used or the address can't be bound it prints the refusal as a line, and a line on `err` that says why, for
+/// many as the file has, each with a copy of the clock and a thread of its own. Where the file numbers tickets by the
+/// clock, that is read once before the services open. Where the text can't be used or the address can't be bound it prints the refusal as a line, and a line on `err` that says why, for
 /// people. There is also a line on `err` where the system runs fewer workers at once than the file says, and where the
 /// listener accepts no more connections.
 #[tactic(auto, using(server_output::proofs::Silence::quiet_kept))]

@@ -3,7 +3,7 @@ use Rattle.std.proofs.Common.{◌≡◌, ℕ, zero, suc, ◌-◌, List, [], ◌�
 use Rattle.std.specs.Prelude.{slice_get, slice_set}
 use Rattle.service.specs.Asked.{RequestData, acquire, report, release, install, move, reset, read, page, cut, roll, ResponseData, replies, refuses_program, shows}
 use Rattle.service.specs.Asking.{IsFinishServed, IsServedBy}
-use Rattle.service.specs.Upkept.{HasMadeRoom, IsKeptBy, IsUpkept}
+use Rattle.service.specs.Upkept.{HasMadeRoom, IsKeptBy, AreReleased, HasReleased, IsAcquired, IsUpkept}
 use Rattle.service.specs.declared.upkeep.Journal.{Journal}
 use Rattle.service.specs.declared.upkeep.Journal.TheVariants as journal
 use Rattle.service.specs.declared.upkeep.Upkeep.{Upkeep}
@@ -51,7 +51,7 @@ module _ (courses : List Course) (calls : SeatData → CallData → CallAnswer �
   -- ---- a service's own upkeep
 
   room_back : (seat after : SeatData) → HasMadeRoom calls seat after → SeatBegins courses after → SeatBegins courses seat
-  room_back seat after (shown, between, found, told, rolled) h =
+  room_back seat after (found, (shown, between, told, rolled)) h =
       back seat (call.reads 0) (call.shows shown) between told (back between (call.rolls (shown.entries - half_a_journal)) (call.hands found) after rolled h)
 
   kept_back : (j : Journal) (seat : SeatData) (c : CallData) (given : CallAnswer) (after : SeatData) → IsKeptBy j calls seat c given after → SeatBegins courses after → SeatBegins courses seat
@@ -59,6 +59,24 @@ module _ (courses : List Course) (calls : SeatData → CallData → CallAnswer �
   kept_back journal.Last seat c given after (inl plain) h = back seat c given after plain.0 h
   kept_back journal.Last seat c given after (inr (answer, full, roomy, called, says, room, again)) h =
       back seat c answer full called (room_back full roomy room (back roomy c given after again h))
+
+  released_back : (age moment : ℕ) (answers : List Reply) (seat after : SeatData) → AreReleased calls age moment seat answers after → SeatBegins courses after → SeatBegins courses seat
+  released_back age moment [] seat after same h = subst (SeatBegins courses) same h
+  released_back age moment (r ∷ later) seat after (between, (shown, seen, ticket, told, old, ended), rest) h =
+      back seat (call.reads moment) (call.shows shown) seen told (back seen (applies moment (releases ticket)) (call.replies r) between ended (released_back age moment later between after rest h))
+
+  all_released_back : (age moment : ℕ) (answers : List Reply) (seat after : SeatData) → HasReleased calls age moment seat answers after → SeatBegins courses after → SeatBegins courses seat
+  all_released_back age moment answers seat after (between, released, inl (count, same)) h = released_back age moment answers seat between released (subst (SeatBegins courses) same h)
+  all_released_back age moment answers seat after (between, released, inr (few, (shown, told, none))) h = released_back age moment answers seat between released (back between (call.reads moment) (call.shows shown) after told h)
+
+  acquired_back : (age : ℕ) (j : Journal) (seat : SeatData) (moment : ℕ) (given : CallAnswer) (after : SeatData) → IsAcquired age calls (IsKeptBy j calls) seat moment given after → SeatBegins courses after → SeatBegins courses seat
+  acquired_back zero j seat moment given after is h = kept_back j seat (applies moment acquires) given after is h
+  acquired_back (suc age) j seat moment given after (answers, between, released, is) h =
+      all_released_back (suc age) moment answers seat between released (kept_back j between (applies moment acquires) given after is h)
+
+  upkept_back : (upkeep : Upkeep) (seat : SeatData) (c : CallData) (given : CallAnswer) (after : SeatData) → IsUpkept upkeep calls seat c given after → SeatBegins courses after → SeatBegins courses seat
+  upkept_back upkeep seat (applies moment acquires) given after is h = acquired_back upkeep.max_ticket_age upkeep.journal seat moment given after is h
+  upkept_back upkeep seat c given after is h = kept_back upkeep.journal seat c given after is h
 
   -- ---- requests
 
@@ -84,4 +102,4 @@ module _ (courses : List Course) (calls : SeatData → CallData → CallAnswer �
 -- a request to a seat at a service that does this for its upkeep
 pub served_back : (courses : List Course) (upkeep : Upkeep) (service : ℕ) (seat : SeatData) (moment : ℕ) (wanted : RequestData) (given : ResponseData) (after : SeatData) → IsServedBy (IsUpkept upkeep (IsAskedAt service)) seat moment wanted given after → SeatBegins courses after → SeatBegins courses seat
 served_back courses upkeep service seat moment wanted given after is h =
-    request_back courses (IsUpkept upkeep (IsAskedAt service)) (kept_back courses (IsAskedAt service) (asked_back courses service) upkeep.journal) seat moment wanted given after is h
+    request_back courses (IsUpkept upkeep (IsAskedAt service)) (upkept_back courses (IsAskedAt service) (asked_back courses service) upkeep) seat moment wanted given after is h

@@ -1,7 +1,8 @@
 //! Desks: services, each with its book in a slot.
 ghost use Rattle.std.specs.Prelude.{◌≡◌, ◌≤◌, [], length, map, position, replicate, bytes_eq, string_bytes, vec_len, IfOk, IfSome};
 ghost use Rattle.slot_desk.specs.Desks.{IsServiceOf};
-ghost use Rattle.slot_desk.specs.Dealing.{name_of, first_of};
+ghost use Rattle.service_profile.specs.Limits.{greatest_number};
+ghost use Rattle.slot_desk.specs.Dealing.{name_of, first_of, first_from};
 ghost use Rattle.service.specs.Desks.{most_services};
 ghost use Rattle.slot_desk.specs.Slots.{origin_of, dealt_of, back_of, known_of};
 
@@ -52,7 +53,24 @@ impl Desk {
         ensures opened { IfOk result (λ desk. desk.origins ≡ map first_of services.items) }
         ensures no_seats { IfOk result (λ desk. desk.seats ≡ 0) }
     {
-        let (names, slots) = opened(alloc, services)?;
+        Desk::open_from(alloc, services, 1)
+    }
+
+    /// The same, where each service's first ticket has this number, from 1 to 2^63.
+    pub fn open_from(
+        alloc: Global,
+        services: Vec<(String, Config, Verified)>,
+        first_ticket: u64,
+    ) -> Result<Desk, AllocError>
+        requires few { vec_len services ≤ most_services }
+        requires least { 1 ≤ first_ticket }
+        requires most { first_ticket ≤ greatest_number }
+        ensures names { IfOk result (λ desk. desk.names ≡ map name_of services.items) }
+        ensures tables { IfOk result (λ desk. length desk.tables ≡ vec_len services) }
+        ensures opened { IfOk result (λ desk. desk.origins ≡ map (first_from first_ticket) services.items) }
+        ensures no_seats { IfOk result (λ desk. desk.seats ≡ 0) }
+    {
+        let (names, slots) = opened(alloc, services, first_ticket)?;
         Ok(Desk {
             names,
             slots,
@@ -83,9 +101,12 @@ fn place_of(names: &[String], name: &str) -> Option<usize>
 fn opened(
     alloc: Global,
     services: Vec<(String, Config, Verified)>,
+    first_ticket: u64,
 ) -> Result<(Vec<String>, Vec<Slot>), AllocError>
+    requires least { 1 ≤ first_ticket }
+    requires most { first_ticket ≤ greatest_number }
     ensures names { IfOk result (λ opened. map string_bytes opened.0.items ≡ map name_of services.items) }
-    ensures origins { IfOk result (λ opened. map origin_of opened.1.items ≡ map first_of services.items) }
+    ensures origins { IfOk result (λ opened. map origin_of opened.1.items ≡ map (first_from first_ticket) services.items) }
     ensures dealt { IfOk result (λ opened. map dealt_of opened.1.items ≡ replicate (vec_len services) 0) }
     ensures back { IfOk result (λ opened. map back_of opened.1.items ≡ replicate (vec_len services) 0) }
     ensures known { IfOk result (λ opened. map known_of opened.1.items ≡ replicate (vec_len services) []) }
@@ -93,7 +114,7 @@ fn opened(
     let mut names = Vec::new(alloc);
     let mut slots = Vec::new(alloc);
     for (name, config, program) in services {
-        slots.push(Slot::open(alloc, config, program)?)?;
+        slots.push(Slot::open_from(alloc, config, program, first_ticket)?)?;
         names.push(name)?;
     }
     Ok((names, slots))

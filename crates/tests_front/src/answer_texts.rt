@@ -209,6 +209,7 @@ fn readings_are_written(rt: HostRuntime) {
         free: 23,
         not_permitted: 4,
         entries: u64::MAX,
+        oldest_ticket: None,
     };
     let text =
         "{\"budget\":6,\"entries\":18446744073709551615,\"failed\":1,\"failureRate\":33,\"free\":23,\"notPermitted\":4,\"open\":2,\"period\":1,\"slow\":0,\"slowRate\":-1,\"state\":\"CLOSED\",\"total\":3,\"version\":1}";

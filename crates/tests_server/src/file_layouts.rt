@@ -103,7 +103,7 @@ fn mistakes_of_layouts_are_told(rt: HostRuntime) {
             ),
             (
                 ",\"layouts\":2",
-                "services[0].layouts: there is no such key; the keys are name, config, program, layout and journal",
+                "services[0].layouts: there is no such key; the keys are name, config, program, layout, journal and maxTicketAge",
             ),
             (
                 ",\"program\":\"b701000040000000 8500000002000000 7700000007000000 9500000000000000\"",

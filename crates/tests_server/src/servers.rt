@@ -133,6 +133,67 @@ fn connections_are_served(rt: HostRuntime) {
     are_answered(rt, alloc, &out.inner().streams);
 }
 
+/// A clock that stands still.
+#[derive(Clone, Copy)]
+struct Still {
+    moment: u64,
+}
+
+impl Clock for Still {
+    ghost use Rattle.std.specs.Prelude.{◌≡◌};
+
+    ghost ticks = { λ old moment new. moment ≡ new.moment };
+
+    fn now_ms(&mut self) -> u64 {
+        self.moment
+    }
+}
+
+/// The first ticket of a server by this file, whose clock stands at a moment, has this number.
+fn begins_at<R>(rt: &R, alloc: Global, file: &str, moment: u64, number: u64)
+where
+    R: Threads
+        + Wait
+        + Sync
+        + Abort
+        + time::Clock
+        + Net<Listener = TcpListener, Stream = TcpStream>,
+{
+    let mut out = Counted::new(Caller::new(rt, alloc, &[ACQUIRE], false));
+    let mut err = Counted::new(Vec::new(alloc));
+    let mut clock = Still { moment };
+    let end = serve_file(rt, alloc, file.as_bytes(), &mut out, &mut err, &mut clock);
+    same(rt, end.status, ServerStatus::Done);
+    let streams = &out.inner().streams;
+    assert_eq!(rt; streams.len(), 1);
+    let found = answer(rt, alloc, &streams[0]);
+    let wanted = format!(in alloc; "{{\"state\":\"CLOSED\",\"ticket\":{number},\"version\":1}}");
+    let wanted = wanted.expect(rt, "ample memory");
+    is_true_at(rt, found.ends_with(wanted.as_bytes()), found.as_slice());
+}
+
+#[test]
+fn tickets_begin_by_the_clock(rt: HostRuntime) {
+    let by_one =
+        "{\"listen\":\"127.0.0.1:0\",\"workers\":1,\"connections\":1,\"tickets\":\"by the clock\",\"services\":[{\"name\":\"pay\"}]}";
+    let behind_locks =
+        "{\"listen\":\"127.0.0.1:0\",\"workers\":2,\"connections\":1,\"tickets\":\"by the clock\",\"services\":[{\"name\":\"pay\"}]}";
+    let in_slots =
+        "{\"listen\":\"127.0.0.1:0\",\"workers\":2,\"keeper\":\"slot\",\"connections\":1,\"tickets\":\"by the clock\",\"services\":[{\"name\":\"pay\"}]}";
+    for row in [
+        (by_one, 0, 1),
+        (by_one, 1_700_000_000_000, 1_740_800_000_000_000),
+        // The last moment with numbers of its own, and a later one.
+        (by_one, 8_796_093_022_207, 9_007_199_254_739_968),
+        (by_one, u64::MAX, 9_007_199_254_739_968),
+        (behind_locks, 7, 7_168),
+        (in_slots, 7, 7_168),
+    ] {
+        let (file, moment, number) = row;
+        begins_at(&rt, rt.alloc(), file, moment, number);
+    }
+}
+
 /// A server whose line can't be flushed says so, and serves nobody: the client that has asked is not answered.
 fn serves_nobody<R>(rt: &R, alloc: Global, file: &str)
 where

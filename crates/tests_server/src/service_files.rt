@@ -3,8 +3,8 @@ use crate::checks::{is_true, is_true_at, same, same_at};
 use crate::fixtures::joined;
 use config_mistakes::{config_mistake, file_mistake};
 use requests::config;
-use service::Journal;
-use service_file::{Keeper, Settings, read_settings};
+use service::{Journal, Upkeep};
+use service_file::{Keeper, Settings, Tickets, read_settings};
 use std::alloc::Global;
 use std::process::Abort;
 use texts::json;
@@ -94,30 +94,77 @@ fn keepers_are_read(rt: HostRuntime) {
     }
 }
 
-/// What becomes of the journal of a service with this text behind its name; none where the file can't be used.
-fn journal_of(rt: &impl Abort, alloc: Global, part: &str) -> Option<Journal> {
+/// What a service with this text behind its name does for its upkeep; none where the file can't be used.
+fn upkeep_of(rt: &impl Abort, alloc: Global, part: &str) -> Option<Upkeep> {
     let text = format!(in alloc;
         "{{\"listen\":\"127.0.0.1:1\",\"workers\":2,\"connections\":0,\"services\":[{{\"name\":\"pay\"{part}}}]}}"
     );
     let text = text.expect(rt, "ample memory");
     let settings = read(rt, alloc, &text)?;
-    Some(settings.services.first()?.upkeep.journal)
+    Some(settings.services.first()?.upkeep)
+}
+
+/// A service's upkeep.
+fn upkeep(journal: Journal, max_ticket_age: u64) -> Option<Upkeep> {
+    Some(Upkeep {
+        journal,
+        max_ticket_age,
+    })
 }
 
 #[test]
-fn journals_are_read(rt: HostRuntime) {
+fn upkeeps_are_read(rt: HostRuntime) {
     let alloc = rt.alloc();
     for row in [
-        ("", Some(Journal::Keep)),
-        (",\"journal\":\"keep\"", Some(Journal::Keep)),
-        (",\"journal\":\"last\"", Some(Journal::Last)),
+        ("", upkeep(Journal::Keep, 0)),
+        (",\"journal\":\"keep\"", upkeep(Journal::Keep, 0)),
+        (",\"journal\":\"last\"", upkeep(Journal::Last, 0)),
         (",\"journal\":\"Last\"", None),
         (",\"journal\":\"\"", None),
         (",\"journal\":null", None),
         (",\"journals\":\"last\"", None),
+        (",\"maxTicketAge\":0", upkeep(Journal::Keep, 0)),
+        (",\"maxTicketAge\":60000", upkeep(Journal::Keep, 60_000)),
+        (
+            ",\"maxTicketAge\":18446744073709551615,\"journal\":\"last\"",
+            upkeep(Journal::Last, u64::MAX),
+        ),
+        (",\"maxTicketAge\":18446744073709551616", None),
+        (",\"maxTicketAge\":-1", None),
+        (",\"maxTicketAge\":1.5", None),
+        (",\"maxTicketAge\":\"60000\"", None),
+        (",\"maxTicketAge\":null", None),
+        (",\"max_ticket_age\":1", None),
     ] {
-        let (part, journal) = row;
-        same_at(&rt, journal_of(&rt, alloc, part), journal, part);
+        let (part, upkeep) = row;
+        same_at(&rt, upkeep_of(&rt, alloc, part), upkeep, part);
+    }
+}
+
+/// How a file with this text between its workers and its connections numbers tickets; none where it can't be used.
+fn tickets_of(rt: &impl Abort, alloc: Global, part: &str) -> Option<Tickets> {
+    let text = format!(in alloc;
+        "{{\"listen\":\"127.0.0.1:1\",\"workers\":2,{part}\"connections\":0,\"services\":[{{\"name\":\"pay\"}}]}}"
+    );
+    let text = text.expect(rt, "ample memory");
+    Some(read(rt, alloc, &text)?.tickets)
+}
+
+#[test]
+fn numberings_of_tickets_are_read(rt: HostRuntime) {
+    let alloc = rt.alloc();
+    for row in [
+        ("", Some(Tickets::FromOne)),
+        ("\"tickets\":\"from 1\",", Some(Tickets::FromOne)),
+        ("\"tickets\":\"by the clock\",", Some(Tickets::ByTheClock)),
+        ("\"tickets\":\"By the clock\",", None),
+        ("\"tickets\":\"from 2\",", None),
+        ("\"tickets\":\"\",", None),
+        ("\"tickets\":null,", None),
+        ("\"tickets\":1,", None),
+    ] {
+        let (part, tickets) = row;
+        same_at(&rt, tickets_of(&rt, alloc, part), tickets, part);
     }
 }
 

@@ -1,6 +1,7 @@
 //! What the tests of a desk share: a desk, callers with a seat of it, and how they ask.
-ghost use Rattle.std.specs.Prelude.{◌≡◌, map};
-ghost use Rattle.desk.specs.Services.{service_of};
+ghost use Rattle.std.specs.Prelude.{◌≡◌, ◌≤◌, map};
+ghost use Rattle.desk.specs.Services.{service_from};
+ghost use Rattle.service_profile.specs.Limits.{greatest_number};
 
 use crate::checks::same;
 use crate::desk_calls::make_each_call;
@@ -8,7 +9,7 @@ use crate::desk_histories::go_through;
 use crate::gates::{Overtaking, overtake_at_a_gate, race};
 use crate::seats::{take_all_seats, use_four_seats};
 use crate::threads::call_from_four_threads;
-use crate::upkeep::keep_last_entries;
+use crate::upkeep::{keep_last_entries, release_old_tickets};
 use book::{Book, Config, ConfigParts, Reply};
 use desk::{Desk, Gate, Offered, Seat, Unclosed};
 use refusals::RefusalNumber;
@@ -75,6 +76,8 @@ pub(crate) enum Scene<'a> {
     Race,
     /// The only seat makes more entries than a journal holds.
     LastEntries,
+    /// Tickets of the only seat get at most a second old.
+    OldTickets,
 }
 
 /// Plays at a desk.
@@ -92,6 +95,7 @@ fn play<
         Scene::Overtaking(overtaking) => overtake_at_a_gate(rt, alloc, desk, overtaking),
         Scene::Race => race(rt, alloc, desk),
         Scene::LastEntries => keep_last_entries(rt, alloc, desk),
+        Scene::OldTickets => release_old_tickets(rt, alloc, desk),
     }
 }
 
@@ -103,12 +107,28 @@ pub(crate) fn play_at_a_desk<R: Threads + Wait + Abort + Sync>(
     parts: ConfigParts,
     scene: Scene<'_>,
 ) {
+    play_from(rt, alloc, names, parts, 1, scene);
+}
+
+/// The same, at a desk whose services' tickets begin at this number.
+pub(crate) fn play_from<R: Threads + Wait + Abort + Sync>(
+    rt: &R,
+    alloc: Global,
+    names: &[&str],
+    parts: ConfigParts,
+    first_ticket: u64,
+    scene: Scene<'_>,
+)
+    requires least { 1 ≤ first_ticket }
+    requires most { first_ticket ≤ greatest_number }
+{
     play_at::<Brand, Brand, R>(
         rt,
         alloc,
         Blank::new(193),
         Blank::new(193),
         services(rt, alloc, names, parts),
+        first_ticket,
         scene,
     );
 }
@@ -195,15 +215,18 @@ fn play_at<
     entries: Blank,
     cuts: Blank,
     services: Vec<(String, Config, Verified)>,
+    first_ticket: u64,
     scene: Scene<'_>,
 )
+    requires least { 1 ≤ first_ticket }
+    requires most { first_ticket ≤ greatest_number }
     requires entries_name { entries.name ≡ L.name }
     requires entries_parts { (entries.parts ≡ L.parts) × (L.parts ≡ 193) }
     requires cuts_name { cuts.name ≡ M.name }
     requires cuts_parts { (cuts.parts ≡ M.parts) × (M.parts ≡ 193) }
-    requires offered { M.services ≡ map service_of services.items }
+    requires offered { M.services ≡ map (service_from first_ticket) services.items }
 {
     assert!(rt; services.len() <= 64);
-    let desk = Desk::<L, M>::open(alloc, entries, cuts, services).expect(rt, "ample memory");
-    play(rt, alloc, desk, scene);
+    let opened = Desk::<L, M>::open_from(alloc, entries, cuts, services, first_ticket);
+    play(rt, alloc, opened.expect(rt, "ample memory"), scene);
 }

@@ -1,6 +1,6 @@
 //! The worked histories through one seat of a fresh desk.
 use crate::checks::{is_true, same_at};
-use crate::desk_fixtures::{Scene, close, play_at_a_desk};
+use crate::desk_fixtures::{Scene, close, play_at_a_desk, play_from};
 use crate::histories::is_met;
 use book::Book;
 use desk::{Desk, Offered, ServicePlace};
@@ -10,8 +10,8 @@ use std::sync::Wait;
 use std::sync::ledger::Ledger;
 use std::thread::Threads;
 use worked_histories::{
-    HISTORIES, History, JOURNALS, LONG_JOURNALS, STATE_CHANGES, Step, config_parts, history_at,
-    play, state_change,
+    HISTORIES, History, JOURNALS, LATER_TICKET, LATER_TICKETS, LONG_JOURNALS, STATE_CHANGES, Step,
+    config_parts, history_at, play, state_change,
 };
 
 /// Goes through a history by the only seat of a desk with one service, which is then closed.
@@ -75,4 +75,22 @@ fn every_state_is_reached_at_a_desk(rt: HostRuntime) {
     for number in 0..STATE_CHANGES {
         play_each(&rt, rt.alloc(), &state_change(number));
     }
+}
+
+#[test]
+fn tickets_below_the_first_of_a_desk_are_spent(rt: HostRuntime) {
+    let history = History {
+        name: "later tickets",
+        parts: &[],
+        steps: LATER_TICKETS,
+    };
+    let scene = Scene::Alone(&history);
+    play_from(
+        &rt,
+        rt.alloc(),
+        &["pay"],
+        config_parts(&[]),
+        LATER_TICKET,
+        scene,
+    );
 }

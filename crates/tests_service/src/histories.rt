@@ -1,4 +1,7 @@
 //! The worked histories on a book that one caller has to itself.
+ghost use Rattle.std.specs.Prelude.{◌≤◌};
+ghost use Rattle.service_profile.specs.Limits.{greatest_number};
+
 use crate::checks::{is_true_at, same_at};
 use book::{Book, Config};
 use refusals::RefusalNumber::TicketsOpen;
@@ -12,8 +15,9 @@ use worked_histories::Step::{
 };
 use worked_histories::Wish::{Acquire, Report};
 use worked_histories::{
-    FAILURE, HISTORIES, History, JOURNALS, LONG_JOURNALS, Missed, Part, SPENT, STATE_CHANGES, Step,
-    config_parts, history_at, play, program, state_change,
+    FAILURE, HISTORIES, History, JOURNALS, LAST_TICKET, LAST_TICKETS, LATER_TICKET, LATER_TICKETS,
+    LONG_JOURNALS, Missed, Part, SPENT, STATE_CHANGES, Step, config_parts, history_at, play,
+    program, state_change,
 };
 
 /// A book with the default classifier, whose configuration differs in these parts from the default one.
@@ -21,6 +25,16 @@ pub(crate) fn book(rt: &impl Abort, alloc: Global, parts: &[Part]) -> Book {
     let config = Config::new(config_parts(parts)).expect(rt, "parts in their ranges");
     let classifier = program(alloc, false).expect(rt, "the default classifier");
     Book::open(alloc, config, classifier).expect(rt, "ample memory")
+}
+
+/// A book with the default classifier and configuration, whose tickets begin at a number.
+fn book_from(rt: &impl Abort, alloc: Global, first_ticket: u64) -> Book
+    requires least { 1 ≤ first_ticket }
+    requires most { first_ticket ≤ greatest_number }
+{
+    let config = Config::new(config_parts(&[])).expect(rt, "parts in their ranges");
+    let classifier = program(alloc, false).expect(rt, "the default classifier");
+    Book::open_from(alloc, config, classifier, first_ticket).expect(rt, "ample memory")
 }
 
 /// Each step of a history was met.
@@ -113,4 +127,20 @@ fn every_state_is_reached(rt: HostRuntime) {
     for number in 0..STATE_CHANGES {
         play_each(&rt, rt.alloc(), &state_change(number));
     }
+}
+
+#[test]
+fn tickets_below_the_first_are_spent(rt: HostRuntime) {
+    let rt = &rt;
+    let mut book = book_from(rt, rt.alloc(), LATER_TICKET);
+    let played = play(rt.alloc(), &mut book, &ONLY_SEAT, LATER_TICKETS);
+    is_met(rt, played, "later tickets");
+}
+
+#[test]
+fn tickets_may_begin_at_the_last_number(rt: HostRuntime) {
+    let rt = &rt;
+    let mut book = book_from(rt, rt.alloc(), LAST_TICKET);
+    let played = play(rt.alloc(), &mut book, &ONLY_SEAT, LAST_TICKETS);
+    is_met(rt, played, "last tickets");
 }

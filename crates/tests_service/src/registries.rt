@@ -130,10 +130,15 @@ fn told(ticket: OpenTicket) -> Ticket {
     (ticket.number, ticket.version, ticket.period)
 }
 
-/// Issues a ticket, with a number that is far from the last one.
+/// Issues a ticket, with a number that is far from the last one, at a moment of ten times this number.
 fn issue(rt: &impl Abort, registry: &mut Registry, period: u64) -> Ticket {
-    assert!(rt; registry.next_ticket() < 1_000_000);
-    told(registry.issue(period).expect(rt, "ample memory"))
+    let number = registry.next_ticket();
+    assert!(rt; number < 1_000_000);
+    let ticket = registry
+        .issue(period, 10 * number)
+        .expect(rt, "ample memory");
+    same_at(rt, ticket.moment, 10 * number, number);
+    told(ticket)
 }
 
 fn end(registry: &mut Registry, number: u64) -> Result<Ticket, RefusalNumber> {
@@ -368,6 +373,33 @@ fn tickets_end_in_another_order(rt: HostRuntime) {
     end_tickets(&rt, &mut registry);
     same_at(&rt, tickets(&registry), (0, 10_001), 0);
     same_at(&rt, issue(&rt, &mut registry, 9), (10_001, 1, 9), 0);
+}
+
+/// The number of the open ticket that was issued first, and the moment of its issue.
+fn oldest(registry: &Registry) -> Option<(u64, u64)> {
+    let ticket = registry.oldest_ticket()?;
+    Some((ticket.number, ticket.moment))
+}
+
+#[test]
+fn the_oldest_open_ticket_is_known(rt: HostRuntime) {
+    let mut registry = registry(&rt, rt.alloc());
+    same_at(&rt, oldest(&registry), None, 0);
+    for number in 1..5u64 {
+        let _ticket = issue(&rt, &mut registry, 1);
+        same_at(&rt, oldest(&registry), Some((1, 10)), number);
+    }
+    for (ended, left) in [
+        (2, Some((1, 10))),
+        (1, Some((3, 30))),
+        (3, Some((4, 40))),
+        (4, None),
+    ] {
+        same_at(&rt, end(&mut registry, ended).is_ok(), true, ended);
+        same_at(&rt, oldest(&registry), left, ended);
+    }
+    let _ticket = issue(&rt, &mut registry, 1);
+    same_at(&rt, oldest(&registry), Some((5, 50)), 5);
 }
 
 #[test]

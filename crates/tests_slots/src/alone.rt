@@ -2,7 +2,7 @@
 ghost use Rattle.std.specs.Prelude.{◌≡◌};
 
 use crate::checks::same;
-use crate::fixtures::{close_one, open_desk_with, seat_of};
+use crate::fixtures::{close_one, open_desk_from, open_desk_with, seat_of};
 use book::{Book, Call, ConfigParts};
 use service::BookCalls;
 use slot_desk::{Desk, Seat, ServiceId};
@@ -10,6 +10,7 @@ use std::alloc::Global;
 use std::marker::Model;
 use std::process::Abort;
 use std::sync::Wait;
+use worked_histories::LATER_TICKET;
 
 /// A desk with one service, and its only seat. That they belong together is kept here, whatever is called.
 #[derive(Drop)]
@@ -34,7 +35,17 @@ impl Model for Alone {
 impl Alone {
     /// A new desk, whose service has a configuration of these parts and the default classifier.
     pub(crate) fn open<R: Abort>(rt: &R, alloc: Global, parts: ConfigParts) -> Alone {
-        let mut desk = open_desk_with(rt, alloc, &["pay"], parts);
+        Alone::at(rt, alloc, open_desk_with(rt, alloc, &["pay"], parts))
+    }
+
+    /// The same, with the default configuration, where the tickets begin at a later number.
+    pub(crate) fn open_later<R: Abort>(rt: &R, alloc: Global) -> Alone {
+        Alone::at(rt, alloc, open_desk_from(rt, alloc, &["pay"], LATER_TICKET))
+    }
+
+    /// At a desk that has given no seat.
+    fn at<R: Abort>(rt: &R, alloc: Global, desk: Desk) -> Alone {
+        let mut desk = desk;
         let seat = seat_of(rt, alloc, &mut desk);
         let service = desk.find("pay").expect(rt, "a service of the desk");
         Alone {

@@ -1,6 +1,7 @@
 //! What the tests of a desk share: a desk, its seats, and what is read in its books.
-ghost use Rattle.std.specs.Prelude.{◌≡◌};
+ghost use Rattle.std.specs.Prelude.{◌≡◌, ◌≤◌};
 ghost use Rattle.std.specs.List.{AllByRecursion};
+ghost use Rattle.service_profile.specs.Limits.{greatest_number};
 ghost use Rattle.slot_desk.specs.Seats.{IsSeatOf};
 
 use crate::checks::{is_true, same};
@@ -26,6 +27,22 @@ pub(crate) fn open_desk_with<R: Abort>(
     let services = services(rt, alloc, names, parts);
     assert!(rt; services.len() <= 64);
     Desk::open(alloc, services).expect(rt, "ample memory")
+}
+
+/// A new desk with services of these names, with the default configuration and the default classifier, whose tickets
+/// begin at this number.
+pub(crate) fn open_desk_from<R: Abort>(
+    rt: &R,
+    alloc: Global,
+    names: &[&str],
+    first_ticket: u64,
+) -> Desk
+    requires least { 1 ≤ first_ticket }
+    requires most { first_ticket ≤ greatest_number }
+{
+    let services = services(rt, alloc, names, ConfigParts::DEFAULT);
+    assert!(rt; services.len() <= 64);
+    Desk::open_from(alloc, services, first_ticket).expect(rt, "ample memory")
 }
 
 /// Services of these names, of one configuration.

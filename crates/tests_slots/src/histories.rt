@@ -5,8 +5,8 @@ use std::alloc::Global;
 use std::process::Abort;
 use std::sync::Wait;
 use worked_histories::{
-    HISTORIES, History, JOURNALS, LONG_JOURNALS, STATE_CHANGES, Step, config_parts, history_at,
-    play, state_change,
+    HISTORIES, History, JOURNALS, LATER_TICKETS, LONG_JOURNALS, STATE_CHANGES, Step, config_parts,
+    history_at, play, state_change,
 };
 
 /// Plays a history at a new desk, which is then closed.
@@ -47,4 +47,14 @@ fn every_state_is_reached(rt: HostRuntime) {
     for number in 0..STATE_CHANGES {
         play_each(&rt, rt.alloc(), &state_change(number));
     }
+}
+
+#[test]
+fn tickets_below_the_first_are_spent(rt: HostRuntime) {
+    let rt = &rt;
+    let alloc = rt.alloc();
+    let mut alone = Alone::open_later(rt, alloc);
+    let played = play(alloc, &mut alone, rt, LATER_TICKETS);
+    is_true_at(rt, played.is_ok(), played);
+    alone.close(rt, alloc);
 }

@@ -51,6 +51,7 @@ breaker_opened =
       free = 25;
       not_permitted = 0;
       entries = 7;
+      oldest_ticket = None;
     }) ∷ [])))))))
 
 -- ---- a call over the threshold is slow, one at it isn't, and the rates are shown from the minimum on
@@ -90,6 +91,7 @@ calls_were_slow =
       free = 25;
       not_permitted = 0;
       entries = 4;
+      oldest_ticket = None;
     }) ∷ []))))
 
 -- ---- a roll hands out the entries up to a number, of which pages have no more; all else goes on
@@ -127,5 +129,6 @@ journal_was_rolled =
       free = 25;
       not_permitted = 0;
       entries = 2;
+      oldest_ticket = None;
     })
     ∷ (says (reply.Permitted 2 1 state.Closed) ∷ [])))))))

@@ -43,7 +43,7 @@ abbrev pub reported_line : Verdict → EntryData
 reported_line v = line 2 1 (finishes (zero_work v) 1) 5 (reply.Finished fate.Recorded v 2 1 state.Closed)
 
 abbrev pub first_ticket : OpenTicket
-first_ticket = record { number = 1; version = 1; period = 1 }
+first_ticket = record { number = 1; version = 1; period = 1; moment = 5 }
 
 -- ---- steps
 

@@ -1,5 +1,5 @@
 -- Worked examples of the documented machine: what is done, and what is heard.
-use Rattle.std.specs.Prelude.{ℕ, List, [], ◌∷◌, ◌++◌, None}
+use Rattle.std.specs.Prelude.{ℕ, List, [], ◌∷◌, ◌++◌, Some, None}
 use Rattle.bpf_profile.specs.declared.machine.Verdict.TheVariants as verdict
 use Rattle.bpf_profile.specs.declared.layout.Layout.TheVariants as layout
 use Rattle.refusals.specs.declared.RefusalNumber.TheVariants as refusal
@@ -35,6 +35,7 @@ seen_in_ten_seconds total = shows (record {
   free = 25;
   not_permitted = 0;
   entries = 2;
+  oldest_ticket = None;
 })
 
 abbrev pub note_passed_out : List Heard
@@ -99,6 +100,7 @@ ticket_went_stale =
       free = 25;
       not_permitted = 0;
       entries = 3;
+      oldest_ticket = None;
     }) ∷ [])))
 
 -- ---- the bulkhead is asked after the breaker, so that a refusal by it leaves the transition to HALF_OPEN
@@ -134,6 +136,7 @@ full_bulkhead_refused =
       free = 0;
       not_permitted = 0;
       entries = 4;
+      oldest_ticket = Some (record { number = 1; version = 1; period = 1; moment = 0 });
     }) ∷ []))))
 
 -- ---- DISABLED counts nothing, FORCED_OPEN permits nothing, and a reset leads back to CLOSED
@@ -190,6 +193,7 @@ book_was_cut =
       free = 24;
       not_permitted = 0;
       entries = 3;
+      oldest_ticket = Some (record { number = 2; version = 1; period = 2; moment = 1 });
     }) ∷ []))))))
 
 -- ---- a ticket of number 2^63 may still be the next one after a cut; behind it no cut is made
@@ -216,6 +220,7 @@ last_ticket_was_issued =
       free = 24;
       not_permitted = 0;
       entries = 1;
+      oldest_ticket = Some (record { number = 9223372036854775808; version = 1; period = 2; moment = 0 });
     }) ∷ [])))
 
 -- ---- a release ends its ticket, and a ticket that was never issued is another refusal than one that has ended

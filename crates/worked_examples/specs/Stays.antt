@@ -1,5 +1,5 @@
 -- Worked examples with a longest stay in HALF_OPEN.
-use Rattle.std.specs.Prelude.{ℕ, List, [], ◌∷◌, ◌++◌, None}
+use Rattle.std.specs.Prelude.{ℕ, List, [], ◌∷◌, ◌++◌, Some, None}
 use Rattle.bpf_profile.specs.declared.machine.Verdict.TheVariants as verdict
 use Rattle.refusals.specs.declared.RefusalNumber.TheVariants as refusal
 use Rattle.service_profile.specs.declared.configuration.ConfigParts.{ConfigParts}
@@ -27,8 +27,9 @@ stay_ends =
     ∷ (by_caller (acquire 1500)
     ∷ (by_caller (read 1500) ∷ []))))))))
 
-abbrev pub seen_in_half_open : ℕ → ℕ → ℕ → ℕ → Heard
-seen_in_half_open period total refused entries = shows (record {
+-- the one open ticket was issued in the present period at a moment
+abbrev pub seen_in_half_open : ℕ → ℕ → ℕ → ℕ → ℕ → ℕ → Heard
+seen_in_half_open period total refused entries ticket moment = shows (record {
   state = state.HalfOpen;
   period = period;
   version = 1;
@@ -42,6 +43,7 @@ seen_in_half_open period total refused entries = shows (record {
   free = 24;
   not_permitted = refused;
   entries = entries;
+  oldest_ticket = Some (record { number = ticket; version = 1; period = period; moment = moment });
 })
 
 abbrev pub stay_ended : List Heard
@@ -50,11 +52,11 @@ stay_ended =
     ∷ (says (reply.Permitted 1 1 state.HalfOpen)
     ∷ (says (reply.Permitted 2 1 state.HalfOpen)
     ∷ (says (reply.Finished fate.Recorded verdict.Success 6 1 state.HalfOpen)
-    ∷ (seen_in_half_open 2 1 0 4
+    ∷ (seen_in_half_open 2 1 0 4 2 499
     ∷ (says (reply.Finished fate.Stale verdict.Success 6 1 state.Open)
     ∷ (says (reply.Refused refusal.CallNotPermitted)
     ∷ (says (reply.Permitted 3 1 state.HalfOpen)
-    ∷ (seen_in_half_open 4 0 0 7 ∷ []))))))))
+    ∷ (seen_in_half_open 4 0 0 7 3 1500 ∷ []))))))))
 
 -- ---- the transition at the stay's end and the one that is asked for are two
 

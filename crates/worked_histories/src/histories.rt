@@ -6,7 +6,7 @@ use crate::answers::{Answer, FAILURE, NO_TICKET, NOT_PERMITTED, SPENT, SUCCESS};
 use crate::parts::Part;
 use crate::parts::Part::{Calls, LongestStay, Minimum, Places, Seconds, Trials, Wait};
 use crate::readings::Shown::{
-    Budget, Failed, Free, In, Last, OpenTickets, Period, Rates, Refusals, Total, Version,
+    Budget, Failed, Free, In, Last, Oldest, OpenTickets, Period, Rates, Refusals, Total, Version,
 };
 use crate::steps::Step;
 use crate::steps::Step::{Call, Fresh, LastNumber, Page, Stands, Strange};
@@ -93,6 +93,7 @@ pub const HISTORIES: &[Step<'static>] = &[
         &[
             In(HalfOpen),
             OpenTickets(1),
+            Oldest(2, 2, 499),
             Free(24),
             Period(2),
             Total(1),
@@ -104,7 +105,14 @@ pub const HISTORIES: &[Step<'static>] = &[
     Call(1_500, Acquire, PermittedBy(3, 1, HalfOpen)),
     Stands(
         1_500,
-        &[In(HalfOpen), OpenTickets(1), Free(24), Period(4), Last(7)],
+        &[
+            In(HalfOpen),
+            OpenTickets(1),
+            Oldest(3, 4, 1_500),
+            Free(24),
+            Period(4),
+            Last(7),
+        ],
     ),
     Fresh("a move after the longest stay is the second", HALF_A_SECOND),
     Call(0, Move(HalfOpen), Moved(HalfOpen, 2)),
@@ -117,12 +125,26 @@ pub const HISTORIES: &[Step<'static>] = &[
     Call(500, Report(2, 200), NO_TICKET),
     Stands(
         500,
-        &[In(HalfOpen), Period(2), OpenTickets(1), Free(24), Last(2)],
+        &[
+            In(HalfOpen),
+            Period(2),
+            OpenTickets(1),
+            Oldest(1, 2, 0),
+            Free(24),
+            Last(2),
+        ],
     ),
     Strange(500, 2, NO_TICKET),
     Stands(
         500,
-        &[In(Open), Period(3), OpenTickets(1), Free(24), Last(3)],
+        &[
+            In(Open),
+            Period(3),
+            OpenTickets(1),
+            Oldest(1, 2, 0),
+            Free(24),
+            Last(3),
+        ],
     ),
     Fresh("another program's verdict changes nothing", &[]),
     Call(5, Acquire, Permitted(1)),
@@ -137,7 +159,7 @@ pub const HISTORIES: &[Step<'static>] = &[
     Fresh("the bulkhead has places", &[Places(1)]),
     Call(0, Acquire, Permitted(1)),
     Call(0, Acquire, Refused(BulkheadFull)),
-    Stands(0, &[OpenTickets(1), Free(0), Last(2)]),
+    Stands(0, &[OpenTickets(1), Oldest(1, 1, 0), Free(0), Last(2)]),
     Call(0, Report(1, 200), SUCCESS),
     Call(0, Acquire, Permitted(2)),
     Fresh("a full bulkhead leaves half open", &[Places(1), Wait(1000)]),
@@ -147,7 +169,14 @@ pub const HISTORIES: &[Step<'static>] = &[
     Call(1000, Acquire, Refused(BulkheadFull)),
     Stands(
         1000,
-        &[In(HalfOpen), Period(3), OpenTickets(1), Free(0), Last(4)],
+        &[
+            In(HalfOpen),
+            Period(3),
+            OpenTickets(1),
+            Oldest(1, 1, 0),
+            Free(0),
+            Last(4),
+        ],
     ),
     Fresh("a release frees its place", &[Places(1)]),
     Call(0, Acquire, Permitted(1)),

@@ -5,7 +5,7 @@ use crate::answers::Answer::{
 use crate::answers::{Answer, FAILURE, FULL, NO_TICKET, SPENT, SUCCESS};
 use crate::histories::HALF_A_SECOND;
 use crate::readings::Shown::{
-    Budget, Failed, Free, In, Last, OpenTickets, Period, Rates, Total, Version,
+    Budget, Failed, Free, In, Last, Oldest, OpenTickets, Period, Rates, Total, Version,
 };
 use crate::steps::Handed::{Many, Nothing, These};
 use crate::steps::Step;
@@ -16,16 +16,64 @@ use crate::wishes::Wish::{Acquire, InstallDefault, InstallIgnoring, Move, Releas
 use book::Fate::Recorded;
 use book::State::{Closed, Disabled, HalfOpen, Open};
 use bpf_profile::Verdict::Failure;
-use refusals::RefusalNumber::{TicketsOpen, VersionsFull};
+use refusals::RefusalNumber::{JournalFull, TicketsOpen, VersionsFull};
 
 const NO_VERSION: Answer = Refused(VersionsFull);
+
+/// The first ticket of the history below.
+pub const LATER_TICKET: u64 = 1_000;
+
+/// Calls of a service whose tickets begin at that number: those of smaller numbers are spent.
+pub const LATER_TICKETS: &[Step<'static>] = &[
+    Call(1, Report(LATER_TICKET - 1, 200), SPENT),
+    Call(2, Release(1), SPENT),
+    Call(3, Release(0), NO_TICKET),
+    Call(4, Release(LATER_TICKET), NO_TICKET),
+    Call(5, Acquire, Permitted(LATER_TICKET)),
+    Call(6, Release(LATER_TICKET - 1), SPENT),
+    Stands(
+        7,
+        &[
+            OpenTickets(1),
+            Oldest(LATER_TICKET, 1, 5),
+            Free(24),
+            Last(5),
+        ],
+    ),
+    Call(8, Report(LATER_TICKET, 200), SUCCESS),
+    Call(9, Report(LATER_TICKET, 200), SPENT),
+    Call(10, Acquire, Permitted(LATER_TICKET + 1)),
+];
+
+/// The greatest number that a first ticket may have.
+pub const LAST_TICKET: u64 = 1 << 63;
+
+/// Calls of a service whose tickets begin at that number: behind the first one it is neither cut nor rolled, and goes on.
+pub const LAST_TICKETS: &[Step<'static>] = &[
+    Cut(Many(0, 0, 0)),
+    Call(1, Acquire, Permitted(LAST_TICKET)),
+    Call(2, Release(LAST_TICKET), Released(Closed)),
+    Cut(Nothing(JournalFull)),
+    Call(3, Acquire, Permitted(LAST_TICKET + 1)),
+    Roll(3, Nothing(JournalFull)),
+];
 
 /// One call of each kind, and more.
 pub const EACH_CALL: &[Step<'static>] = &[
     Call(1, Acquire, Permitted(1)),
     Call(2, Report(1, 500), FAILURE),
     Call(3, Acquire, Permitted(2)),
-    Stands(4, &[Total(1), Failed(1), OpenTickets(1), Free(24), Last(3)]),
+    Stands(
+        4,
+        &[
+            Total(1),
+            Failed(1),
+            OpenTickets(1),
+            Oldest(2, 1, 3),
+            Free(24),
+            Last(3),
+        ],
+    ),
     Call(4, Release(2), Released(Closed)),
     Call(5, InstallIgnoring, Installed(2, 2)),
     Call(6, Move(Disabled), Moved(Disabled, 2)),
@@ -107,7 +155,17 @@ pub const JOURNALS: &[Step<'static>] = &[
     Count(0, 1),
     Count(3, 1),
     Count(4, 0),
-    Stands(0, &[Total(1), Failed(1), OpenTickets(1), Free(24), Last(3)]),
+    Stands(
+        0,
+        &[
+            Total(1),
+            Failed(1),
+            OpenTickets(1),
+            Oldest(1, 1, 0),
+            Free(24),
+            Last(3),
+        ],
+    ),
     Call(0, Release(1), Released(Closed)),
     Page(4, &[(4, 1, Release(1), 2, Released(Closed))]),
     Call(0, Release(2), SPENT),

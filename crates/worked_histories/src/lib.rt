@@ -20,10 +20,12 @@ pub use asking::{outcome_of, program, request_of, shared_program};
 pub use entries::{Entered, Made, are_calls, are_entries, is_entry};
 pub use gates::{Flag, HoldingGate};
 pub use histories::{HISTORIES, STATE_CHANGES, state_change};
-pub use journals::{EACH_CALL, JOURNALS, LONG_JOURNALS};
+pub use journals::{
+    EACH_CALL, JOURNALS, LAST_TICKET, LAST_TICKETS, LATER_TICKET, LATER_TICKETS, LONG_JOURNALS,
+};
 pub use parts::{Part, config_parts};
 pub use playing::{Found, Missed, asked, is_answered, play};
 pub use readings::{FRESH, Shown, reading};
 pub use steps::{Handed, History, Step, history_at};
-pub use upkeep::{LAST, failed_calls};
+pub use upkeep::{A_SECOND, AgedAcquire, LAST, acquire_at, failed_calls, unlike_aged};
 pub use wishes::Wish;

@@ -1,5 +1,5 @@
 //! How a service stands, as plain data.
-use book::{Reading, State};
+use book::{OpenTicket, Reading, State};
 
 /// How a service with the default classifier stands in CLOSED, with the first rates not shown yet.
 pub const FRESH: Reading = Reading {
@@ -16,6 +16,7 @@ pub const FRESH: Reading = Reading {
     free: 25,
     not_permitted: 0,
     entries: 0,
+    oldest_ticket: None,
 };
 
 /// A part of a reading.
@@ -33,6 +34,8 @@ pub enum Shown {
     Free(u64),
     Refusals(u64),
     Last(u64),
+    /// The open ticket of version 1 that was issued first: its number, its period and its moment.
+    Oldest(u64, u64, u64),
 }
 
 /// The reading that differs from a fresh service's in these parts.
@@ -61,6 +64,14 @@ fn with_part(reading: Reading, part: Shown) -> Reading {
         Shown::Free(free) => reading.free = free,
         Shown::Refusals(not_permitted) => reading.not_permitted = not_permitted,
         Shown::Last(entries) => reading.entries = entries,
+        Shown::Oldest(number, period, moment) => {
+            reading.oldest_ticket = Some(OpenTicket {
+                number,
+                version: 1,
+                period,
+                moment,
+            });
+        }
     }
     reading
 }

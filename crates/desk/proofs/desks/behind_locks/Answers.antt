@@ -43,4 +43,4 @@ opened-requires-clause-of_service g c =
     let later = into_iter_items c.next.new.self in
     let part : String Global × Config × Verified = (c.in-Some.name, c.in-Some.config, c.in-Some.program) in
     let whole : c.args.services.items ≡ done ++ (part ∷ later) = c.loop-name.invariant.2.1 ∙ ap (λ rest. done ++ rest) c.in-Some.ensures.steps.0 in
-    opens_one done later part g.M.Offered.services c.args.services.items c.requires.offered whole
+    opens_one c.args.first_ticket done later part g.M.Offered.services c.args.services.items c.requires.offered whole

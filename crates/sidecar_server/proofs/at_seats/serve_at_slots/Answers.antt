@@ -15,5 +15,5 @@ serve_at-requires-send-S g c κs within = param_send 1 _ (arg_send _ yes _ seat_
 pub returns-clause-served : goal.returns-clause-served
 returns-clause-served g c =
     let names = c.in_ok-desk.ensures.names ∙ named_as c.args.settings.services.items c.in_ok-opened.opened.items c.in_ok-opened.ensures in
-    let origins = c.in_ok-desk.ensures.opened ∙ opened_as c.args.settings.services.items c.in_ok-opened.opened.items c.in_ok-opened.ensures in
-    IfOk-weaker c.serve_at.result _ _ (λ end served. served_at_slots g.C.Clock.ticks c.args.settings c.args.clock c.in_ok-desk.desk c.deref.result.now end.books.items end.counts.items names origins (c.deref.ensures.value ∙ c.in_ok-upkeeps.ensures) served) c.serve_at.ensures.served
+    let origins = c.in_ok-desk.ensures.opened ∙ opened_as c.args.first_ticket c.args.settings.services.items c.in_ok-opened.opened.items c.in_ok-opened.ensures in
+    IfOk-weaker c.serve_at.result _ _ (λ end served. served_at_slots g.C.Clock.ticks c.args.settings c.args.first_ticket c.args.clock c.in_ok-desk.desk c.deref.result.now end.books.items end.counts.items names origins (c.deref.ensures.value ∙ c.in_ok-upkeeps.ensures) served) c.serve_at.ensures.served

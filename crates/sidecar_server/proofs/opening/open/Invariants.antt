@@ -8,4 +8,4 @@ abbrev pub invariant-loop-service : goal.invariant-loop-service
 invariant-loop-service l =
     (goal.iterator-loop-service).can_next l.service-iterator ×
     (goal.iterator-loop-service).is_finite l.service-iterator ×
-    ((done : List ServiceSettings) × (l.fn.services.items ≡ done ++ into_iter_items l.service-iterator) × AreOpened done l.named.items)
+    ((done : List ServiceSettings) × (l.fn.services.items ≡ done ++ into_iter_items l.service-iterator) × AreOpened l.fn.first_ticket done l.named.items)

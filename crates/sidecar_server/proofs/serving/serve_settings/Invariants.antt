@@ -9,4 +9,4 @@ ghosts-serve_at_desk-M-Ledger g a = record { name = a.cut_parts.name; parts = a.
 
 -- the desk opens the services of the file
 abbrev pub ghosts-serve_at_desk-M-Offered : goal.ghosts-serve_at_desk-M-Offered
-ghosts-serve_at_desk-M-Offered g a = record { services = services_of a.settings.services.items }
+ghosts-serve_at_desk-M-Offered g a = record { services = services_of a.first_ticket a.settings.services.items }

@@ -22,6 +22,6 @@ returns-clause-reading c =
     let metrics : c.metrics-metrics.result ≡ metrics_of (raised past c.args.moment) (breaker_of s) = c.metrics-metrics.ensures _ _ stands before ∙ ap (λ (m : ℕ). metrics_of m (breaker_of s)) when in
     let budget : c.budget.result ≡ option_map_or (λ program. program.budget) (program_from s.first_version s.programs (current_version s)) 0 =
     c.budget.ensures.budget ∙ ap (λ (p : VerifiedProgram). p.budget) c.deref.ensures ∙ ap (λ (o : Option VerifiedProgram). option_map_or (λ program. program.budget) o 0) (c.current_program.ensures _ _ stands) in
-    reads_so past c.args.moment c.last_number.result _ _ _ _ _ _ metrics (c.current_version.ensures _ _ stands) budget (c.open_count.ensures _ _ stands) (c.free_places.ensures _ _ stands) c.self.invariant.0.refused_calls
-    (c.last_number.ensures.number ∙ ap (λ (h : History). next_line (past_of h)) (sym c.self.view_is))
+    reads_so past c.args.moment c.last_number.result _ _ _ _ _ _ _ metrics (c.current_version.ensures _ _ stands) budget (c.open_count.ensures _ _ stands) (c.free_places.ensures _ _ stands) c.self.invariant.0.refused_calls
+    (c.last_number.ensures.number ∙ ap (λ (h : History). next_line (past_of h)) (sym c.self.view_is)) (c.oldest_ticket.ensures _ _ stands)
     ∙ ap (λ (h : History). reading (past_of h) c.args.moment) c.self.view_is

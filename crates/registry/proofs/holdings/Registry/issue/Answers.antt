@@ -10,7 +10,7 @@ invariant_of-self-2 c =
     let kept = c.self.invariant in
     let versions = length (map arc_value r.programs.items) in
     let current : c.current_version.result ≡ r.first_version + (versions - 1) = c.current_version.ensures ∙ ap current_version (sym c.self.view_is) in
-    let ticket : IsTicketOf r.first_version versions (r.next_ticket + 1) (record { number = r.next_ticket; version = c.current_version.result; period = c.args.period }) = record {
+    let ticket : IsTicketOf r.first_version versions (r.next_ticket + 1) (record { number = r.next_ticket; version = c.current_version.result; period = c.args.period; moment = c.args.moment }) = record {
       given = kept.begun;
       before = omega arith;
       not_older = omega (arith, current);

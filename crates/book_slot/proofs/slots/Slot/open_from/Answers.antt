@@ -3,7 +3,7 @@ use Rattle.service_profile.specs.Events.{History}
 use Rattle.atomic_table.specs.Table.{opening}
 use Rattle.book_slot.specs.Rules.{Kept, dealer, origin_of}
 use Rattle.book_slot.proofs.Keeps.{begins}
-use Rattle.book_slot.proofs.slots.Slot.open.Goals as goal
+use Rattle.book_slot.proofs.slots.Slot.open_from.Goals as goal
 
 pub new-requires-2 : goal.new-requires-2
 new-requires-2 c =
