@@ -64,12 +64,21 @@ def state_of_thread(folder: os.DirEntry[str]) -> str:
 class Server:
     """The program, which serves on the loopback address."""
 
-    def __init__(self, services: list[dict[str, Any]] | None = None, workers: int = 16, port: int = 0) -> None:
+    def __init__(
+        self,
+        services: list[dict[str, Any]] | None = None,
+        workers: int = 16,
+        port: int = 0,
+        tickets: str = "from 1",
+        keeper: str = "lock",
+    ) -> None:
         self._folder = tempfile.TemporaryDirectory()
         settings = {
             "listen": f"127.0.0.1:{port}",
             "workers": workers,
+            "keeper": keeper,
             "connections": 0,
+            "tickets": tickets,
             "services": services or [{"name": "pay"}, {"name": "ship"}],
         }
         self._file = f"{self._folder.name}/sidecar.json"

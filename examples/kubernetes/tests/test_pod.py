@@ -10,7 +10,7 @@ import unittest
 from typing import Any
 
 import yaml
-from testbed import NOBODY, Server, wait_for
+from testbed import NOBODY, Server
 
 HERE = os.path.dirname(os.path.realpath(__file__))
 BUSYBOX = shutil.which("busybox")
@@ -54,10 +54,20 @@ class ThePod(unittest.TestCase):
         given = settings()
         self.assertEqual(given["listen"], ADDRESS)
         self.assertEqual(container("application")["env"], [{"name": "SIDECAR", "value": ADDRESS}])
-        with Server(given["services"], given["workers"]) as server:
+        with Server(given["services"], given["workers"], tickets=given["tickets"]) as server:
             self.assertEqual(
                 [server.state("state", service=each["name"]) for each in given["services"]], [["CLOSED"]] * 2
             )
+
+    def test_the_sidecar_needs_nobody_beside_it(self) -> None:
+        given = settings()
+        self.assertEqual([each["journal"] for each in given["services"]], ["last"] * 2)
+        for each in given["services"]:
+            self.assertGreater(each["maxTicketAge"], 30_000)
+        with Server(given["services"], given["workers"], tickets=given["tickets"]) as server:
+            first = server.ask("POST", "acquire")["ticket"]
+            server.start_again()
+            self.assertGreater(server.ask("POST", "acquire")["ticket"], first)
 
     def test_the_limit_of_memory_has_room_for_full_journals(self) -> None:
         given = settings()
@@ -67,11 +77,10 @@ class ThePod(unittest.TestCase):
         self.assertGreater(int(limit[:-2]) * 1.048, least)
 
     def test_no_container_has_more_rights_than_it_needs(self) -> None:
-        for name in ("sidecar", "roller"):
-            rights = container(name)["securityContext"]
-            self.assertEqual(rights["capabilities"], {"drop": ["ALL"]})
-            self.assertEqual((rights["allowPrivilegeEscalation"], rights["readOnlyRootFilesystem"]), (False, True))
-            self.assertEqual(container(name)["restartPolicy"], "Always")
+        rights = container("sidecar")["securityContext"]
+        self.assertEqual(rights["capabilities"], {"drop": ["ALL"]})
+        self.assertEqual((rights["allowPrivilegeEscalation"], rights["readOnlyRootFilesystem"]), (False, True))
+        self.assertEqual(container("sidecar")["restartPolicy"], "Always")
 
 
 @unittest.skipUnless(BUSYBOX, "there is no busybox here: Debian has it in the package busybox-static")
@@ -96,21 +105,6 @@ class ItsCommands(unittest.TestCase):
                     ran = subprocess.run(self.at(command, address), stderr=subprocess.DEVNULL, timeout=10, check=False)
                     self.assertEqual((probe, address, ran.returncode == 0), (probe, address, is_well))
             self.assertEqual(server.state("entries"), [0])
-
-    def test_the_roller(self) -> None:
-        given, roller = settings(), container("roller")
-        with Server(given["services"], given["workers"]) as server:
-            for service in given["services"]:
-                server.ask("POST", "acquire", service=service["name"])
-            command = self.at([*roller["command"], *roller["args"]], server.address)
-            rolling = subprocess.Popen(["timeout", "30", *command])
-            try:
-                for service in given["services"]:
-                    wait_for(lambda: server.journal(service=service["name"]) == [], f"{service['name']} is rolled")
-            finally:
-                rolling.terminate()
-                rolling.wait()
-            self.assertEqual(server.state("open", "entries"), [1, 1])
 
 
 @unittest.skipUnless(importlib.util.find_spec("kubernetes"), "there is no python3-kubernetes here")
