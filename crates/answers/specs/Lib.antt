@@ -4,4 +4,5 @@ pub mod Members
 pub mod Entries
 pub mod Pages
 pub mod Responses
+pub mod Listing
 pub mod Answered

@@ -36,7 +36,7 @@ pub fn status(response: &Response) -> u16
 }
 
 /// Writes a response as a JSON value.
-fn put_response(out: &mut Writer, response: &Response) -> Result<(), AllocError>
+pub(crate) fn put_response(out: &mut Writer, response: &Response) -> Result<(), AllocError>
     ensures { OnOk result (Adds (tokens_of (response_json (response_data response.now))) out.old out.new) }
 {
     match response {

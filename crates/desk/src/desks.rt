@@ -1,5 +1,5 @@
 //! Desks: services behind their locks, and the seats that ask them.
-ghost use Rattle.std.specs.Prelude.{◌≡◌, ◌<◌, ◌≤◌, ◌+◌, ◌*◌, [], length, map, position, bytes_eq, string_bytes, vec_len, IfOk, IfErr, IfSome};
+ghost use Rattle.std.specs.Prelude.{◌≡◌, ◌<◌, ◌≤◌, ◌+◌, ◌*◌, [], length, map, position, slice_get, bytes_eq, string_bytes, vec_len, Some, IfOk, IfErr, IfSome};
 ghost use Rattle.desk.specs.Desks.{desk_of, IsServiceOf};
 ghost use Rattle.service.specs.Desks.{most_seats, most_services};
 ghost use Rattle.service_profile.specs.Events.{history_of};
@@ -160,6 +160,21 @@ impl<L: Ledger, M: Ledger + Offered> Desk<L, M> {
         let cuts = self.cuts.part(0);
         self.given += 1;
         Ok(Seat::new(self.given, entries, cuts))
+    }
+
+    /// How many services the desk has.
+    pub fn count(&self) -> usize
+        ensures { result ≡ length self.now.services }
+    {
+        self.services.len()
+    }
+
+    /// The name of a service.
+    pub fn name(&self, service: ServiceId) -> &str
+        requires held { IsServiceOf self.now service }
+        ensures { slice_get (map (λ service. service.name) self.now.services) service ≡ Some result.now }
+    {
+        self.services[service.place()].name.as_str()
     }
 
     /// The service of a name. Of two of one name the first is found. It takes no memory.

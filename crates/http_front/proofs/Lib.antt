@@ -1,2 +1,3 @@
 pub mod LostAnswers
 pub mod Phrases
+pub mod Services

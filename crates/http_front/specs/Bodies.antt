@@ -29,7 +29,7 @@ abbrev pub page_asks : Option (List ℕ) → Result RequestData RefusalNumber
 page_asks None = Err refusal.BadValue
 page_asks (Some number) = map_ok page (entry_number number)
 
--- what is asked for, or why nothing is: a report, a release, a transition and a roll have a body of JSON, a program is its body, and the other routes ignore theirs; an install alone looks at the query
+-- what is asked of a service, or why nothing is: a report, a release, a transition and a roll have a body of JSON, a program is its body, and the other routes ignore theirs; an install alone looks at the query. The list of services is asked of none
 abbrev pub body_asks : Route → Option (List ℕ) → List ℕ → List ℕ → Result RequestData RefusalNumber
 body_asks route.Acquire number query body = Ok acquire
 body_asks route.Report number query body = json_asks kind.Report (json_of body)
@@ -41,3 +41,4 @@ body_asks route.Roll number query body = json_asks kind.Roll (json_of body)
 body_asks route.Program number query body = program_asks query body
 body_asks route.State number query body = Ok read
 body_asks route.Journal number query body = page_asks number
+body_asks route.Services number query body = Err refusal.NoRoute

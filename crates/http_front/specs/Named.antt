@@ -1,5 +1,5 @@
 -- Services under their names, and what is answered by one of them.
-use Rattle.std.specs.Prelude.{◌≡◌, ℕ, List, Option, Some, position, slice_get, slice_set, string_bytes, bytes_eq}
+use Rattle.std.specs.Prelude.{◌≡◌, ℕ, List, Some, map, slice_get, slice_set, string_bytes}
 use Rattle.service_profile.specs.Calls.{IsCalled}
 use Rattle.service_profile.specs.Events.{History}
 use Rattle.service.specs.Asked.{RequestData, ResponseData}
@@ -7,9 +7,9 @@ use Rattle.service.specs.Asking.{IsServedBy}
 use Rattle.service.specs.Upkept.{IsUpkept}
 use Rattle.http_front.specs.declared.books.NamedBook.{NamedBook}
 
--- where the first service of this name stands
-abbrev pub place_in : List NamedBook → List ℕ → Option ℕ
-place_in services name = position (λ service. bytes_eq (string_bytes service.name) name) services
+-- their names
+abbrev pub names_in : List NamedBook → List (List ℕ)
+names_in services = map (λ service. string_bytes service.name) services
 
 -- the service at this place was asked, for seat 1, and did what it does for its upkeep; the others stay as they are
 abbrev pub IsAskedOf : List NamedBook → ℕ → ℕ → RequestData → ResponseData → List NamedBook → Type 0

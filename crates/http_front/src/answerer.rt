@@ -1,17 +1,18 @@
 //! Who answers.
-ghost use Rattle.std.specs.Prelude.{◌≡◌, ℕ, List, Option, IfSome};
+ghost use Rattle.std.specs.Prelude.{◌≡◌, ◌<◌, ℕ, List, length, slice_get, Some, IfSome};
 ghost use Rattle.service.specs.Asked.{RequestData, request_data, acquire, report, release, install, move, reset, read, page, cut, roll, ResponseData, response_data};
+ghost use Rattle.http_front.specs.Asked.{place_of_name};
 
 use book::State;
 use bpf_profile::Layout;
 use service::{Report, Request, Response};
 
 /// Answers what services are asked for. A service is found once by its name, and then asked at its place, at a moment
-/// in milliseconds. Want of memory is a refusal like others. Below the two functions that an answerer has to have stands one
-/// for each route, which asks by `ask` and is the same for every answerer; the front asks by `ask` alone.
+/// in milliseconds. Want of memory is a refusal like others. Below the four functions that an answerer has to have stands
+/// one for each route of a service, which asks by `ask` and is the same for every answerer; the front asks by `ask` alone.
 pub trait Answerer {
-    // where the first service of a name stands, if there is one
-    ghost place_of: { Self → List ℕ → Option ℕ };
+    // the names of the services, in their order
+    ghost names_of: { Self → List (List ℕ) };
 
     // whether a service stands at a place
     ghost has: { Self → ℕ → Type 0 };
@@ -19,15 +20,26 @@ pub trait Answerer {
     // how a state, a service's place, a moment and what is asked for are related to what is answered and the state after it
     ghost answers: { Self → ℕ → ℕ → RequestData → ResponseData → Self → Type 0 };
 
+    /// How many services there are.
+    fn count(&self) -> usize
+        ensures count { result ≡ length (names_of self.now) }
+        ensures held { (place : ℕ) → place < result → has self.now place };
+
+    /// The name of the service at a place.
+    fn name(&self, place: usize) -> &str
+        requires within { place < length (names_of self.now) }
+        ensures { slice_get (names_of self.now) place ≡ Some result.now };
+
     /// Where the service of this name stands, if there is one. It takes no memory.
     fn find(&self, service: &str) -> Option<usize>
-        ensures found { result ≡ place_of self.now service.now }
+        ensures found { result ≡ place_of_name (names_of self.now) service.now }
         ensures held { IfSome result (has self.now) };
 
     /// Asks the service at a place, at a moment in milliseconds.
     fn ask(&mut self, place: usize, moment: u64, request: Request) -> Response
         requires held { has self.old place }
-        ensures { answers self.old place moment (request_data request) (response_data result) self.new };
+        ensures answered { answers self.old place moment (request_data request) (response_data result) self.new }
+        ensures names { names_of self.new ≡ names_of self.old };
 
     /// Asks for a ticket, before a call.
     final fn acquire(&mut self, place: usize, moment: u64) -> Response

@@ -1,11 +1,13 @@
 //! What is answered.
-ghost use Rattle.std.specs.Prelude.{◌≡◌, OnOk};
+ghost use Rattle.std.specs.Prelude.{◌≡◌, length, map, OnOk};
 ghost use Rattle.service.specs.Asked.{response_data};
 ghost use Rattle.http_connection.specs.Requests.{http_request_data};
-ghost use Rattle.http_front.specs.Answered.{fault_text, text_for};
+ghost use Rattle.http_front.specs.Answered.{fault_text, text_for, list_text};
 
+use crate::answerer::Answerer;
+use crate::listing::names;
 use crate::message::{AnswerMessage, write_answer};
-use answers::{body, status};
+use answers::{body, services_body, status};
 use book::Reply;
 use http_connection::HttpRequest;
 use http_messages::{Fault, is_head_method};
@@ -54,6 +56,34 @@ pub(crate) fn write_response(
             status: status(response),
             body: &body,
             allow,
+            closes: request.closes,
+            head_only: is_head_method(request.method),
+        },
+    )
+}
+
+/// Writes the answer to a request for the list of services, by what each of them answered to a reading.
+#[tactic(auto, unfolding(crate::specs::Answered::list_text))]
+pub(crate) fn write_list<A: Answerer>(
+    alloc: Global,
+    text: &mut Vec<u8>,
+    request: &HttpRequest<'_>,
+    answerer: &A,
+    responses: &[Response],
+) -> Result<(), AllocError>
+    requires { length responses.now ≡ length (A.names_of answerer.now) }
+    ensures { OnOk result (text.new.items ≡ list_text (http_request_data request.now) (A.names_of answerer.now) (map response_data responses.now)) }
+{
+    let names = names(alloc, answerer)?;
+    let body = services_body(alloc, &names, responses)?;
+    text.clear();
+    write_answer(
+        alloc,
+        text,
+        &AnswerMessage {
+            status: 200,
+            body: &body,
+            allow: None,
             closes: request.closes,
             head_only: is_head_method(request.method),
         },

@@ -18,6 +18,8 @@ use texts::JsonReader;
 pub(crate) enum Asking {
     /// This of the service at a place.
     Asks(usize, Request),
+    /// The list of all services.
+    Lists,
     /// Nothing: it is refused. Where a route was asked with another method, the route.
     Refuses(RefusalNumber, Option<Route>),
 }
@@ -30,7 +32,7 @@ pub(crate) fn asked<A: Answerer>(
     answerer: &A,
     request: &HttpRequest<'_>,
 ) -> Result<Asking, AllocError>
-    ensures asked { IfOk result (λ found. asking found ≡ asked (A.place_of answerer.now) (http_request_data request.now)) }
+    ensures asked { IfOk result (λ found. asking found ≡ asked (A.names_of answerer.now) (http_request_data request.now)) }
     ensures held { IfOk result (IsHeld (A.has answerer.now)) }
 {
     let Some(found) = routes.find(request.target) else {
@@ -39,7 +41,10 @@ pub(crate) fn asked<A: Answerer>(
     if !found.route.takes(request.method) {
         return Ok(Asking::Refuses(RefusalNumber::WrongMethod, Some(found.route)));
     }
-    let Some(place) = answerer.find(found.service) else {
+    let Some(name) = found.service else {
+        return Ok(Asking::Lists);
+    };
+    let Some(place) = answerer.find(name) else {
         return Ok(Asking::Refuses(RefusalNumber::NoService, None));
     };
     let query = query_of(request.target);

@@ -63,7 +63,8 @@ fn page_asks(number: Option<&str>) -> Result<Request, RefusalNumber>
 /// `layout=1` or `layout=2`, the first where it names none. The other routes ignore the query, and those whose body is
 /// neither JSON nor a program ignore the body. The refusals are `BadJson`, where the body is to be JSON and is none, and
 /// then `BadValue`, where a value or the number of an entry is missing, of the wrong kind or out of range, or where the
-/// query names another layout or two that differ. The outer error is want of memory.
+/// query names another layout or two that differ. The list of services is asked of none of them, and is refused here with
+/// `NoRoute`. The outer error is want of memory.
 pub fn body_asks(
     alloc: Global,
     json: &mut JsonReader,
@@ -86,5 +87,6 @@ pub fn body_asks(
         Route::Program => program_asks(alloc, query, body),
         Route::State => Ok(Ok(Request::Read)),
         Route::Journal => Ok(page_asks(number)),
+        Route::Services => Ok(Err(RefusalNumber::NoRoute)),
     }
 }

@@ -1,5 +1,5 @@
 //! Books of services, each under its name.
-ghost use Rattle.std.specs.Prelude.{◌≡◌};
+ghost use Rattle.std.specs.Prelude.{◌≡◌, ◌<◌, length, position, bytes_eq, string_bytes, IfSome};
 
 use crate::answerer::Answerer;
 use book::Book;
@@ -30,20 +30,36 @@ impl Books {
     }
 }
 
+/// Where the first service of a name stands.
+fn place_of(services: &[NamedBook], name: &str) -> Option<usize>
+    ensures found { result ≡ position (λ service. bytes_eq (string_bytes service.name) name.now) services.now }
+    ensures held { IfSome result (λ place. place < length services.now) }
+{
+    services
+        .iter()
+        .position(|service| service.name.as_str() == name)
+}
+
 impl Answerer for Books {
     ghost use Rattle.std.specs.Prelude.{◌<◌, length};
-    ghost use Rattle.http_front.specs.Named.{place_in, IsAskedOf};
+    ghost use Rattle.http_front.specs.Named.{names_in, IsAskedOf};
 
-    ghost place_of = { λ books service. place_in books.services.items service };
+    ghost names_of = { λ books. names_in books.services.items };
 
     ghost has = { λ books place. place < length books.services.items };
 
     ghost answers = { λ old place moment wanted response new. IsAskedOf old.services.items place moment wanted response new.services.items };
 
+    fn count(&self) -> usize {
+        self.services.len()
+    }
+
+    fn name(&self, place: usize) -> &str {
+        self.services[place].name.as_str()
+    }
+
     fn find(&self, service: &str) -> Option<usize> {
-        self.services
-            .iter()
-            .position(|named| named.name.as_str() == service)
+        place_of(&self.services, service)
     }
 
     fn ask(&mut self, place: usize, moment: u64, request: Request) -> Response {

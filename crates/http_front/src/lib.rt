@@ -7,6 +7,7 @@ mod asking;
 mod bodies;
 mod books;
 mod layouts;
+mod listing;
 mod message;
 mod phrase;
 mod responder;

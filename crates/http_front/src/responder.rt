@@ -3,8 +3,9 @@ ghost use Rattle.std.specs.Prelude.{◌≡◌, ◌⊎◌, ℕ, List};
 ghost use Rattle.http_front.specs.Answered.{fault_text, IsAnswered};
 
 use crate::answerer::Answerer;
-use crate::answering::{write_fault, write_response};
+use crate::answering::{write_fault, write_list, write_response};
 use crate::asking::{Asking, asked};
+use crate::listing::read_services;
 use book::Reply;
 use http_connection::{HttpRequest, Responder};
 use http_messages::Fault;
@@ -49,7 +50,7 @@ impl HttpResponder {
 impl<A: Answerer> Responder<A> for HttpResponder {
     ghost refusal = { fault_text };
 
-    ghost responds = { IsAnswered A.place_of A.answers };
+    ghost responds = { IsAnswered A.names_of A.answers };
 
     fn refuse(&self, fault: Fault, text: &mut Vec<u8>) -> Result<(), AllocError> {
         write_fault(self.alloc, text, fault)
@@ -69,6 +70,11 @@ impl<A: Answerer> Responder<A> for HttpResponder {
             Asking::Refuses(number, allow) => {
                 let refusal = Response::Reply(Reply::Refused(number));
                 write_response(self.alloc, text, request, &refusal, allow)
+            }
+            Asking::Lists => {
+                let mut responses = Vec::with_capacity(self.alloc, state.count())?;
+                read_services(state, moment, &mut responses);
+                write_list(self.alloc, text, request, state, &responses)
             }
             Asking::Asks(place, wanted) => {
                 let response = state.ask(place, moment, wanted);

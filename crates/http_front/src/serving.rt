@@ -28,7 +28,7 @@ pub fn serve<R: Read, W: Write, A: Answerer, C: Clock>(
     // What was written are the answers to the messages of the bytes that were read, in order, as far as serving came;
     // where a write failed, a beginning of them.
     ensures served { (bytes : List ℕ) × Consumes (R.remaining reader.old.inner) (R.remaining reader.new.inner) bytes
-        × IsServed fault_text (IsAnswered A.place_of A.answers) C.ticks result bytes answerer.old clock.old answerer.new clock.new (W.contents writer.old.inner) (W.contents writer.new.inner) }
+        × IsServed fault_text (IsAnswered A.names_of A.answers) C.ticks result bytes answerer.old clock.old answerer.new clock.new (W.contents writer.old.inner) (W.contents writer.new.inner) }
     // `Closed` and `Truncated` come only where no byte is left.
     ensures closed { result ≡ Ended.Closed → IsAtEnd (R.remaining reader.new.inner) }
     ensures truncated { result ≡ Ended.Truncated → IsAtEnd (R.remaining reader.new.inner) }

@@ -1,5 +1,5 @@
 -- What each worker did, one by one, is what all did.
-use Rattle.std.proofs.Common.{◌≡◌, ◌<◌, ℕ, suc, Option, List, [], ◌∷◌, length, Result, Ok, Err, arith}
+use Rattle.std.proofs.Common.{◌≡◌, ◌<◌, ℕ, suc, List, [], ◌∷◌, length, Result, Ok, Err, arith}
 use Rattle.std.specs.Prelude.{slice_index_or, IfOk}
 use Rattle.service.specs.Asked.{RequestData, ResponseData}
 use Rattle.http_pool.specs.declared.workers.Worker.{Worker}
@@ -23,8 +23,8 @@ each_failed [] (w ∷ after) same each = absurd (omega (arith, same))
 each_failed (w ∷ workers) [] same each = absurd (omega (arith, same))
 each_failed (w ∷ workers) (v ∷ after) same each = (each 0 w (omega arith), each_failed workers after (omega (arith, same)) (λ i d within. each (suc i) d (omega (arith, within))))
 
-module _ {S C : Type 0} (place_of : S → List ℕ → Option ℕ) (answers : S → ℕ → ℕ → RequestData → ResponseData → S → Type 0) (ticks : C → ℕ → C → Type 0) where
-  pub each_worked : (workers after : List (Worker S C)) → length after ≡ length workers → ((i : ℕ) (d : Worker S C) → i < length workers → HasWorked place_of answers ticks (slice_index_or workers i d) (slice_index_or after i d)) → HaveWorked place_of answers ticks workers after
+module _ {S C : Type 0} (names_of : S → List (List ℕ)) (answers : S → ℕ → ℕ → RequestData → ResponseData → S → Type 0) (ticks : C → ℕ → C → Type 0) where
+  pub each_worked : (workers after : List (Worker S C)) → length after ≡ length workers → ((i : ℕ) (d : Worker S C) → i < length workers → HasWorked names_of answers ticks (slice_index_or workers i d) (slice_index_or after i d)) → HaveWorked names_of answers ticks workers after
   each_worked [] [] same each = tt
   each_worked [] (w ∷ after) same each = absurd (omega (arith, same))
   each_worked (w ∷ workers) [] same each = absurd (omega (arith, same))

@@ -1,5 +1,5 @@
 -- What becomes of workers, each of which serves connections beside the others.
-use Rattle.std.specs.Prelude.{◌≡◌, ℕ, List, [], ◌∷◌, Option, None, IfSome, ⊤}
+use Rattle.std.specs.Prelude.{◌≡◌, ℕ, List, [], ◌∷◌, None, IfSome, ⊤}
 use Rattle.std.specs.List.{AllByRecursion}
 use Rattle.service.specs.Asked.{RequestData, ResponseData}
 use Rattle.http_pool.specs.declared.workers.Worker.{Worker}
@@ -28,11 +28,11 @@ FailsByListener worker = IfSome worker.failure IsOfListener
 abbrev pub FailByListener : {S C : Type 0} → List (Worker S C) → Type 0
 FailByListener workers = AllByRecursion FailsByListener workers
 
--- place_of tells where an answerer has the service of a name; answers relates an answerer, a service's place, a moment and what is asked to the response and the answerer after it; ticks relates a clock to the moment that it reads and the clock after it
-module _ {S C : Type 0} (place_of : S → List ℕ → Option ℕ) (answers : S → ℕ → ℕ → RequestData → ResponseData → S → Type 0) (ticks : C → ℕ → C → Type 0) where
+-- names_of tells the names of an answerer's services; answers relates an answerer, a service's place, a moment and what is asked to the response and the answerer after it; ticks relates a clock to the moment that it reads and the clock after it
+module _ {S C : Type 0} (names_of : S → List (List ℕ)) (answers : S → ℕ → ℕ → RequestData → ResponseData → S → Type 0) (ticks : C → ℕ → C → Type 0) where
   -- some connections were served by a worker
   abbrev pub HasWorked : Worker S C → Worker S C → Type 0
-  HasWorked worker after = HasServed place_of answers ticks worker.answerer worker.clock after.answerer after.clock
+  HasWorked worker after = HasServed names_of answers ticks worker.answerer worker.clock after.answerer after.clock
 
   -- worker by worker: as many come back, in their order
   abbrev pub HaveWorked : List (Worker S C) → List (Worker S C) → Type 0

@@ -66,7 +66,7 @@ fn work<R: Wait + Net + time::Clock, A: Answerer, C: Clock>(
     answerer: &mut A,
     clock: &mut C,
 ) -> Result<u64, ListenerFailed>
-    ensures served { HasServed A.place_of A.answers C.ticks answerer.old clock.old answerer.new clock.new }
+    ensures served { HasServed A.names_of A.answers C.ticks answerer.old clock.old answerer.new clock.new }
     ensures none_left { IfOk result (λ number. is_left limits.connections number ≡ false) }
     ensures failed { IfErr result IsOfListener }
 {
@@ -97,7 +97,7 @@ pub fn serve_connections<R: Wait + Net + time::Clock, A: Answerer, C: Clock>(
     clock: &mut C,
 ) -> Result<(), ListenerFailed>
     // The state after is the one that the answers to the messages of some connections leave, each connection's in order.
-    ensures served { HasServed A.place_of A.answers C.ticks answerer.old clock.old answerer.new clock.new }
+    ensures served { HasServed A.names_of A.answers C.ticks answerer.old clock.old answerer.new clock.new }
     // It ends by itself only where a number of connections was given.
     ensures ended { OnOk result (ends limits.connections) }
     // A failure has the number of an error that lies in the listener, so that a caller need not wait for it to pass.
@@ -117,7 +117,7 @@ fn run<R: Wait + Net + time::Clock, A: Answerer + Drop, C: Clock + Drop>(
     shared: &SharedCounts,
     mut worker: Worker<A, C>,
 ) -> Worker<A, C>
-    ensures worked { HasWorked A.place_of A.answers C.ticks worker result }
+    ensures worked { HasWorked A.names_of A.answers C.ticks worker result }
     ensures ended { HasEnded limits.connections result }
     ensures failed { FailsByListener result }
 {
@@ -147,7 +147,7 @@ pub fn pool<
     requires some { 0 < vec_len workers }
     requires few { vec_len workers ≤ most_workers }
     // As `pool_within` ensures it.
-    ensures each { IfOk result (λ after. HaveWorked A.place_of A.answers C.ticks workers.items after.items) }
+    ensures each { IfOk result (λ after. HaveWorked A.names_of A.answers C.ticks workers.items after.items) }
     ensures ended { IfOk result (λ after. HaveEnded connections after.items) }
     ensures failed { IfOk result (λ after. FailByListener after.items) }
 {
@@ -180,7 +180,7 @@ pub fn pool_within<
     requires few { vec_len workers ≤ most_workers }
     // Each worker comes back at its place, and its answerer and its clock stand where the answers to the messages of some
     // connections leave them: all its answers are one chain, and each connection's are those to its own messages, in order.
-    ensures each { IfOk result (λ after. HaveWorked A.place_of A.answers C.ticks workers.items after.items) }
+    ensures each { IfOk result (λ after. HaveWorked A.names_of A.answers C.ticks workers.items after.items) }
     // A worker with no failure has ended by itself, which it does only where a number of connections was given.
     ensures ended { IfOk result (λ after. HaveEnded limits.connections after.items) }
     // A failure that a worker brings back has the number of an error that lies in the listener, whatever failure the
@@ -193,7 +193,7 @@ pub fn pool_within<
         rt,
         workers,
         &|worker: Worker<A, C>| -> Worker<A, C>
-            ensures { HasWorked A.place_of A.answers C.ticks worker result × HasEnded limits.connections result × FailsByListener result }
+            ensures { HasWorked A.names_of A.answers C.ticks worker result × HasEnded limits.connections result × FailsByListener result }
         { run(rt, alloc, listener, limits, shared, worker) },
     )
 }

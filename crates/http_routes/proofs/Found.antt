@@ -1,5 +1,5 @@
 -- The route that a path finds.
-use Rattle.std.proofs.Common.{◌≡◌, List, ℕ, true, false, cond, Some, None, option_map, option_and_then, refl, ap, sym, ◌∙◌}
+use Rattle.std.proofs.Common.{◌≡◌, List, ℕ, true, false, cond, Some, None, option_map, refl, ap, sym, ◌∙◌}
 use Rattle.std.specs.Str.{IsUtf8, is_utf8}
 use Rattle.std.proofs.lemmas.Str.{is_utf8-from_IsUtf8, IsUtf8-from_is_utf8}
 use Rattle.matchit.specs.Rows.{RowsOf}
@@ -18,4 +18,4 @@ text_finds path rows r text same found =
     rw (is_utf8-from_IsUtf8 path text) (ap (λ z. option_map (λ (x : RouteOf Route). x.value) (first z path)) (sym same) ∙ ap (option_map (λ (x : RouteOf Route). x.value)) found)
 
 pub nothing_is_asked : (target : List ℕ) → route_of (path_of target) ≡ None → None ≡ finds target
-nothing_is_asked target none = sym (ap (λ r. option_and_then (asked_of (path_of target)) r) none)
+nothing_is_asked target none = sym (ap (λ r. option_map (asked_of (path_of target)) r) none)

@@ -1,20 +1,19 @@
 -- A path whose segments name a route asks for it.
 use Rattle.std.proofs.Common.{◌≡◌, ℕ, ◌<◌, List, [], ◌∷◌, ◌++◌, false, cond, ◌==◌, Option, Some, None, option_map, inl, inr, refl, ap, sym, subst, ◌∙◌, arith, codes, append-nil}
-use Rattle.std.specs.Prelude.{option_and_then}
 use Rattle.std.specs.Str.{IsUtf8}
 use Rattle.std.proofs.lemmas.Str.{is_utf8-from_IsUtf8}
 use Rattle.std.proofs.lemmas.Bool.Decides.{nat_tests}
 use Rattle.matchit.specs.Rows.{RowsOf}
 use Rattle.matchit.specs.Router.{RouteOf}
-use Rattle.matchit.specs.Seek.{has_slash, seek, first}
+use Rattle.matchit.specs.Seek.{has_slash, seek, param_step, first}
 use Rattle.http_routes.specs.declared.table.Route.{Route}
 use Rattle.http_routes.specs.declared.table.Route.TheVariants as route
 use Rattle.http_routes.specs.Finding.{Asked, asked_of, asked_at}
-use Rattle.http_routes.specs.Patterns.{IsSegment, HasNumber, IsRead, IsBytes}
-use Rattle.http_routes.specs.Routing.{row, journal_row, routes, route_of}
+use Rattle.http_routes.specs.Patterns.{IsSegment, HasService, HasNumber, IsRead, IsBytes}
+use Rattle.http_routes.specs.Routing.{row, journal_row, services_row, routes, route_of}
 use Rattle.http_routes.specs.Table.{word_of}
 use Rattle.http_routes.proofs.Completeness.{steps, seek-bytes, seek-param, seek-last}
-use Rattle.http_routes.proofs.Plain.{word_rows, plain_or_journal}
+use Rattle.http_routes.proofs.Plain.{word_rows, which_route, never_unnamed}
 use Rattle.http_routes.proofs.Readings.{asks, read-asked}
 
 abbrev below : RowsOf (RouteOf Route)
@@ -56,18 +55,33 @@ number-bytes service number path bytes e =
     let tail = bytes-behind (codes "/v1/services/") (service ++ (codes "/journal/" ++ number)) (subst P e bytes) in
     bytes-behind (codes "/journal/") number (bytes-behind service (codes "/journal/" ++ number) tail)
 
-finds-named : (r : Route) (service : List ℕ) (number : Option (List ℕ)) (path : List ℕ) → IsBytes path → IsRead path (asks r service number) → Finds path r
-finds-named r service None path bytes read =
-    elim (plain_or_journal r) [
-      | inl is ↦ ((row r).1, under service (word_of r) path bytes read.1 (read.0 ∙ ap (λ w. codes "/v1/services/" ++ (service ++ (47 ∷ w))) (append-nil (word_of r))) ∙ is.found, refl)
-      | inr is ↦ absurd (subst (λ q. HasNumber q None) is read.2)
+services-found : first routes (codes "/v1/services") ≡ Some services_row.1
+unfolding routes seek param_step
+services-found = refl
+
+finds-named : (r : Route) (service number : Option (List ℕ)) (path : List ℕ) → IsBytes path → IsRead path (asks r service number) → Finds path r
+finds-named r None number path bytes read =
+    elim (which_route r) [
+      | inl is ↦ (services_row.1, ap (λ p. first routes p) read.0 ∙ services-found, sym is)
+      | inr other ↦ absurd (never_unnamed r other read.1)
     ]
-finds-named r service (Some number) path bytes read =
-    elim (plain_or_journal r) [
-      | inl is ↦ absurd (is.some number read.2)
-      | inr is ↦
-          let journal = subst (λ q. IsRead path (asks q service (Some number))) is read in
-          (journal_row.1, under service (codes "journal/" ++ number) path bytes journal.1 journal.0 ∙ number-found number (number-bytes service number path bytes journal.0) journal.2, sym is)
+finds-named r (Some service) None path bytes read =
+    elim (which_route r) [
+      | inl is ↦ absurd (subst (λ q. HasService q (Some service)) is read.1)
+      | inr other ↦ elim other [
+        | inl is ↦ ((row r).1, under service (word_of r) path bytes (is.named service read.1) (read.0 ∙ ap (λ w. codes "/v1/services/" ++ (service ++ (47 ∷ w))) (append-nil (word_of r))) ∙ is.found, refl)
+        | inr is ↦ absurd (subst (λ q. HasNumber q None) is read.2)
+      ]
+    ]
+finds-named r (Some service) (Some number) path bytes read =
+    elim (which_route r) [
+      | inl is ↦ absurd (subst (λ q. HasService q (Some service)) is read.1)
+      | inr other ↦ elim other [
+        | inl is ↦ absurd (is.some number read.2)
+        | inr is ↦
+            let journal = subst (λ q. IsRead path (asks q (Some service) (Some number))) is read in
+            (journal_row.1, under service (codes "journal/" ++ number) path bytes journal.1 journal.0 ∙ number-found number (number-bytes service number path bytes journal.0) journal.2, sym is)
+      ]
     ]
 
 pub named-asked : (path : List ℕ) (asked : Asked) → IsBytes path → IsUtf8 path → IsRead path asked → asked_at path ≡ Some asked
@@ -76,4 +90,4 @@ named-asked path asked bytes text read =
     let value : Option (RouteOf Route) → Option Route = λ o. option_map (λ (x : RouteOf Route). x.value) o in
     let is_route : route_of path ≡ Some asked.route =
     ap (λ c. cond c (value (first routes path)) None) (is_utf8-from_IsUtf8 path text) ∙ ap value found.1 ∙ ap (λ r. Some r) found.2 in
-    ap (option_and_then (asked_of path)) is_route ∙ read-asked path asked read
+    ap (option_map (asked_of path)) is_route ∙ ap (λ a. Some a) (read-asked path asked read)

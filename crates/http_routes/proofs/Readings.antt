@@ -9,13 +9,13 @@ use Rattle.http_routes.specs.declared.table.Route.{Route}
 use Rattle.http_routes.specs.declared.table.Route.TheVariants as route
 use Rattle.http_routes.specs.Finding.{Asked, asked_of, asked_at}
 use Rattle.http_routes.specs.Paths.{path_of, segments}
-use Rattle.http_routes.specs.Patterns.{IsSegment, HasNumber, IsRead, IsBytes}
+use Rattle.http_routes.specs.Patterns.{IsSegment, HasService, HasNumber, IsRead, IsBytes}
 use Rattle.http_routes.specs.Routing.{Row, row, row_of, all_routes, routes, route_of}
 use Rattle.http_routes.specs.Table.{word_of}
 use Rattle.std.specs.List.{slice_split, onto_first, position_or_len}
-use Rattle.std.specs.Prelude.{slice_get, option_and_then}
+use Rattle.std.specs.Prelude.{slice_get}
 use Rattle.std.specs.Str.{is_utf8}
-use Rattle.http_routes.proofs.Plain.{is_plain, is_slash, IsPlain, plain_or_journal}
+use Rattle.http_routes.proofs.Plain.{is_plain, is_slash, IsPlain, which_route, never_unnamed}
 use Rattle.http_routes.proofs.Searches.{Fits, HasRow, first-reads}
 
 pub and-both : (a b : Bool) → a && b ≡ true → (a ≡ true) × (b ≡ true)
@@ -55,7 +55,7 @@ plain-asks r path is fits =
     let spelled = subst (λ w. Fits (47 ∷ w) found.1) (sym (append-nil (word_of r))) found.4 in
     let word = fits-text (47 ∷ word_of r) [] found.1 is.plain spelled in
     let end : found.1 ≡ 47 ∷ (word_of r ++ []) = word.1 ∙ ap (λ l. 47 ∷ (word_of r ++ l)) word.2 in
-    (record { route = r; service = found.0; number = None }, refl, (found.2 ∙ ap (λ l. codes "/v1/services/" ++ (found.0 ++ l)) end, found.3, is.none))
+    (record { route = r; service = Some found.0; number = None }, refl, (found.2 ∙ ap (λ l. codes "/v1/services/" ++ (found.0 ++ l)) end, is.names found.0 found.3, is.none))
 
 journal-asks : (path : List ℕ) → Fits (codes "/v1/services/" ++ (param_token ∷ (codes "/journal/" ++ (param_token ∷ [])))) path → Asks path route.Journal
 journal-asks path fits =
@@ -64,14 +64,22 @@ journal-asks path fits =
     let last = word.2 in
     let number : word.0 ≡ last.0 = last.2 ∙ ap (λ l. last.0 ++ l) last.4 ∙ append-nil last.0 in
     let end : found.1 ≡ codes "/journal/" ++ last.0 = word.1 ∙ ap (λ l. codes "/journal/" ++ l) number in
-    (record { route = route.Journal; service = found.0; number = Some last.0 }, refl, (found.2 ∙ ap (λ l. codes "/v1/services/" ++ (found.0 ++ l)) end, found.3, last.3))
+    (record { route = route.Journal; service = Some found.0; number = Some last.0 }, refl, (found.2 ∙ ap (λ l. codes "/v1/services/" ++ (found.0 ++ l)) end, found.3, last.3))
+
+services-asks : (path : List ℕ) → Fits (codes "/v1/services") path → Asks path route.Services
+services-asks path fits =
+    let word = fits-text (codes "/v1/services") [] path refl fits in
+    (record { route = route.Services; service = None; number = None }, refl, (word.1 ∙ ap (λ l. codes "/v1/services" ++ l) word.2, tt, tt))
 
 -- a path that fits the row of a route asks for it
 row-asks : (r : Route) (path : List ℕ) → Fits (row_of r).0 path → Asks path (row_of r).1.value
 row-asks r path fits =
-    elim (plain_or_journal r) [
-      | inl is ↦ rw is.its_row (plain-asks r path is (subst (λ (x : Row). Fits x.0 path) is.its_row fits))
-      | inr is ↦ rw is (journal-asks path (subst (λ q. Fits (row_of q).0 path) is fits))
+    elim (which_route r) [
+      | inl is ↦ rw is (services-asks path (subst (λ q. Fits (row_of q).0 path) is fits))
+      | inr other ↦ elim other [
+        | inl is ↦ rw is.its_row (plain-asks r path is (subst (λ (x : Row). Fits x.0 path) is.its_row fits))
+        | inr is ↦ rw is (journal-asks path (subst (λ q. Fits (row_of q).0 path) is fits))
+      ]
     ]
 
 rows-ask : (all : List Route) (path t : List ℕ) (r : RouteOf Route) → HasRow t r (map row_of all) → Fits t path → Asks path r.value
@@ -108,48 +116,60 @@ segments-under : (s rest : List ℕ) → IsSegment s → segments (codes "/v1/se
 segments-under s rest is = ap (λ l. [] ∷ onto_first 118 (onto_first 49 ([] ∷ l))) (ap (λ l. onto_first 115 (onto_first 101 (onto_first 114 (onto_first 118 (onto_first 105 (onto_first 99 (onto_first 101 (onto_first 115 ([] ∷ l))))))))) (split-segment s rest is.whole))
 
 abbrev Places : List ℕ → Asked → Type 0
-Places path asked = (slice_get (segments path) 3 ≡ Some asked.service) × (slice_get (segments path) 5 ≡ asked.number)
+Places path asked = (slice_get (segments path) 3 ≡ asked.service) × (slice_get (segments path) 5 ≡ asked.number)
 
-places-plain : (asked : Asked) (path : List ℕ) (word : List ℕ) → IsSegment asked.service → path ≡ codes "/v1/services/" ++ (asked.service ++ (47 ∷ word)) → slice_split is_slash word ≡ word ∷ [] → asked.number ≡ None → Places path asked
-places-plain asked path word is e whole none =
-    let parts = ap segments e ∙ segments-under asked.service word is ∙ ap (λ l. [] ∷ codes "v1" ∷ codes "services" ∷ asked.service ∷ l) whole in
-    (ap (λ l. slice_get l 3) parts, ap (λ l. slice_get l 5) parts ∙ sym none)
-
-abbrev pub asks : Route → List ℕ → Option (List ℕ) → Asked
+abbrev pub asks : Route → Option (List ℕ) → Option (List ℕ) → Asked
 asks r service number = record { route = r; service = service; number = number }
 
-journal-places : (service number path : List ℕ) → IsRead path (asks route.Journal service (Some number)) → Places path (asks route.Journal service (Some number))
+places-plain : (r : Route) (service path word : List ℕ) → IsSegment service → path ≡ codes "/v1/services/" ++ (service ++ (47 ∷ word)) → slice_split is_slash word ≡ word ∷ [] → Places path (asks r (Some service) None)
+places-plain r service path word is e whole =
+    let parts = ap segments e ∙ segments-under service word is ∙ ap (λ l. [] ∷ codes "v1" ∷ codes "services" ∷ service ∷ l) whole in
+    (ap (λ l. slice_get l 3) parts, ap (λ l. slice_get l 5) parts)
+
+journal-places : (service number path : List ℕ) → IsRead path (asks route.Journal (Some service) (Some number)) → Places path (asks route.Journal (Some service) (Some number))
 journal-places service number path read =
     let rest : slice_split is_slash (codes "journal/" ++ number) ≡ codes "journal" ∷ number ∷ [] =
     ap (λ l. onto_first 106 (onto_first 111 (onto_first 117 (onto_first 114 (onto_first 110 (onto_first 97 (onto_first 108 ([] ∷ l)))))))) (split-last number read.2.whole) in
     let parts = ap segments read.0 ∙ segments-under service (codes "journal/" ++ number) read.1 ∙ ap (λ l. [] ∷ codes "v1" ∷ codes "services" ∷ service ∷ l) rest in
     (ap (λ l. slice_get l 3) parts, ap (λ l. slice_get l 5) parts)
 
-places-of : (r : Route) (service : List ℕ) (number : Option (List ℕ)) (path : List ℕ) → IsRead path (asks r service number) → Places path (asks r service number)
-places-of r service None path read =
-    elim (plain_or_journal r) [
-      | inl is ↦ places-plain (asks r service None) path (word_of r) read.1 (read.0 ∙ ap (λ w. codes "/v1/services/" ++ (service ++ (47 ∷ w))) (append-nil (word_of r))) is.whole refl
-      | inr is ↦ absurd (subst (λ q. HasNumber q None) is read.2)
+places-of : (r : Route) (service number : Option (List ℕ)) (path : List ℕ) → IsRead path (asks r service number) → Places path (asks r service number)
+places-of r None None path read = (ap (λ p. slice_get (segments p) 3) read.0, ap (λ p. slice_get (segments p) 5) read.0)
+places-of r None (Some number) path read =
+    elim (which_route r) [
+      | inl is ↦ absurd (subst (λ q. HasNumber q (Some number)) is read.2)
+      | inr other ↦ absurd (never_unnamed r other read.1)
     ]
-places-of r service (Some number) path read =
-    elim (plain_or_journal r) [
-      | inl is ↦ absurd (is.some number read.2)
-      | inr is ↦ subst (λ q. Places path (asks q service (Some number))) (sym is) (journal-places service number path (subst (λ q. IsRead path (asks q service (Some number))) is read))
+places-of r (Some service) None path read =
+    elim (which_route r) [
+      | inl is ↦ absurd (subst (λ q. HasService q (Some service)) is read.1)
+      | inr other ↦ elim other [
+        | inl is ↦ places-plain r service path (word_of r) (is.named service read.1) (read.0 ∙ ap (λ w. codes "/v1/services/" ++ (service ++ (47 ∷ w))) (append-nil (word_of r))) is.whole
+        | inr is ↦ absurd (subst (λ q. HasNumber q None) is read.2)
+      ]
+    ]
+places-of r (Some service) (Some number) path read =
+    elim (which_route r) [
+      | inl is ↦ absurd (subst (λ q. HasService q (Some service)) is read.1)
+      | inr other ↦ elim other [
+        | inl is ↦ absurd (is.some number read.2)
+        | inr is ↦ subst (λ q. Places path (asks q (Some service) (Some number))) (sym is) (journal-places service number path (subst (λ q. IsRead path (asks q (Some service) (Some number))) is read))
+      ]
     ]
 
 -- a path that is read so asks for that
-pub read-asked : (path : List ℕ) (asked : Asked) → IsRead path asked → asked_of path asked.route ≡ Some asked
+pub read-asked : (path : List ℕ) (asked : Asked) → IsRead path asked → asked_of path asked.route ≡ asked
 read-asked path asked read =
     let places = places-of asked.route asked.service asked.number path read in
-    ap (λ found. option_map (λ service. asks asked.route service (slice_get (segments path) 5)) found) places.0
-    ∙ ap (λ number. Some (asks asked.route asked.service number)) places.1
+    ap (λ service. asks asked.route service (slice_get (segments path) 5)) places.0
+    ∙ ap (λ number. asks asked.route asked.service number) places.1
 
-by-first : (path : List ℕ) (asked : Asked) (found : Option (RouteOf Route)) → IsBytes path → first routes path ≡ found → option_and_then (asked_of path) (option_map (λ (r : RouteOf Route). r.value) found) ≡ Some asked → IsRead path asked
+by-first : (path : List ℕ) (asked : Asked) (found : Option (RouteOf Route)) → IsBytes path → first routes path ≡ found → option_map (asked_of path) (option_map (λ (r : RouteOf Route). r.value) found) ≡ Some asked → IsRead path asked
 by-first path asked None bytes f e = let never : None ≡ Some asked = e in cc
 by-first path asked (Some r) bytes f e =
     let read = route-asks path r bytes f in
-    let other : asked_of path r.value ≡ Some read.0 = ap (asked_of path) (sym read.1) ∙ read-asked path read.0 read.2 in
-    let both : Some asked ≡ Some read.0 = sym e ∙ other in
+    let other : asked_of path r.value ≡ read.0 = ap (asked_of path) (sym read.1) ∙ read-asked path read.0 read.2 in
+    let both : Some asked ≡ Some read.0 = sym e ∙ ap (λ a. Some a) other in
     let same : asked ≡ read.0 = cc in
     let P : Asked → Type 0 = λ a. IsRead path a in
     subst P (sym same) read.2
@@ -157,7 +177,7 @@ by-first path asked (Some r) bytes f e =
 -- what is found in a path is what its segments name
 pub asked_at-read : (path : List ℕ) (asked : Asked) → IsBytes path → asked_at path ≡ Some asked → IsRead path asked
 asked_at-read path asked bytes e =
-    elim (is_utf8 path) as (λ c. option_and_then (asked_of path) (cond c (option_map (λ (r : RouteOf Route). r.value) (first routes path)) None) ≡ Some asked → IsRead path asked) [
+    elim (is_utf8 path) as (λ c. option_map (asked_of path) (cond c (option_map (λ (r : RouteOf Route). r.value) (first routes path)) None) ≡ Some asked → IsRead path asked) [
       | true ↦ λ g. by-first path asked (first routes path) bytes refl g
       | false ↦ λ g. let never : None ≡ Some asked = g in cc
     ] e
@@ -174,13 +194,13 @@ bytes-take (suc n) [] h = tt
 bytes-take (suc n) (x ∷ xs) h = (h.0, bytes-take n xs h.1)
 
 -- what is found in parts
-asked_at-parts : (path : List ℕ) (r : Route) (service : List ℕ) (number : Option (List ℕ)) → Some r ≡ route_of path → Some service ≡ slice_get (segments path) 3 → number ≡ slice_get (segments path) 5 → asked_at path ≡ Some (asks r service number)
+asked_at-parts : (path : List ℕ) (r : Route) (service number : Option (List ℕ)) → Some r ≡ route_of path → service ≡ slice_get (segments path) 3 → number ≡ slice_get (segments path) 5 → asked_at path ≡ Some (asks r service number)
 asked_at-parts path r service number is_route is_service is_number =
-    ap (option_and_then (asked_of path)) (sym is_route)
-    ∙ ap (λ found. option_map (λ s. asks r s (slice_get (segments path) 5)) found) (sym is_service)
+    ap (option_map (asked_of path)) (sym is_route)
+    ∙ ap (λ s. Some (asks r s (slice_get (segments path) 5))) (sym is_service)
     ∙ ap (λ n. Some (asks r service n)) (sym is_number)
 
-pub target-read : (target path : List ℕ) (r : Route) (service : List ℕ) (number : Option (List ℕ)) → path ≡ path_of target → IsBytes target → Some r ≡ route_of path → Some service ≡ slice_get (segments path) 3 → number ≡ slice_get (segments path) 5 → IsRead (path_of target) (asks r service number)
+pub target-read : (target path : List ℕ) (r : Route) (service number : Option (List ℕ)) → path ≡ path_of target → IsBytes target → Some r ≡ route_of path → service ≡ slice_get (segments path) 3 → number ≡ slice_get (segments path) 5 → IsRead (path_of target) (asks r service number)
 target-read target path r service number same bytes is_route is_service is_number =
     let P : List ℕ → Type 0 = λ p. IsRead p (asks r service number) in
     let Q : List ℕ → Type 0 = λ p. IsBytes p in

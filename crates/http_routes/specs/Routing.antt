@@ -23,13 +23,18 @@ journal_row =
     let pattern = codes "/v1/services/" ++ param_token ∷ codes "/journal/" ++ param_token ∷ [] in
     (pattern, record { pattern = pattern; text = codes "/v1/services/{service}/journal/{from}"; names = (14, 21) ∷ (32, 36) ∷ []; value = route.Journal })
 
+-- the list of services has none
+abbrev pub services_row : Row
+services_row = (codes "/v1/services", record { pattern = codes "/v1/services"; text = codes "/v1/services"; names = []; value = route.Services })
+
 abbrev pub row_of : Route → Row
+row_of route.Services = services_row
 row_of route.Journal = journal_row
 row_of other = row other
 
--- the ten routes, in the order of their patterns
+-- the eleven routes, in the order of their patterns, by which one comes behind those that it begins
 abbrev pub all_routes : List Route
-all_routes = route.Acquire ∷ route.Cut ∷ route.Journal ∷ route.Program ∷ route.Release ∷ route.Report ∷ route.Reset ∷ route.Roll ∷ route.State ∷ route.Transition ∷ []
+all_routes = route.Acquire ∷ route.Cut ∷ route.Journal ∷ route.Program ∷ route.Release ∷ route.Report ∷ route.Reset ∷ route.Roll ∷ route.State ∷ route.Transition ∷ route.Services ∷ []
 
 unfoldable pub routes : RowsOf (RouteOf Route)
 routes = map row_of all_routes

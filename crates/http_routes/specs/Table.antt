@@ -4,6 +4,7 @@ use Rattle.http_routes.specs.declared.table.Route.{Route}
 use Rattle.http_routes.specs.declared.table.Route.TheVariants as route
 
 abbrev pub method_of : Route → List ℕ
+method_of route.Services = codes "GET"
 method_of route.Acquire = codes "POST"
 method_of route.Report = codes "POST"
 method_of route.Release = codes "POST"
@@ -16,6 +17,7 @@ method_of route.State = codes "GET"
 method_of route.Journal = codes "GET"
 
 abbrev pub word_of : Route → List ℕ
+word_of route.Services = codes "services"
 word_of route.Acquire = codes "acquire"
 word_of route.Report = codes "report"
 word_of route.Release = codes "release"

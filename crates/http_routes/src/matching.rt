@@ -16,8 +16,9 @@ use std::str;
 pub struct Destination<'a> {
     /// What is asked.
     pub route: Route,
-    /// The name of the service of which it is asked: one segment of the path, not empty.
-    pub service: &'a str,
+    /// The name of the service of which it is asked: one segment of the path, not empty. None where all
+    /// services are listed, and only there.
+    pub service: Option<&'a str>,
     /// For the journal: the segment that stands for the number of an entry, not empty.
     pub number: Option<&'a str>,
 }
@@ -37,6 +38,7 @@ fn add_routes(router: &mut Router<Route>) -> Result<(), InsertError>
     router.insert("/v1/services/{service}/roll", Route::Roll)?;
     router.insert("/v1/services/{service}/state", Route::State)?;
     router.insert("/v1/services/{service}/transition", Route::Transition)?;
+    router.insert("/v1/services", Route::Services)?;
     Ok(())
 }
 
@@ -49,7 +51,7 @@ fn all_routes(alloc: Global) -> Result<Router<Route>, InsertError>
     Ok(router)
 }
 
-/// The ten routes, made once and asked for each request.
+/// The eleven routes, made once and asked for each request.
 #[derive(Drop)]
 pub struct Routes {
     router: Router<Route>,
@@ -60,7 +62,7 @@ impl Routes {
     ghost use Rattle.std.specs.Prelude.{◌≡◌};
     ghost use Rattle.http_routes.specs.Routing.{routes};
 
-    /// The ten routes. The error is want of memory.
+    /// The eleven routes. The error is want of memory.
     pub fn new(alloc: Global) -> Result<Routes, AllocError> {
         match all_routes(alloc) {
             Ok(router) => Ok(Routes { router }),
@@ -90,7 +92,7 @@ impl Routes {
             return None;
         };
         let route = self.route_of(path)?;
-        let service = segment(path, 3)?;
+        let service = segment(path, 3);
         let number = segment(path, 5);
         Some(Destination {
             route,

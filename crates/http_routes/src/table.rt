@@ -3,9 +3,11 @@ ghost use Rattle.std.specs.Prelude.{◌≡◌, bytes_eq};
 ghost use Rattle.http_routes.specs.Table.{method_of, word_of};
 
 /// A route of the HTTP interface: what is asked of a service, by the last word of the path
-/// `/v1/services/{service}/..`.
+/// `/v1/services/{service}/..`, or of all of them, by the path `/v1/services`.
 #[derive(Clone, Copy, Debug, PartialEq, Eq)]
 pub enum Route {
+    /// The names of all services, and how each stands: `/v1/services`.
+    Services,
     /// A ticket, before a call.
     Acquire,
     /// To judge the outcome of a call, and to end its ticket.
@@ -35,6 +37,7 @@ impl Route {
         ensures { result.now ≡ method_of self }
     {
         match self {
+            Route::Services => "GET",
             Route::Acquire => "POST",
             Route::Report => "POST",
             Route::Release => "POST",
@@ -60,6 +63,7 @@ impl Route {
         ensures { result.now ≡ word_of self }
     {
         match self {
+            Route::Services => "services",
             Route::Acquire => "acquire",
             Route::Report => "report",
             Route::Release => "release",

@@ -1,5 +1,5 @@
 -- Seats of a desk whose books lie behind locks.
-use Rattle.std.specs.Prelude.{◌≡◌, ℕ, zero, suc, List, [], ◌∷◌, map, length, sum, position, bytes_eq, Option, ⊤}
+use Rattle.std.specs.Prelude.{◌≡◌, ℕ, zero, suc, List, [], ◌∷◌, map, length, sum, ⊤}
 use Rattle.std.specs.List.{AllByRecursion}
 use Rattle.service.specs.Asked.{RequestData, ResponseData}
 use Rattle.service.specs.Asking.{IsServedBy}
@@ -13,9 +13,9 @@ use Rattle.desk.specs.Kept.{AreOfSome, last_number}
 use Rattle.desk.specs.Seats.{SeatData, seat_of}
 use Rattle.desk.specs.Services.{ServiceData}
 
--- where the first of the desk's services with this name stands
-abbrev pub place_at : DeskData → List ℕ → Option ℕ
-place_at desk name = position (λ service. bytes_eq service.name name) desk.services
+-- the names of the desk's services
+abbrev pub names_at : DeskData → List (List ℕ)
+names_at desk = map (λ service. service.name) desk.services
 
 -- whose a seat is its type says, which names the desk's ledgers
 abbrev pub sits_at : DeskData → SeatData → Type 0

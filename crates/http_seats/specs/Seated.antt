@@ -1,5 +1,5 @@
 -- What contracts see of an answerer with a seat at a desk, and what it answers.
-use Rattle.std.specs.Prelude.{◌≡◌, ℕ, List, Option}
+use Rattle.std.specs.Prelude.{◌≡◌, ℕ, List}
 use Rattle.service.specs.Asked.{RequestData, ResponseData}
 use Rattle.service.specs.Upkept.{upkeep_at}
 use Rattle.service.specs.declared.upkeep.Upkeep.{Upkeep}
@@ -13,9 +13,9 @@ pub record SeatedData (D S : Type 0) : Type 0 where
 abbrev pub seated : {D S : Type 0} → D → List Upkeep → S → SeatedData D S
 seated desk upkeeps seat = record { desk = desk; upkeeps = upkeeps; seat = seat }
 
--- where the desk has the service of a name
-abbrev pub place_by : {D S : Type 0} → (D → List ℕ → Option ℕ) → SeatedData D S → List ℕ → Option ℕ
-place_by place_of answerer name = place_of answerer.desk name
+-- the names of the desk's services
+abbrev pub names_by : {D S : Type 0} → (D → List (List ℕ)) → SeatedData D S → List (List ℕ)
+names_by names_of answerer = names_of answerer.desk
 
 -- a service of the desk stands there
 abbrev pub has_by : {D S : Type 0} → (D → ℕ → Type 0) → SeatedData D S → ℕ → Type 0

@@ -1,5 +1,5 @@
 -- Seats of a desk whose books lie in slots.
-use Rattle.std.specs.Prelude.{◌≡◌, ℕ, zero, suc, List, [], ◌∷◌, map, length, position, bytes_eq, Option}
+use Rattle.std.specs.Prelude.{◌≡◌, ℕ, zero, suc, List, [], ◌∷◌, map, length, Option}
 use Rattle.atomic_table.specs.Seated.{TableId}
 use Rattle.service.specs.Asked.{RequestData, ResponseData}
 use Rattle.service.specs.Asking.{IsServedBy}
@@ -12,9 +12,9 @@ use Rattle.slot_desk.specs.Desks.{DeskData}
 use Rattle.slot_desk.specs.Seats.{SeatData}
 use Rattle.slot_desk.specs.Sitting.{new_seat}
 
--- where the first of the desk's services with this name stands
-abbrev pub place_at : DeskData → List ℕ → Option ℕ
-place_at desk name = position (λ other. bytes_eq other name) desk.names
+-- the names of the desk's services
+abbrev pub names_at : DeskData → List (List ℕ)
+names_at desk = desk.names
 
 -- the calls that a request stands for, and those of the service's own upkeep, are those of the seat at the service of this place
 abbrev pub asks : DeskData → SeatData → Upkeep → ℕ → ℕ → RequestData → ResponseData → SeatData → Type 0

@@ -1,6 +1,7 @@
 //! Seats of a desk whose books lie behind locks.
-ghost use Rattle.std.specs.Prelude.{◌≡◌, ◌≤◌, vec_len, IfOk};
+ghost use Rattle.std.specs.Prelude.{◌≡◌, ◌≤◌, position, bytes_eq, vec_len, IfOk, IfSome};
 ghost use Rattle.std.specs.List.{AllByRecursion};
+ghost use Rattle.desk.specs.Desks.{IsServiceOf};
 ghost use Rattle.http_seats.specs.Locks.{AreClosed, closes, counts_of, dealt, seats_of, sits_at};
 
 use crate::seats::DeskSeat;
@@ -53,11 +54,19 @@ fn closed<L: Ledger, M: Ledger + Offered>(
     }
 }
 
+/// Where the first of the desk's services with a name stands.
+fn place_of<L: Ledger, M: Ledger + Offered>(desk: &Desk<L, M>, name: &str) -> Option<usize>
+    ensures found { result ≡ position (λ service. bytes_eq service.name name.now) desk.now.services }
+    ensures held { IfSome result (IsServiceOf desk.now) }
+{
+    Some(desk.find(name)?.place())
+}
+
 impl<L: Ledger, M: Ledger + Offered> DeskSeat<Desk<L, M>> for Seat<L, M> {
     ghost use Rattle.desk.specs.Desks.{IsServiceOf};
-    ghost use Rattle.http_seats.specs.Locks.{place_at, sits_at, asks, dealt, deals, closes};
+    ghost use Rattle.http_seats.specs.Locks.{names_at, sits_at, asks, dealt, deals, closes};
 
-    ghost place_of = { place_at };
+    ghost names_of = { names_at };
 
     ghost has = { IsServiceOf };
 
@@ -71,8 +80,16 @@ impl<L: Ledger, M: Ledger + Offered> DeskSeat<Desk<L, M>> for Seat<L, M> {
 
     ghost closes = { closes };
 
+    fn service_count(desk: &Desk<L, M>) -> usize {
+        desk.count()
+    }
+
+    fn service_name(desk: &Desk<L, M>, place: usize) -> &str {
+        desk.name(ServiceId::at(place))
+    }
+
     fn find(desk: &Desk<L, M>, service: &str) -> Option<usize> {
-        Some(desk.find(service)?.place())
+        place_of(desk, service)
     }
 
     fn ask<R: Wait, G: Gate>(

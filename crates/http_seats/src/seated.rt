@@ -67,13 +67,21 @@ impl<'a, D, S: DeskSeat<D>, G: Gate, R: Wait> SeatedAnswerer<'a, D, S, G, R> {
 }
 
 impl<'a, D, S: DeskSeat<D>, G: Gate, R: Wait> Answerer for SeatedAnswerer<'a, D, S, G, R> {
-    ghost use Rattle.http_seats.specs.Seated.{place_by, has_by, asks_by};
+    ghost use Rattle.http_seats.specs.Seated.{names_by, has_by, asks_by};
 
-    ghost place_of = { place_by S.place_of };
+    ghost names_of = { names_by S.names_of };
 
     ghost has = { has_by S.has };
 
     ghost answers = { asks_by S.asks };
+
+    fn count(&self) -> usize {
+        S::service_count(self.desk)
+    }
+
+    fn name(&self, place: usize) -> &str {
+        S::service_name(self.desk, place)
+    }
 
     fn find(&self, service: &str) -> Option<usize> {
         S::find(self.desk, service)

@@ -1,9 +1,10 @@
 //! What a worker of a server needs of its seat, and a server of all seats.
-ghost use Rattle.std.specs.Prelude.{◌≡◌, ◌≤◌, ℕ, List, Option, IfOk, IfSome, vec_len};
+ghost use Rattle.std.specs.Prelude.{◌≡◌, ◌≤◌, ◌<◌, ℕ, List, length, slice_get, Some, IfOk, IfSome, vec_len};
 ghost use Rattle.std.specs.List.{AllByRecursion};
 ghost use Rattle.service.specs.Asked.{RequestData, request_data, ResponseData, response_data};
 ghost use Rattle.service.specs.declared.upkeep.Upkeep.{Upkeep as UpkeepData};
 ghost use Rattle.service_profile.specs.Events.{History};
+ghost use Rattle.http_front.specs.Asked.{place_of_name};
 
 use book::Book;
 use service::{Gate, Request, Response, Upkeep};
@@ -13,8 +14,8 @@ use std::sync::Wait;
 /// A seat of a desk, by which one worker asks the desk's services. Each kind of desk, with its books behind locks or in slots,
 /// has seats of its own kind, which say what a request by them is answered, and what a desk is that was closed.
 pub trait DeskSeat<Desk>: Drop {
-    // where the first of the desk's services with a name stands, if there is one
-    ghost place_of: { Desk → List ℕ → Option ℕ };
+    // the names of the desk's services, in their order
+    ghost names_of: { Desk → List (List ℕ) };
 
     // whether a service of the desk stands at a place
     ghost has: { Desk → ℕ → Type 0 };
@@ -35,9 +36,19 @@ pub trait DeskSeat<Desk>: Drop {
     // how a desk and all its seats are related to the books that it hands out when it is closed, and the counts of the seats' entries
     ghost closes: { Desk → List Self → List History → List ℕ → Type 0 };
 
+    /// How many services the desk has.
+    fn service_count(desk: &Desk) -> usize
+        ensures count { result ≡ length (names_of desk.now) }
+        ensures held { (place : ℕ) → place < result → has desk.now place };
+
+    /// The name of the service at a place.
+    fn service_name(desk: &Desk, place: usize) -> &str
+        requires within { place < length (names_of desk.now) }
+        ensures { slice_get (names_of desk.now) place ≡ Some result.now };
+
     /// Where the desk has the service of this name, if there is one. It takes no memory.
     fn find(desk: &Desk, service: &str) -> Option<usize>
-        ensures found { result ≡ place_of desk.now service.now }
+        ensures found { result ≡ place_of_name (names_of desk.now) service.now }
         ensures held { IfSome result (has desk.now) };
 
     /// Asks the service at a place of the desk, which does this for its own upkeep, at a moment in milliseconds. A report passes

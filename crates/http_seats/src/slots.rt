@@ -50,9 +50,9 @@ fn closed(alloc: Global, desk: Desk, seats: Vec<Seat>) -> Result<(Vec<Book>, Vec
 impl DeskSeat<Desk> for Seat {
     ghost use Rattle.slot_desk.specs.Desks.{IsServiceOf};
     ghost use Rattle.slot_desk.specs.Seats.{IsSeatOf};
-    ghost use Rattle.http_seats.specs.Slots.{place_at, asks, dealt, deals, closes};
+    ghost use Rattle.http_seats.specs.Slots.{names_at, asks, dealt, deals, closes};
 
-    ghost place_of = { place_at };
+    ghost names_of = { names_at };
 
     ghost has = { IsServiceOf };
 
@@ -65,6 +65,14 @@ impl DeskSeat<Desk> for Seat {
     ghost deals = { deals };
 
     ghost closes = { closes };
+
+    fn service_count(desk: &Desk) -> usize {
+        desk.count()
+    }
+
+    fn service_name(desk: &Desk, place: usize) -> &str {
+        desk.name(ServiceId::at(place))
+    }
 
     fn find(desk: &Desk, service: &str) -> Option<usize> {
         Some(desk.find(service)?.place())

@@ -1,26 +1,24 @@
 -- Where tickets that are too old are released, none of them stays open.
-use Rattle.std.proofs.Common.{◌≡◌, ◌≢◌, ◌∙◌, ℕ, ◌+◌, ◌-◌, ◌^◌, ◌<◌, ◌≤◌, ◌==◌, ◌&&◌, ◌||◌, nat_le, max, not, Bool, true, false, cond, if◌then◌else◌, List, [], ◌∷◌, ◌++◌, length, slice_get, Option, Some, None, option_to_list, inl, inr, refl, sym, ap, subst, arith, rules}
+use Rattle.std.proofs.Common.{◌≡◌, ◌≢◌, ◌∙◌, ℕ, ◌+◌, ◌-◌, ◌^◌, ◌<◌, ◌≤◌, ◌==◌, ◌&&◌, ◌||◌, nat_le, not, Bool, true, false, cond, if◌then◌else◌, List, [], ◌∷◌, ◌++◌, length, slice_get, Option, Some, None, option_to_list, inl, inr, refl, sym, ap, subst, arith, rules}
 use Rattle.std.specs.Prelude.{⊤}
 use Rattle.std.proofs.Math.Nat.{le-max_right}
 use Rattle.std.proofs.lemmas.Bool.Decides.{nat_tests}
 use Rattle.std.proofs.lemmas.List.{append-nil}
 use Rattle.std.specs.List.{filter, fold, list_any, AllByRecursion}
-use Rattle.refusals.specs.declared.RefusalNumber.{RefusalNumber}
 use Rattle.refusals.specs.declared.RefusalNumber.TheVariants as refusal
 use Rattle.bpf_profile.specs.JudgedWork.{JudgedData}
 use Rattle.bpf_profile.specs.Programs.{VerifiedProgram}
 use Rattle.service_profile.specs.declared.decisions.Decision.{Decision}
-use Rattle.service_profile.specs.declared.readings.Reading.{Reading}
 use Rattle.service_profile.specs.declared.replies.Reply.{Reply}
 use Rattle.service_profile.specs.declared.replies.Reply.TheVariants as reply
 use Rattle.service_profile.specs.declared.states.State.{State}
 use Rattle.service_profile.specs.declared.states.State.TheVariants as state
 use Rattle.service_profile.specs.declared.tickets.OpenTicket.{OpenTicket}
 use Rattle.service_profile.specs.Answers.{answer, applied, with_line, line_of, IsApplied, as_documented, out_of_memory}
-use Rattle.service_profile.specs.Calls.{CallData, CallAnswer, IsCalled, applies, reads, replies, shows}
+use Rattle.service_profile.specs.Calls.{CallData, CallAnswer, IsCalled}
 use Rattle.service_profile.specs.Events.{EventData, finishes, releases, installs, EntryData, History}
 use Rattle.service_profile.specs.Histories.{Past, Stage, past_of, situation_of, open_of, issued, issue_at, issue_by, end_by, opened, passed, machine, greatest, raised, Follows, AreLegal, IsLegal}
-use Rattle.service_profile.specs.Machine.{Situation, decision, decided, meant, at_moment, overstays, in_state, is_full, is_issued, is_open, open_ticket, released, used, refused, is_entered}
+use Rattle.service_profile.specs.Machine.{Situation, decision, decided, meant, at_moment, overstays, in_state, is_full, is_issued, is_open, open_ticket, released, refused, is_entered}
 use Rattle.book.specs.Accepted.{IsSafeProgram, IsEvent, IsJudged}
 use Rattle.book.specs.Following.{is_number, tickets_after}
 use Rattle.book.specs.Sound.{IsSound}
@@ -31,7 +29,7 @@ use Rattle.book.proofs.Keeping.{open_are_issued, tickets_there}
 use Rattle.book.proofs.Lists.{all_weaken, fewer_kept, kept_again, map_with, none_kept, same_kept}
 use Rattle.book.proofs.Applying.{past_with}
 use Rattle.book.proofs.Worlds.{IsKept, applied_kept}
-use Rattle.service.specs.Upkept.{is_old, number_where_old, overdue, most_releases, old_tickets, IsReleased, AreReleased, IsNoneOld, HasReleased}
+use Rattle.service.specs.Upkept.{is_old, number_where_old, overdue, most_releases, old_tickets, IsReleased, AreReleased, HasReleased}
 
 -- ---- one release more
 

@@ -65,7 +65,9 @@ fn make_room<P, B: BookCalls<P>>(book: &mut B, place: &P)
     let _rolled = book.call(place, Roll(last.saturating_sub(STAY)));
 }
 
-/// Makes a call; where its answer is that the journal is full, makes room and then makes the call again.
+/// Makes a call; where its answer is that the journal is full, makes room and then makes the call again. It stands apart, so
+/// that a call without it stays short.
+#[inline(never)]
 fn call_with_room<P, B: BookCalls<P>, C: Call>(book: &mut B, place: &P, call: C) -> C::Answer
     requires fits { B.fits place.now book.old }
     ensures called { IsMadeWithRoom (B.calls place.now) book.old (C.called call) (C.answered result) book.new }
@@ -84,6 +86,7 @@ fn call_with_room<P, B: BookCalls<P>, C: Call>(book: &mut B, place: &P, call: C)
 }
 
 /// Makes a call where this becomes of a full journal.
+#[inline(always)]
 pub(crate) fn call<P, B: BookCalls<P>, C: Call>(
     book: &mut B,
     place: &P,
@@ -113,6 +116,7 @@ fn overdue(age: u64, moment: u64, shown: &Reading) -> Option<u64>
 }
 
 /// Releases the tickets that are this old at a moment, the oldest first, at most 100. An entry tells of each.
+#[inline(never)]
 fn release_overdue<P, B: BookCalls<P>>(book: &mut B, place: &P, age: u64, moment: u64)
     requires fits { B.fits place.now book.old }
     ensures released { (replies : List Reply) × HasReleased (B.calls place.now) age moment book.old replies book.new }
@@ -128,6 +132,7 @@ fn release_overdue<P, B: BookCalls<P>>(book: &mut B, place: &P, age: u64, moment
 }
 
 /// Asks for a ticket at a moment, once tickets that are too old are released.
+#[inline(always)]
 pub(crate) fn acquire<P, B: BookCalls<P>>(
     book: &mut B,
     place: &P,

@@ -137,10 +137,8 @@ is_past_the_limit number = nat_lt greatest_number number
 -- a number that would go on is past its limit
 abbrev pub is_worn_out : Past → Bool
 is_worn_out past =
-    is_past_the_limit (next_line past)
-    || (is_past_the_limit (situation_of past).next_ticket
-    || (is_past_the_limit (suc past.standing.period)
-    || is_past_the_limit (suc (current_version (situation_of past)))))
+    is_past_the_limit (next_line past) || (is_past_the_limit (situation_of past).next_ticket
+    || (is_past_the_limit (suc past.standing.period) || is_past_the_limit (suc (current_version (situation_of past)))))
 
 abbrev pub is_some_open : List OpenTicket → Bool
 is_some_open [] = false

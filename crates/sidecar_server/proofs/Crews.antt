@@ -1,5 +1,5 @@
 -- Workers one after another, how many they are, and how many come back.
-use Rattle.std.proofs.Common.{◌≡◌, ◌∙◌, ◌≤◌, ◌<◌, ◌&&◌, ℕ, suc, Bool, true, false, nat_le, List, [], ◌∷◌, ◌++◌, length, map, Option, None, ap, refl, sym, arith}
+use Rattle.std.proofs.Common.{◌≡◌, ◌∙◌, ◌≤◌, ◌<◌, ◌&&◌, ℕ, suc, Bool, true, false, nat_le, List, [], ◌∷◌, ◌++◌, length, map, None, ap, refl, sym, arith}
 use Rattle.std.proofs.lemmas.Bool.{leb-true}
 use Rattle.std.proofs.lemmas.List.{length-map, map-append}
 use Rattle.std.specs.List.{All}
@@ -35,11 +35,11 @@ as_many_workers with_seat clock seats workers are = ap length are ∙ (length-ma
 
 module _ {S C : Type 0} where
   -- as many come back
-  pub as_many_back : (place_of : S → List ℕ → Option ℕ) (answers : S → ℕ → ℕ → RequestData → ResponseData → S → Type 0) (ticks : C → ℕ → C → Type 0) (workers later : List (Worker S C)) → HaveWorked place_of answers ticks workers later → length later ≡ length workers
-  as_many_back place_of answers ticks [] [] each = refl
-  as_many_back place_of answers ticks [] (v ∷ later) each = absurd each
-  as_many_back place_of answers ticks (w ∷ workers) [] each = absurd each
-  as_many_back place_of answers ticks (w ∷ workers) (v ∷ later) each = ap suc (as_many_back place_of answers ticks workers later each.1)
+  pub as_many_back : (names_of : S → List (List ℕ)) (answers : S → ℕ → ℕ → RequestData → ResponseData → S → Type 0) (ticks : C → ℕ → C → Type 0) (workers later : List (Worker S C)) → HaveWorked names_of answers ticks workers later → length later ≡ length workers
+  as_many_back names_of answers ticks [] [] each = refl
+  as_many_back names_of answers ticks [] (v ∷ later) each = absurd each
+  as_many_back names_of answers ticks (w ∷ workers) [] each = absurd each
+  as_many_back names_of answers ticks (w ∷ workers) (v ∷ later) each = ap suc (as_many_back names_of answers ticks workers later each.1)
 
   -- where none met a failure, there was a number of connections
   pub over : (connections : ℕ) (workers : List (Worker S C)) → 0 < length workers → HaveEnded connections workers → All (λ w. w.failure ≡ None) workers → ends connections
@@ -47,6 +47,6 @@ module _ {S C : Type 0} where
   over connections (w ∷ workers) some ended none = ended.0 (none 0 w some)
 
 -- as many seats come back as workers were sent
-pub all_back : {S C T : Type 0} (place_of : S → List ℕ → Option ℕ) (answers : S → ℕ → ℕ → RequestData → ResponseData → S → Type 0) (ticks : C → ℕ → C → Type 0) (seat_of : Worker S C → T) (workers later : List (Worker S C)) (seats : List T)
-    → HaveWorked place_of answers ticks workers later → seats ≡ map seat_of later → length seats ≡ length workers
-all_back place_of answers ticks seat_of workers later seats worked are = ap length are ∙ (length-map later seat_of ∙ as_many_back place_of answers ticks workers later worked)
+pub all_back : {S C T : Type 0} (names_of : S → List (List ℕ)) (answers : S → ℕ → ℕ → RequestData → ResponseData → S → Type 0) (ticks : C → ℕ → C → Type 0) (seat_of : Worker S C → T) (workers later : List (Worker S C)) (seats : List T)
+    → HaveWorked names_of answers ticks workers later → seats ≡ map seat_of later → length seats ≡ length workers
+all_back names_of answers ticks seat_of workers later seats worked are = ap length are ∙ (length-map later seat_of ∙ as_many_back names_of answers ticks workers later worked)

@@ -13,8 +13,8 @@ use Rattle.slot_desk.specs.Desks.{DeskData}
 use Rattle.slot_desk.specs.Dealing.{name_of, first_from}
 use Rattle.slot_desk.specs.Seats.{SeatData}
 use Rattle.slot_desk.proofs.Backwards.{served_back}
-use Rattle.http_seats.specs.Seated.{SeatedData, seated, place_by, asks_by}
-use Rattle.http_seats.specs.Slots.{asks, closes, counts_of, deals, place_at}
+use Rattle.http_seats.specs.Seated.{SeatedData, seated, names_by, asks_by}
+use Rattle.http_seats.specs.Slots.{asks, closes, counts_of, deals, names_at}
 use Rattle.http_pool.specs.declared.workers.Worker.{Worker}
 use Rattle.http_pool.specs.Workers.{HaveWorked}
 use Rattle.service_file.specs.declared.settings.ServiceSettings.{ServiceSettings}
@@ -29,12 +29,12 @@ module _ {C : Type 0} (ticks : C → ℕ → C → Type 0) where
   answered_within : (courses : List Course) (s : SeatedData DeskData SeatData) (place moment : ℕ) (wanted : RequestData) (given : ResponseData) (t : SeatedData DeskData SeatData) → asks_by asks s place moment wanted given t → SeatBegins courses t.seat → SeatBegins courses s.seat × IsAskedWithin courses s place moment wanted given t
   answered_within courses s place moment wanted given t is begins = (served_back courses (upkeep_at s.upkeeps place) place s.seat moment wanted given t.seat is.2 begins, (is, begins))
 
-  pub worked_within : (courses : List Course) (workers later : List (Worker (SeatedData DeskData SeatData) C)) → HaveWorked (place_by place_at) (asks_by asks) ticks workers later → AllByRecursion (SeatBegins courses) (seats_with later) → HaveWorked (place_by place_at) (IsAskedWithin courses) ticks workers later
+  pub worked_within : (courses : List Course) (workers later : List (Worker (SeatedData DeskData SeatData) C)) → HaveWorked (names_by names_at) (asks_by asks) ticks workers later → AllByRecursion (SeatBegins courses) (seats_with later) → HaveWorked (names_by names_at) (IsAskedWithin courses) ticks workers later
   worked_within courses [] [] worked begin = tt
   worked_within courses [] (v ∷ later) worked begin = absurd worked
   worked_within courses (w ∷ workers) [] worked begin = absurd worked
   worked_within courses (w ∷ workers) (v ∷ later) worked begin =
-      ((worker (place_by place_at) (asks_by asks) (IsAskedWithin courses) ticks (λ s. SeatBegins courses s.seat) (answered_within courses) w.answerer w.clock v.answerer v.clock worked.0 begin.0).1, worked_within courses workers later worked.1 begin.1)
+      ((worker (names_by names_at) (asks_by asks) (IsAskedWithin courses) ticks (λ s. SeatBegins courses s.seat) (answered_within courses) w.answerer w.clock v.answerer v.clock worked.0 begin.0).1, worked_within courses workers later worked.1 begin.1)
 
 -- the desk has the names of the settings' services
 pub named_as : (services : List ServiceSettings) (openings : List (String Global × Config × Verified)) → openings ≡ map opening_of services → map name_of openings ≡ names_of services
@@ -67,9 +67,9 @@ numbers_add_up first origins services books seats counts are agree same =
 
 -- ---- what is said of any desk
 
-pub served_at_slots : {C : Type 0} (ticks : C → ℕ → C → Type 0) (settings : Settings) (first : ℕ) (clock : C) (desk : DeskData) (upkeeps : List Upkeep) (books : List History) (counts : List ℕ) → desk.names ≡ names_of settings.services.items → desk.origins ≡ origins_of first settings.services.items → upkeeps ≡ upkeeps_of settings.services.items → HasServedAt place_at asks deals closes ticks desk upkeeps settings.workers clock books counts → HasServedAtSlots ticks settings first clock books counts
+pub served_at_slots : {C : Type 0} (ticks : C → ℕ → C → Type 0) (settings : Settings) (first : ℕ) (clock : C) (desk : DeskData) (upkeeps : List Upkeep) (books : List History) (counts : List ℕ) → desk.names ≡ names_of settings.services.items → desk.origins ≡ origins_of first settings.services.items → upkeeps ≡ upkeeps_of settings.services.items → HasServedAt names_at asks deals closes ticks desk upkeeps settings.workers clock books counts → HasServedAtSlots ticks settings first clock books counts
 served_at_slots ticks settings first clock desk upkeeps books counts names origins tended served_ =
-    let served : HasServedAt place_at asks deals closes ticks desk (upkeeps_of settings.services.items) settings.workers clock books counts = subst (λ us. HasServedAt place_at asks deals closes ticks desk us settings.workers clock books counts) tended served_ in
+    let served : HasServedAt names_at asks deals closes ticks desk (upkeeps_of settings.services.items) settings.workers clock books counts = subst (λ us. HasServedAt names_at asks deals closes ticks desk us settings.workers clock books counts) tended served_ in
     let shut = served.closed.0 in
     let opened = served.sat.2 ∙ origins in
     let worked = worked_within ticks shut.begun.courses (workers_of clock (map (seated served.dealt (upkeeps_of settings.services.items)) served.seats)) served.later served.worked shut.begun.begun in (
@@ -78,7 +78,7 @@ served_at_slots ticks settings first clock desk upkeeps books counts names origi
       shut,
       served.sat.0 ∙ names,
       opened,
-      subst (λ seats. HaveWorked (place_by place_at) (IsAskedWithin shut.begun.courses) ticks (workers_of clock (map (seated served.dealt (upkeeps_of settings.services.items)) seats)) served.later) served.sat.3 worked,
+      subst (λ seats. HaveWorked (names_by names_at) (IsAskedWithin shut.begun.courses) ticks (workers_of clock (map (seated served.dealt (upkeeps_of settings.services.items)) seats)) served.later) served.sat.3 worked,
       served.closed.1,
       numbers_add_up first served.dealt.origins settings.services.items books (seats_with served.later) counts opened shut.agree served.closed.1,
     )

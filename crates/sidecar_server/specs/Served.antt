@@ -7,11 +7,11 @@ use Rattle.service_profile.specs.Events.{History}
 use Rattle.desk.specs.Desks.{DeskData}
 use Rattle.desk.specs.Seats.{SeatData}
 use Rattle.desk.specs.Services.{ServiceData, service_from}
-use Rattle.http_seats.specs.Locks.{AreClosed, asks, counts_of, place_at, seats_of}
-use Rattle.http_seats.specs.Seated.{SeatedData, seated, place_by, asks_by}
+use Rattle.http_seats.specs.Locks.{AreClosed, asks, counts_of, names_at, seats_of}
+use Rattle.http_seats.specs.Seated.{SeatedData, seated, names_by, asks_by}
 use Rattle.http_front.specs.declared.books.Books.{Books}
 use Rattle.http_front.specs.declared.books.NamedBook.{NamedBook}
-use Rattle.http_front.specs.Named.{place_in, IsAskedOf}
+use Rattle.http_front.specs.Named.{names_in, IsAskedOf}
 use Rattle.http_pool.specs.Connections.{HasServed}
 use Rattle.http_pool.specs.declared.workers.Worker.{Worker}
 use Rattle.http_pool.specs.Workers.{HaveWorked}
@@ -32,7 +32,7 @@ abbrev pub HasServedAlone : {C : Type 0} → (C → ℕ → C → Type 0) → Se
 HasServedAlone ticks settings first clock later books =
     (opened : Books) × (served : Books)
     × AreOpened first settings.services.items opened.services.items
-    × HasServed (λ books service. place_in books.services.items service) (λ old place moment wanted response new. IsAskedOf old.services.items place moment wanted response new.services.items) ticks opened clock served later
+    × HasServed (λ books. names_in books.services.items) (λ old place moment wanted response new. IsAskedOf old.services.items place moment wanted response new.services.items) ticks opened clock served later
     × (books ≡ books_of served.services.items)
 
 -- what a desk opens a service by: its name, its configuration and its first program
@@ -48,7 +48,7 @@ abbrev pub HasServedAtDesk : {C : Type 0} → (C → ℕ → C → Type 0) → S
 HasServedAtDesk {C} ticks settings first clock books counts =
     (desk : DeskData) × (later : List (Worker (SeatedData DeskData SeatData) C))
     × (desk.services ≡ services_of first settings.services.items)
-    × HaveWorked (place_by place_at) (asks_by asks) ticks (workers_of clock (map (seated desk (upkeeps_of settings.services.items)) (seats_of 1 settings.workers))) later
+    × HaveWorked (names_by names_at) (asks_by asks) ticks (workers_of clock (map (seated desk (upkeeps_of settings.services.items)) (seats_of 1 settings.workers))) later
     × (counts ≡ counts_of (seats_with later))
     × AreClosed desk.services books (seats_with later)
 

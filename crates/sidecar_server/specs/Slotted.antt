@@ -7,8 +7,8 @@ use Rattle.slot_desk.specs.Closing.{SeatBegins, last_number}
 use Rattle.slot_desk.specs.Desks.{DeskData}
 use Rattle.slot_desk.specs.Seats.{SeatData}
 use Rattle.book_slot.specs.Courses.{Course}
-use Rattle.http_seats.specs.Seated.{SeatedData, seated, place_by, asks_by}
-use Rattle.http_seats.specs.Slots.{AreClosed, asks, counts_of, place_at, seats_of}
+use Rattle.http_seats.specs.Seated.{SeatedData, seated, names_by, asks_by}
+use Rattle.http_seats.specs.Slots.{AreClosed, asks, counts_of, names_at, seats_of}
 use Rattle.http_pool.specs.declared.workers.Worker.{Worker}
 use Rattle.http_pool.specs.Workers.{HaveWorked}
 use Rattle.service_file.specs.declared.settings.ServiceSettings.{ServiceSettings}
@@ -34,6 +34,6 @@ HasServedAtSlots {C} ticks settings first clock books counts =
     × (closed : AreClosed desk books (seats_with later))
     × (desk.names ≡ names_of settings.services.items)
     × (desk.origins ≡ origins_of first settings.services.items)
-    × HaveWorked (place_by place_at) (IsAskedWithin closed.begun.courses) ticks (workers_of clock (map (seated desk (upkeeps_of settings.services.items)) (seats_of desk.tables desk.origins 1 settings.workers))) later
+    × HaveWorked (names_by names_at) (IsAskedWithin closed.begun.courses) ticks (workers_of clock (map (seated desk (upkeeps_of settings.services.items)) (seats_of desk.tables desk.origins 1 settings.workers))) later
     × (counts ≡ counts_of (seats_with later))
     × (sum (map last_number books) ≡ sum counts)

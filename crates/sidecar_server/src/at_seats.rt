@@ -90,7 +90,7 @@ fn serve_at<
     requires fresh { S.dealt desk ≡ 0 }
     requires some { 1 ≤ count }
     requires few { count ≤ 64 }
-    ensures served { IfOk result (λ end. HasServedAt S.place_of S.asks S.deals S.closes C.ticks desk upkeeps.now count clock end.books.items end.counts.items) }
+    ensures served { IfOk result (λ end. HasServedAt S.names_of S.asks S.deals S.closes C.ticks desk upkeeps.now count clock end.books.items end.counts.items) }
     ensures unserved { IfErr result (λ status. IsServing status → ⊥) }
     ensures over { IsOver (end_of result) limits.connections }
     ensures failed { IfOk result (λ end. end.status ≡ ended_by end.failure) }

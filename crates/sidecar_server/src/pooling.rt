@@ -44,7 +44,7 @@ pub(crate) fn serve_by_pool<
 ) -> Result<(Vec<Worker<A, C>>, Option<ListenerFailed>), ServerStatus>
     requires some { 0 < vec_len workers }
     requires few { vec_len workers ≤ most_workers }
-    ensures worked { IfOk result (λ back. HaveWorked A.place_of A.answers C.ticks workers.items back.0.items) }
+    ensures worked { IfOk result (λ back. HaveWorked A.names_of A.answers C.ticks workers.items back.0.items) }
     ensures over { IfOk result (λ back. back.1 ≡ None → ends limits.connections) }
     ensures unserved { IfErr result (λ status. IsServing status → ⊥) }
     ensures ended { IsServerOutput address (status_of result) (O.contents out.old.inner) (O.contents out.new.inner) }

@@ -1,5 +1,5 @@
 //! Desks: services, each with its book in a slot.
-ghost use Rattle.std.specs.Prelude.{◌≡◌, ◌≤◌, [], length, map, position, replicate, bytes_eq, string_bytes, vec_len, IfOk, IfSome};
+ghost use Rattle.std.specs.Prelude.{◌≡◌, ◌≤◌, ◌<◌, [], length, map, position, replicate, slice_get, bytes_eq, string_bytes, vec_len, Some, IfOk, IfSome};
 ghost use Rattle.slot_desk.specs.Desks.{IsServiceOf};
 ghost use Rattle.service_profile.specs.Limits.{greatest_number};
 ghost use Rattle.slot_desk.specs.Dealing.{name_of, first_of, first_from};
@@ -76,6 +76,22 @@ impl Desk {
             slots,
             given: 0,
         })
+    }
+
+    /// How many services the desk has.
+    pub fn count(&self) -> usize
+        ensures names { result ≡ length self.now.names }
+        ensures tables { result ≡ length self.now.tables }
+    {
+        self.names.len()
+    }
+
+    /// The name of a service.
+    pub fn name(&self, service: ServiceId) -> &str
+        requires within { service < length self.now.names }
+        ensures { slice_get self.now.names service ≡ Some result.now }
+    {
+        self.names[service.place()].as_str()
     }
 
     /// The service of a name. Of two of one name the first is found. It takes no memory.

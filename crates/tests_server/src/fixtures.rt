@@ -54,19 +54,29 @@ pub(crate) fn pay(rt: &impl Abort, alloc: Global) -> Books {
 
 /// A service with the default classifier, whose configuration has these parts.
 pub(crate) fn pay_with(rt: &impl Abort, alloc: Global, parts: ConfigParts) -> Books {
+    let mut services = Vec::new(alloc);
+    services
+        .push(named_book(rt, alloc, "pay", parts))
+        .expect(rt, "ample memory");
+    Books::new(alloc, services)
+}
+
+/// A service of this name with the default classifier, whose configuration has these parts.
+pub(crate) fn named_book(
+    rt: &impl Abort,
+    alloc: Global,
+    name: &str,
+    parts: ConfigParts,
+) -> NamedBook {
     let config = Config::new(parts).expect(rt, "each part in its range");
     let classifier = default_classifier(alloc).expect(rt, "the default classifier");
     let book = Book::open(alloc, config, classifier).expect(rt, "ample memory");
-    let name = String::from_str(alloc, "pay").expect(rt, "ample memory");
-    let mut services = Vec::new(alloc);
-    services
-        .push(NamedBook {
-            name,
-            book,
-            upkeep: Upkeep::NONE,
-        })
-        .expect(rt, "ample memory");
-    Books::new(alloc, services)
+    let name = String::from_str(alloc, name).expect(rt, "ample memory");
+    NamedBook {
+        name,
+        book,
+        upkeep: Upkeep::NONE,
+    }
 }
 
 /// A service of the defaults, as a desk opens it.

@@ -20,7 +20,8 @@ fn is_found(
 ) {
     let found = routes.find(target).expect(rt, "a route");
     same_at(rt, found.route, route, target);
-    same_at(rt, found.service.as_bytes(), service, target);
+    let name = found.service.expect(rt, "a service");
+    same_at(rt, name.as_bytes(), service, target);
     same_at(rt, found.number, number, target);
 }
 
@@ -108,6 +109,34 @@ fn journal_has_a_number(rt: HostRuntime) {
     same_at(rt, Route::Journal.method(), "GET", "method");
 }
 
+/// Each path finds the list of all services.
+fn are_lists(rt: &impl Abort, routes: &Routes, targets: &[&[u8]]) {
+    for target in targets {
+        let found = routes.find(target).expect(rt, "a route");
+        same_at(rt, found.route, Route::Services, target);
+        is_true_at(rt, found.service.is_none(), target);
+        is_true_at(rt, found.number.is_none(), target);
+    }
+}
+
+#[test]
+fn all_services_have_one_path(rt: HostRuntime) {
+    let rt = &rt;
+    are_lists(
+        rt,
+        &routes(rt, rt.alloc()),
+        &[
+            b"/v1/services",
+            b"/v1/services?",
+            b"/v1/services?a=/b/state",
+            b"/v1/services?/pay/state",
+            b"/v1/services?\xff",
+        ],
+    );
+    same_at(rt, Route::Services.word(), "services", "word");
+    same_at(rt, Route::Services.method(), "GET", "method");
+}
+
 /// Each path finds its route of its service.
 fn are_of_services(rt: &impl Abort, routes: &Routes, rows: &[(&[u8], Route, &[u8])]) {
     for row in rows {
@@ -160,8 +189,15 @@ fn other_paths_find_nothing(rt: HostRuntime) {
             b"/",
             b"*",
             b"/v1",
-            b"/v1/services",
+            b"/v1/service",
             b"/v1/services/",
+            b"/v1/services/?a",
+            b"/v1/services//",
+            b"/v1/servicess",
+            b"/v1/Services",
+            b"/v1//services",
+            b"v1/services",
+            b"/v1/services#a",
             b"/v1/services/pay",
             b"/v1/services/pay/",
             b"/v1/services/acquire",
@@ -219,6 +255,7 @@ fn are_taken(rt: &impl Abort, rows: &[Taken<'_>]) {
         same_at(rt, Route::Program.takes(bytes), installs, method);
         same_at(rt, Route::State.takes(bytes), shows, method);
         same_at(rt, Route::Journal.takes(bytes), shows, method);
+        same_at(rt, Route::Services.takes(bytes), shows, method);
     }
 }
 

@@ -29,6 +29,8 @@ const JOURNAL: &str = "GET /v1/services/pay/journal/3 HTTP/1.1\r\n\r\n";
 
 const ROLL: &str = "POST /v1/services/pay/roll HTTP/1.1\r\nContent-Length: 8\r\n\r\n{\"to\":2}";
 
+const LIST: &str = "GET /v1/services HTTP/1.1\r\n\r\n";
+
 const TICKET: &str = "{\"state\":\"CLOSED\",\"ticket\":1,\"version\":1}";
 
 const INSTALLED: &str = "{\"budget\":2,\"version\":2}";
@@ -40,6 +42,9 @@ const SPENT: &str = "{\"error\":34,\"name\":\"TicketSpent\"}";
 
 /// How the page of the journal ends.
 const LAST_ENTRY: &str = "\"seat\":2,\"ticket\":1}],\"next\":4}";
+
+/// How the list of services ends.
+const LISTED: &str = "\"state\":\"CLOSED\",\"total\":1,\"version\":2}}]}";
 
 /// The answer to an input ends so.
 fn answers<A: Answerer, R: Wait + Abort>(
@@ -71,6 +76,7 @@ fn ask_by_turns<A: Answerer, R: Wait + Abort>(
     answers(rt, alloc, first, JOURNAL.as_bytes(), LAST_ENTRY);
     answers(rt, alloc, second, ROLL.as_bytes(), "{\"entries\":2}");
     answers(rt, alloc, first, JOURNAL.as_bytes(), LAST_ENTRY);
+    answers(rt, alloc, second, LIST.as_bytes(), LISTED);
     is_true(rt, first.find("none").is_none());
 }
 

@@ -1,7 +1,7 @@
 //! Messages with their answers, where these depend on the moment. The others are rows in `checks/messages`.
 use crate::checks::{is_true_at, same};
 use crate::fixtures::{
-    ACQUIRE, ACQUIRED, JOURNAL, ONE_ENTRY, StandsAt, is_answered, joined, pay, pay_with,
+    ACQUIRE, ACQUIRED, JOURNAL, ONE_ENTRY, StandsAt, is_answered, joined, named_book, pay, pay_with,
 };
 use book::ConfigParts;
 use counted_io::Counted;
@@ -64,6 +64,33 @@ fn is_answered_at(rt: &(impl Wait + Abort), alloc: Global, books: &mut Books, ro
     let text = writer.inner().as_slice();
     is_true_at(rt, text.starts_with(status.as_bytes()), text);
     is_true_at(rt, text.ends_with(body.as_bytes()), text);
+}
+
+const LIST: &str = "GET /v1/services HTTP/1.1\r\n\r\n";
+
+const ACQUIRE_SHIP: &str = "POST /v1/services/ship/acquire HTTP/1.1\r\n\r\n";
+
+const BOTH: &str =
+    "\r\n\r\n{\"services\":[{\"name\":\"pay\",\"state\":{\"budget\":6,\"entries\":0,\"failed\":0,\"failureRate\":-1,\"free\":25,\"notPermitted\":0,\"open\":0,\"period\":1,\"slow\":0,\"slowRate\":-1,\"state\":\"CLOSED\",\"total\":0,\"version\":1}},{\"name\":\"ship\",\"state\":{\"budget\":6,\"entries\":1,\"failed\":0,\"failureRate\":-1,\"free\":24,\"notPermitted\":0,\"open\":1,\"period\":1,\"slow\":0,\"slowRate\":-1,\"state\":\"CLOSED\",\"total\":0,\"version\":1}}]}";
+
+#[test]
+fn services_are_listed_in_their_order(rt: HostRuntime) {
+    let rt = &rt;
+    let alloc = rt.alloc();
+    let mut books = pay(rt, alloc);
+    let ship = named_book(rt, alloc, "ship", ConfigParts::DEFAULT);
+    books.services.push(ship).expect(rt, "ample memory");
+    let acquired = "{\"state\":\"CLOSED\",\"ticket\":1,\"version\":1}";
+    is_answered_at(
+        rt,
+        alloc,
+        &mut books,
+        (7, ACQUIRE_SHIP, "HTTP/1.1 200 OK", acquired),
+    );
+    is_answered_at(rt, alloc, &mut books, (7, LIST, "HTTP/1.1 200 OK", BOTH));
+    let mut none = Books::new(alloc, Vec::new(alloc));
+    let empty = "\r\n\r\n{\"services\":[]}";
+    is_answered_at(rt, alloc, &mut none, (7, LIST, "HTTP/1.1 200 OK", empty));
 }
 
 #[test]

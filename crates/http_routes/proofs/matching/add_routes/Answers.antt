@@ -16,4 +16,5 @@ returns c =
     let i = c.in_ok-insert-8.ensures.1 in
     let j = c.in_ok-insert-9.ensures.1 in
     let k = c.in_ok-insert-10.ensures.1 in
-    k ∙ rw (j, i, h, g, f, e, d, b, a, c.requires)
+    let l = c.in_ok-insert-11.ensures.1 in
+    l ∙ rw (k, j, i, h, g, f, e, d, b, a, c.requires)

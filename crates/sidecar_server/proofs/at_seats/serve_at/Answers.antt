@@ -4,7 +4,7 @@ use denote.Param.Send.{param_send, arg_send}
 use Rattle.std.proofs.Common.{◌≡◌, ◌∙◌, ap, length, sym, subst, arith}
 use Rattle.std.specs.List.{AllByRecursion}
 use Rattle.http_seats.proofs.Sending.{answerer_send, gate_sync}
-use Rattle.http_seats.specs.Seated.{seated, place_by, asks_by}
+use Rattle.http_seats.specs.Seated.{seated, names_by, asks_by}
 use Rattle.sidecar_server.proofs.Crews.{all_back, as_many_workers}
 use Rattle.sidecar_server.proofs.Endings.{over_by}
 use Rattle.sidecar_server.proofs.Seating.{back_here}
@@ -25,14 +25,14 @@ serve_by_pool-requires-clause-few g c κs within =
 
 pub close-requires-clause-here : goal.close-requires-clause-here
 close-requires-clause-here g c =
-    let here = back_here g.S.DeskSeat.sits_at g.S.DeskSeat.place_of g.S.DeskSeat.asks g.C.Clock.ticks c.deal.new.desk c.args.upkeeps.now c.args.clock c.in_ok-seats.seats.items c.in_ok-workers.workers.items c.in_ok-workers-2.workers.items c.in_ok-workers.ensures c.in_ok-workers-2.ensures.worked c.in_ok-seats-2.ensures.held in
+    let here = back_here g.S.DeskSeat.sits_at g.S.DeskSeat.names_of g.S.DeskSeat.asks g.C.Clock.ticks c.deal.new.desk c.args.upkeeps.now c.args.clock c.in_ok-seats.seats.items c.in_ok-workers.workers.items c.in_ok-workers-2.workers.items c.in_ok-workers.ensures c.in_ok-workers-2.ensures.worked c.in_ok-seats-2.ensures.held in
     subst (AllByRecursion (g.S.DeskSeat.sits_at c.deal.new.desk)) (sym c.in_ok-seats-2.ensures.seats) here
 
 pub close-requires-clause-all : goal.close-requires-clause-all
 close-requires-clause-all g c =
     let many = as_many_workers (seated c.deal.new.desk c.args.upkeeps.now) c.args.clock c.in_ok-seats.seats.items c.in_ok-workers.workers.items c.in_ok-workers.ensures in
     let back : length c.in_ok-seats-2.seats.items ≡ length c.in_ok-workers.workers.items =
-    all_back (place_by g.S.DeskSeat.place_of) (asks_by g.S.DeskSeat.asks) g.C.Clock.ticks (λ w. w.answerer.seat) c.in_ok-workers.workers.items c.in_ok-workers-2.workers.items c.in_ok-seats-2.seats.items c.in_ok-workers-2.ensures.worked c.in_ok-seats-2.ensures.seats in
+    all_back (names_by g.S.DeskSeat.names_of) (asks_by g.S.DeskSeat.asks) g.C.Clock.ticks (λ w. w.answerer.seat) c.in_ok-workers.workers.items c.in_ok-workers-2.workers.items c.in_ok-seats-2.seats.items c.in_ok-workers-2.ensures.worked c.in_ok-seats-2.ensures.seats in
     c.in_ok-seats-2.seats.ok.0 ∙ (back ∙ (many ∙ (sym c.in_ok-seats.seats.ok.0 ∙ (c.in_ok-seats.ensures.all.0 ∙ sym c.in_ok-seats.ensures.all.1))))
 
 pub returns-clause-over : goal.returns-clause-over

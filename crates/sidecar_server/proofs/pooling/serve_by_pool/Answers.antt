@@ -11,7 +11,7 @@ returns-in_err-workers-clause-quiet g c = quiet_without_memory _ _ _ c.from_resi
 
 pub returns-clause-over : goal.returns-clause-over
 returns-clause-over g c =
-    let back : length c.in_ok-workers.workers.items ≡ length c.args.workers.items = as_many_back g.A.Answerer.place_of g.A.Answerer.answers g.C.Clock.ticks c.args.workers.items c.in_ok-workers.workers.items c.in_ok-workers.ensures.each in
+    let back : length c.in_ok-workers.workers.items ≡ length c.args.workers.items = as_many_back g.A.Answerer.names_of g.A.Answerer.answers g.C.Clock.ticks c.args.workers.items c.in_ok-workers.workers.items c.in_ok-workers.ensures.each in
     let len : c.args.workers.len ≡ length c.args.workers.items = c.args.workers.ok.0 in
     λ none. over c.args.limits.connections c.in_ok-workers.workers.items (omega (arith, back, len, c.requires.some)) c.in_ok-workers.ensures.ended (rw c.deref.ensures.value at c.failure_of-failure.ensures none)
 

@@ -11,4 +11,4 @@ returns-in_default-clause-found c =
 pub returns-clause-read : goal.returns-clause-read
 returns-clause-read c =
     let bytes = bytes-each c.args.target.now (λ i. omega (arith, c.type_inv.target i)) in
-    target-read c.args.target.now c.in-Ok.path.now c.in_ok-route.route c.in_ok-service.service.now _ (c.in-Ok.ensures.cases.0 ∙ c.path_of.ensures) bytes c.in_ok-route.ensures c.in_ok-service.ensures c.segment-number.ensures
+    target-read c.args.target.now c.in-Ok.path.now c.in_ok-route.route _ _ (c.in-Ok.ensures.cases.0 ∙ c.path_of.ensures) bytes c.in_ok-route.ensures c.segment-service.ensures c.segment-number.ensures
