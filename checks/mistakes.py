@@ -19,11 +19,13 @@ PROGRAM_TEXT = "is not a program's bytes as text in hexadecimal"
 ADDRESS = 'is not an IP address with a port, as "127.0.0.1:8080"'
 # What is changed in that file, and what standard error says of it.
 MISTAKES = [
-    ({"worker": 4}, f"worker: {KEYS} listen, workers, keeper, connections, open, tickets and services"),
+    ({"worker": 4}, f"worker: {KEYS} listen, workers, keeper, connections, open, tickets, log and services"),
     ({"keeper": "locks"}, 'keeper: "locks" is not "lock" or "slot"'),
     ({"keeper": None}, 'keeper: null is not "lock" or "slot"'),
     ({"tickets": "by a clock"}, 'tickets: "by a clock" is not "from 1" or "by the clock"'),
     ({"tickets": 1}, 'tickets: 1 is not "from 1" or "by the clock"'),
+    ({"log": "all"}, 'log: "all" is not "silent" or "changes"'),
+    ({"log": True}, 'log: true is not "silent" or "changes"'),
     ({"listen": None}, f"listen: null {ADDRESS}"),
     ({"listen": "localhost:8080"}, f'listen: "localhost:8080" {ADDRESS}'),
     ({"listen": "127.0.0.1"}, f'listen: "127.0.0.1" {ADDRESS}'),

@@ -12,4 +12,5 @@ mod responses;
 mod values;
 
 pub use listing::services_body;
+pub use names::state_name;
 pub use responses::{body, status};

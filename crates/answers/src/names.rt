@@ -5,7 +5,7 @@ ghost use Rattle.answers.specs.Texts.{state_name, fate_name};
 use book::{Fate, State};
 
 /// The name of a state, as the CircuitBreaker of the Resilience4j documentation has it.
-pub(crate) fn state_name(state: State) -> &'static str
+pub fn state_name(state: State) -> &'static str
     ensures { result.now ≡ state_name state }
 {
     match state {

@@ -35,7 +35,7 @@ fn file_words(alloc: Global, file: Object<'_>, mistake: FileMistake) -> Result<S
             file,
             "the file",
             FILE_KEYS,
-            "listen, workers, keeper, connections, open, tickets and services",
+            "listen, workers, keeper, connections, open, tickets, log and services",
         ),
         FileMistake::Listen => wrong(
             alloc,
@@ -48,6 +48,7 @@ fn file_words(alloc: Global, file: Object<'_>, mistake: FileMistake) -> Result<S
         FileMistake::Connections => bad_number(alloc, file, "connections", CONNECTIONS),
         FileMistake::Open => bad_number(alloc, file, "open", OPEN_LIMITS),
         FileMistake::Tickets => wrong(alloc, file, "tickets", "\"from 1\" or \"by the clock\""),
+        FileMistake::Log => wrong(alloc, file, "log", "\"silent\" or \"changes\""),
         FileMistake::Services => services_words(alloc, file),
         FileMistake::Service(number, mistake) => service_words(alloc, file.value, number, mistake),
     }

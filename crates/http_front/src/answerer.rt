@@ -8,7 +8,7 @@ use bpf_profile::Layout;
 use service::{Report, Request, Response};
 
 /// Answers what services are asked for. A service is found once by its name, and then asked at its place, at a moment
-/// in milliseconds. Want of memory is a refusal like others. Below the four functions that an answerer has to have stands
+/// in milliseconds. Want of memory is a refusal like others. Below the four functions that an answerer has to have, and one by which it is told of reports that can't be used, stands
 /// one for each route of a service, which asks by `ask` and is the same for every answerer; the front asks by `ask` alone.
 pub trait Answerer {
     // the names of the services, in their order
@@ -40,6 +40,9 @@ pub trait Answerer {
         requires held { has self.old place }
         ensures answered { answers self.old place moment (request_data request) (response_data result) self.new }
         ensures names { names_of self.new ≡ names_of self.old };
+
+    /// Told that the body of a report on a call of the service at a place can't be used, at a moment in milliseconds.
+    fn refused(&self, _place: usize, _moment: u64, _body: &[u8]) {}
 
     /// Asks for a ticket, before a call.
     final fn acquire(&mut self, place: usize, moment: u64) -> Response

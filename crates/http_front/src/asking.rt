@@ -24,12 +24,14 @@ pub(crate) enum Asking {
     Refuses(RefusalNumber, Option<Route>),
 }
 
-/// What a request asks for. The error is want of memory.
+/// What a request asks for at a moment in milliseconds. The answerer is told of a report that can't be used. The error is want of
+/// memory.
 pub(crate) fn asked<A: Answerer>(
     alloc: Global,
     json: &mut JsonReader,
     routes: &Routes,
     answerer: &A,
+    moment: u64,
     request: &HttpRequest<'_>,
 ) -> Result<Asking, AllocError>
     ensures asked { IfOk result (λ found. asking found ≡ asked (A.names_of answerer.now) (http_request_data request.now)) }
@@ -50,6 +52,11 @@ pub(crate) fn asked<A: Answerer>(
     let query = query_of(request.target);
     match body_asks(alloc, json, found.route, found.number, query, request.body)? {
         Ok(wanted) => Ok(Asking::Asks(place, wanted)),
-        Err(number) => Ok(Asking::Refuses(number, None)),
+        Err(number) => {
+            if let Route::Report = found.route {
+                answerer.refused(place, moment, request.body);
+            }
+            Ok(Asking::Refuses(number, None))
+        }
     }
 }

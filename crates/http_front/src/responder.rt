@@ -64,7 +64,7 @@ impl<A: Answerer> Responder<A> for HttpResponder {
         text: &mut Vec<u8>,
     ) -> Result<(), AllocError> {
         let mut json = self.lend_json()?;
-        let asking = asked(self.alloc, &mut json, &self.routes, state, request);
+        let asking = asked(self.alloc, &mut json, &self.routes, state, moment, request);
         self.json.set(Some(json));
         match asking? {
             Asking::Refuses(number, allow) => {

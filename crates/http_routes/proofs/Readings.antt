@@ -7,7 +7,7 @@ use Rattle.matchit.specs.Router.{RouteOf}
 use Rattle.matchit.specs.Seek.{first, has_slash}
 use Rattle.http_routes.specs.declared.table.Route.{Route}
 use Rattle.http_routes.specs.declared.table.Route.TheVariants as route
-use Rattle.http_routes.specs.Finding.{Asked, asked_of, asked_at}
+use Rattle.http_routes.specs.Finding.{Asked, number_at, asked_of, asked_at, finds}
 use Rattle.http_routes.specs.Paths.{path_of, segments}
 use Rattle.http_routes.specs.Patterns.{IsSegment, HasService, HasNumber, IsRead, IsBytes}
 use Rattle.http_routes.specs.Routing.{Row, row, row_of, all_routes, routes, route_of}
@@ -206,3 +206,37 @@ target-read target path r service number same bytes is_route is_service is_numbe
     let Q : List ℕ → Type 0 = λ p. IsBytes p in
     let within = subst Q (sym same) (bytes-take (position_or_len (λ b. b == 63) target) target bytes) in
     subst P same (asked_at-read path (asks r service number) within (asked_at-parts path r service number is_route is_service is_number))
+
+-- ---- numbers
+
+-- the path of a route has a sixth segment only where an entry's number stands there
+numbered : (r : Route) (path : List ℕ) (n : Option (List ℕ)) → n ≡ slice_get (segments path) 5 → HasNumber r n → number_at r path ≡ n
+numbered route.Journal path n is has = sym is
+numbered route.Services path None is has = refl
+numbered route.Services path (Some number) is has = absurd has
+numbered route.Acquire path None is has = refl
+numbered route.Acquire path (Some number) is has = absurd has
+numbered route.Report path None is has = refl
+numbered route.Report path (Some number) is has = absurd has
+numbered route.Release path None is has = refl
+numbered route.Release path (Some number) is has = absurd has
+numbered route.Transition path None is has = refl
+numbered route.Transition path (Some number) is has = absurd has
+numbered route.Reset path None is has = refl
+numbered route.Reset path (Some number) is has = absurd has
+numbered route.Cut path None is has = refl
+numbered route.Cut path (Some number) is has = absurd has
+numbered route.Roll path None is has = refl
+numbered route.Roll path (Some number) is has = absurd has
+numbered route.Program path None is has = refl
+numbered route.Program path (Some number) is has = absurd has
+numbered route.State path None is has = refl
+numbered route.State path (Some number) is has = absurd has
+
+pub target-number : (target path : List ℕ) (r : Route) → path ≡ path_of target → IsBytes target → Some r ≡ route_of path → number_at r path ≡ slice_get (segments path) 5
+target-number target path r same bytes is_route =
+    let read = target-read target path r (slice_get (segments path) 3) (slice_get (segments path) 5) same bytes is_route refl refl in
+    numbered r path (slice_get (segments path) 5) refl read.2
+
+pub target-found : (target path : List ℕ) (r : Route) (service number : Option (List ℕ)) → path ≡ path_of target → Some r ≡ route_of path → service ≡ slice_get (segments path) 3 → number ≡ slice_get (segments path) 5 → Some (asks r service number) ≡ finds target
+target-found target path r service number same is_route is_service is_number = sym (asked_at-parts path r service number is_route is_service is_number) ∙ ap asked_at same

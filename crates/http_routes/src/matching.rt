@@ -1,6 +1,6 @@
 //! Which route a target finds.
 ghost use Rattle.std.specs.Prelude.{◌≡◌, [], IfOk, OnOk, IfSome, option_map};
-ghost use Rattle.http_routes.specs.Finding.{asked_by, finds};
+ghost use Rattle.http_routes.specs.Finding.{asked_by, number_at, finds};
 ghost use Rattle.http_routes.specs.Paths.{path_of};
 ghost use Rattle.http_routes.specs.Patterns.{IsRead};
 ghost use Rattle.http_routes.specs.Routing.{routes, route_of};
@@ -21,6 +21,17 @@ pub struct Destination<'a> {
     pub service: Option<&'a str>,
     /// For the journal: the segment that stands for the number of an entry, not empty.
     pub number: Option<&'a str>,
+}
+
+/// The segment of a path that stands for the number of an entry, where its route has one: the other routes' paths are
+/// shorter, and needn't be read to their end once more.
+fn number_at(route: Route, path: &str) -> Option<&str>
+    ensures { option_map (λ number. number.now) result ≡ number_at route path.now }
+{
+    match route {
+        Route::Journal => segment(path, 5),
+        _ => None,
+    }
 }
 
 /// Adds all routes to a router that has none. No two of them conflict, so the error is want of memory.
@@ -93,7 +104,7 @@ impl Routes {
         };
         let route = self.route_of(path)?;
         let service = segment(path, 3);
-        let number = segment(path, 5);
+        let number = number_at(route, path);
         Some(Destination {
             route,
             service,

@@ -4,7 +4,7 @@ ghost use Rattle.http_seats.specs.Seated.{seated};
 
 use crate::seats::DeskSeat;
 use http_front::Answerer;
-use service::{Gate, Request, Response, Upkeep, upkeep_at};
+use service::{Gate, Log, Request, Response, Upkeep, upkeep_at};
 use std::alloc::Global;
 use std::marker::Model;
 use std::sync::Wait;
@@ -85,6 +85,12 @@ impl<'a, D, S: DeskSeat<D>, G: Gate, R: Wait> Answerer for SeatedAnswerer<'a, D,
 
     fn find(&self, service: &str) -> Option<usize> {
         S::find(self.desk, service)
+    }
+
+    fn refused(&self, place: usize, moment: u64, body: &[u8]) {
+        if let Log::Changes(service) = upkeep_at(self.upkeeps, place).log {
+            self.gate.refused(service, moment, body);
+        }
     }
 
     fn ask(&mut self, place: usize, moment: u64, request: Request) -> Response {

@@ -11,6 +11,8 @@ use Rattle.service_profile.specs.Histories.{past_of, open_of}
 use Rattle.book.specs.Full.{says_full, IsMadeOnce, half_a_journal}
 use Rattle.service.specs.declared.upkeep.Journal.{Journal}
 use Rattle.service.specs.declared.upkeep.Journal.TheVariants as journal
+use Rattle.service.specs.declared.log.Log.{Log}
+use Rattle.service.specs.declared.log.Log.TheVariants as log
 use Rattle.service.specs.declared.upkeep.Upkeep.{Upkeep}
 
 -- calls relates what calls the book, the call, its answer, and what calls the book after it
@@ -91,14 +93,33 @@ IsAcquired zero calls kept caller moment given after = kept caller (applies mome
 IsAcquired {S} (suc age) calls kept caller moment given after =
     (answers : List Reply) × (between : S) × HasReleased calls (suc age) moment caller answers between × kept between (applies moment acquires) given after
 
+-- ---- a log
+
+-- a reading showed how the service stands, at some moment, or none was made
+abbrev pub HasShown : {S : Type 0} → (S → CallData → CallAnswer → S → Type 0) → S → S → Type 0
+HasShown calls caller after = (after ≡ caller) ⊎ ((moment : ℕ) × (shown : Reading) × calls caller (reads moment) (shows shown) after)
+
+-- where there is no log, nothing was shown to one
+abbrev pub IsShownTo : {S : Type 0} → Log → (S → CallData → CallAnswer → S → Type 0) → S → S → Type 0
+IsShownTo log.Silent calls caller after = after ≡ caller
+IsShownTo (log.Changes service) calls caller after = HasShown calls caller after
+
+-- a call, and what a log is shown behind it
+abbrev pub IsLogged : {S : Type 0} → Log → (S → CallData → CallAnswer → S → Type 0) → (S → CallData → CallAnswer → S → Type 0) → S → CallData → CallAnswer → S → Type 0
+IsLogged log.Silent calls made caller call given after = made caller call given after
+IsLogged {S} (log.Changes service) calls made caller call given after = (between : S) × made caller call given between × HasShown calls between after
+
+-- ---- all of it
+
 -- a call where the service does this for its upkeep
 abbrev pub IsUpkept : {S : Type 0} → Upkeep → (S → CallData → CallAnswer → S → Type 0) → (S → CallData → CallAnswer → S → Type 0)
-IsUpkept upkeep calls caller (applies moment acquires) given after = IsAcquired upkeep.max_ticket_age calls (IsKeptBy upkeep.journal calls) caller moment given after
-IsUpkept upkeep calls caller call given after = IsKeptBy upkeep.journal calls caller call given after
+IsUpkept upkeep calls caller (applies moment acquires) given after =
+    IsAcquired upkeep.max_ticket_age calls (IsLogged upkeep.log calls (IsKeptBy upkeep.journal calls)) caller moment given after
+IsUpkept upkeep calls caller call given after = IsLogged upkeep.log calls (IsKeptBy upkeep.journal calls) caller call given after
 
 -- a service that does nothing of its own
 abbrev pub no_upkeep : Upkeep
-no_upkeep = record { journal = journal.Keep; max_ticket_age = 0 }
+no_upkeep = record { journal = journal.Keep; max_ticket_age = 0; log = log.Silent }
 
 abbrev pub or_none : Option Upkeep → Upkeep
 or_none (Some upkeep) = upkeep

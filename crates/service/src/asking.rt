@@ -34,16 +34,12 @@ fn report_with<P, B: BookCalls<P>, G: Gate>(
     ensures fits { B.fits place.now book.new }
 {
     let Report { ticket, outcome } = report;
-    match call(book, place, upkeep.journal, Look(ticket)) {
+    match call(book, place, upkeep, moment, Look(ticket), gate) {
         Ok(program) => {
             let judged = judge(program, outcome);
             gate.between(ticket);
-            call(
-                book,
-                place,
-                upkeep.journal,
-                Apply(moment, Event::Finish(judged, ticket)),
-            )
+            let finish = Apply(moment, Event::Finish(judged, ticket));
+            call(book, place, upkeep, moment, finish, gate)
         }
         Err(number) => Reply::Refused(number),
     }
@@ -69,7 +65,7 @@ pub fn report<P, B: BookCalls<P>, G: Gate>(
 
 /// Verifies a program on records of a layout, and installs it. Memory is taken before the book is called: where there is none, the
 /// program is refused with `ProgramOutOfMemory`.
-fn install<P, B: BookCalls<P>>(
+fn install<P, B: BookCalls<P>, G: Gate>(
     alloc: Global,
     book: &mut B,
     place: &P,
@@ -77,6 +73,7 @@ fn install<P, B: BookCalls<P>>(
     moment: u64,
     bytes: &[u8],
     layout: Layout,
+    gate: &G,
 ) -> Response
     requires fits { B.fits place.now book.old }
     ensures installed { IsInstalled (IsUpkept upkeep (B.calls place.now)) book.old moment bytes.now layout (response_data result) book.new }
@@ -87,12 +84,10 @@ fn install<P, B: BookCalls<P>>(
         Err(refusal) => return Response::ProgramRefused(refusal),
     };
     match Arc::new(alloc, program) {
-        Ok(program) => Response::Reply(call(
-            book,
-            place,
-            upkeep.journal,
-            Apply(moment, Event::Install(program)),
-        )),
+        Ok(program) => {
+            let install = Apply(moment, Event::Install(program));
+            Response::Reply(call(book, place, upkeep, moment, install, gate))
+        }
         Err(error) => Response::ProgramRefused(Refusal::from(AllocError::from(error))),
     }
 }
@@ -138,16 +133,14 @@ pub fn ask<P, B: BookCalls<P>, G: Gate>(
     ensures fits { B.fits place.now book.new }
 {
     match request {
-        Request::Acquire => Response::Reply(acquire(book, place, upkeep, moment)),
+        Request::Acquire => Response::Reply(acquire(book, place, upkeep, moment, gate)),
         Request::Report(reported) => {
             Response::Reply(report_with(book, place, upkeep, moment, reported, gate))
         }
-        Request::Release(ticket) => Response::Reply(call(
-            book,
-            place,
-            upkeep.journal,
-            Apply(moment, Event::Release(ticket)),
-        )),
+        Request::Release(ticket) => {
+            let release = Apply(moment, Event::Release(ticket));
+            Response::Reply(call(book, place, upkeep, moment, release, gate))
+        }
         Request::Install { program, layout } => {
             install(
                 alloc,
@@ -157,23 +150,22 @@ pub fn ask<P, B: BookCalls<P>, G: Gate>(
                 moment,
                 program.as_slice(),
                 layout,
+                gate,
             )
         }
-        Request::Move(state) => Response::Reply(call(
-            book,
-            place,
-            upkeep.journal,
-            Apply(moment, Event::Move(state)),
-        )),
-        Request::Reset => Response::Reply(call(
-            book,
-            place,
-            upkeep.journal,
-            Apply(moment, Event::Reset),
-        )),
-        Request::Read => Response::Reading(call(book, place, upkeep.journal, Read(moment))),
-        Request::Page(from) => page(from, call(book, place, upkeep.journal, Page(from))),
-        Request::Cut => handed_out(call(book, place, upkeep.journal, Cut)),
-        Request::Roll(last) => handed_out(call(book, place, upkeep.journal, Roll(last))),
+        Request::Move(state) => {
+            let to = Apply(moment, Event::Move(state));
+            Response::Reply(call(book, place, upkeep, moment, to, gate))
+        }
+        Request::Reset => {
+            let reset = Apply(moment, Event::Reset);
+            Response::Reply(call(book, place, upkeep, moment, reset, gate))
+        }
+        Request::Read => {
+            Response::Reading(call(book, place, upkeep, moment, Read(moment), gate))
+        }
+        Request::Page(from) => page(from, call(book, place, upkeep, moment, Page(from), gate)),
+        Request::Cut => handed_out(call(book, place, upkeep, moment, Cut, gate)),
+        Request::Roll(last) => handed_out(call(book, place, upkeep, moment, Roll(last), gate)),
     }
 }

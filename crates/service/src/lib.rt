@@ -5,7 +5,9 @@
 mod asking;
 mod calls;
 mod gate;
+mod heard;
 pub mod laws;
+mod log;
 mod request;
 mod response;
 mod upkeep;
@@ -13,6 +15,7 @@ mod upkeep;
 pub use asking::{ask, report};
 pub use calls::{BookCalls, ONLY_SEAT};
 pub use gate::{Gate, OpenGate};
+pub use log::{Log, News};
 pub use request::{Report, Request};
 pub use response::Response;
 pub use upkeep::{Journal, Upkeep, upkeep_at};

@@ -9,7 +9,7 @@ use Rattle.requests.specs.Keys.{has_known_keys}
 use Rattle.requests.specs.Values.{number_at, text_at}
 use Rattle.service_file.specs.declared.settings.ServiceSettings.{ServiceSettings}
 use Rattle.service_file.specs.declared.settings.Settings.{Settings}
-use Rattle.service_file.specs.Files.{ServiceData, is_count, kept_if, is_named, added, service_of, with_service, services_after, items_length, services_of, services_at, workers_at, keeper_at, open_at, tickets_at, file_of, file_in, is_file_key}
+use Rattle.service_file.specs.Files.{ServiceData, is_count, kept_if, is_named, added, service_of, with_service, services_after, items_length, services_of, services_at, workers_at, keeper_at, open_at, tickets_at, logging_at, file_of, file_in, is_file_key}
 use Rattle.service_file.specs.Settled.{AreServices, IsRead, HasCounts}
 
 always : {A : Type 0} (o : Option A) → IfSome o (λ a. ⊤)
@@ -72,8 +72,9 @@ file_of_count d =
     (λ keeper either. then_if (number_at (codes "connections") d) _ (λ n. ⊤) _ (always (number_at (codes "connections") d))
     (λ connections free. then_if (open_at d) _ (λ n. ⊤) _ (always (open_at d))
     (λ most_open within. then_if (tickets_at d) _ (λ t. ⊤) _ (always (tickets_at d))
-    (λ tickets numbered. then_if (services_at d) _ (λ services. is_count (length services) ≡ true) _ (services_at_count d)
-    (λ services many. (counted, many)))))))))
+    (λ tickets numbered. then_if (logging_at d) _ (λ l. ⊤) _ (always (logging_at d))
+    (λ logging told. then_if (services_at d) _ (λ services. is_count (length services) ≡ true) _ (services_at_count d)
+    (λ services many. (counted, many))))))))))
 
 file_in_count : (text : List ℕ) → IfSome (file_in text) (λ file. (is_count file.workers ≡ true) × (is_count (length file.services) ≡ true))
 file_in_count text = then_if (json_of text) file_of (λ d. ⊤) (λ file. (is_count file.workers ≡ true) × (is_count (length file.services) ≡ true)) (always (json_of text)) (λ d any. file_of_count d)

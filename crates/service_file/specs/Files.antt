@@ -18,6 +18,8 @@ use Rattle.service.specs.declared.upkeep.Journal.{Journal}
 use Rattle.service.specs.declared.upkeep.Journal.TheVariants.{Keep, Last}
 use Rattle.service_file.specs.declared.keepers.Keeper.{Keeper}
 use Rattle.service_file.specs.declared.keepers.Keeper.TheVariants.{Lock, Slot}
+use Rattle.service_file.specs.declared.logging.Logging.{Logging}
+use Rattle.service_file.specs.declared.logging.Logging.TheVariants.{Silent, Changes}
 use Rattle.service_file.specs.declared.numbering.Tickets.{Tickets}
 use Rattle.service_file.specs.declared.numbering.Tickets.TheVariants.{FromOne, ByTheClock}
 
@@ -30,7 +32,7 @@ pub record ServiceData : Type 0 where
   pub journal : Journal
   pub max_ticket_age : ℕ
 
--- the whole file: the text of the address, how many workers, how the books are kept between their calls, after how many connections serving ends, how many are open at once at most, from which number on tickets are numbered, and the services
+-- the whole file: the text of the address, how many workers, how the books are kept between their calls, after how many connections serving ends, how many are open at once at most, from which number on tickets are numbered, what is told of the services on standard error, and the services
 pub record FileData : Type 0 where
   pub listen : List ℕ
   pub workers : ℕ
@@ -38,12 +40,13 @@ pub record FileData : Type 0 where
   pub connections : ℕ
   pub most_open : ℕ
   pub tickets : Tickets
+  pub logging : Logging
   pub services : List ServiceData
 
 -- ---- keys
 
 abbrev pub is_file_key : List ℕ → Bool
-is_file_key = is_one_of (codes "listen" ∷ codes "workers" ∷ codes "keeper" ∷ codes "connections" ∷ codes "open" ∷ codes "tickets" ∷ codes "services" ∷ [])
+is_file_key = is_one_of (codes "listen" ∷ codes "workers" ∷ codes "keeper" ∷ codes "connections" ∷ codes "open" ∷ codes "tickets" ∷ codes "log" ∷ codes "services" ∷ [])
 
 abbrev pub is_service_key : List ℕ → Bool
 is_service_key = is_one_of (codes "name" ∷ codes "config" ∷ codes "program" ∷ codes "layout" ∷ codes "journal" ∷ codes "maxTicketAge" ∷ [])
@@ -170,7 +173,18 @@ tickets_named name =
 abbrev pub tickets_at : Data → Option Tickets
 tickets_at d = if_there FromOne (λ v. option_and_then tickets_named (as_str v)) (get (codes "tickets") d)
 
--- None where the value is no object, lacks a key other than the keeper, the limit of open connections and that of the tickets, has one of another name, or a value that can't be used
+-- the two texts for it
+unfoldable pub logging_named : List ℕ → Option Logging
+logging_named name =
+    if bytes_eq name (codes "silent") then Some Silent
+    else (if bytes_eq name (codes "changes") then Some Changes
+    else None)
+
+-- silent where the key is missing; None where another value than one of these texts stands there
+abbrev pub logging_at : Data → Option Logging
+logging_at d = if_there Silent (λ v. option_and_then logging_named (as_str v)) (get (codes "log") d)
+
+-- None where the value is no object, lacks a key other than the keeper, the limit of open connections and those of the tickets and the log, has one of another name, or a value that can't be used
 unfoldable pub file_of : Data → Option FileData
 file_of d =
     if has_known_keys is_file_key d then (do
@@ -180,8 +194,9 @@ file_of d =
       connections ← number_at (codes "connections") d
       most_open ← open_at d
       tickets ← tickets_at d
+      logging ← logging_at d
       services ← services_at d
-      Some (record { listen = listen; workers = workers; keeper = keeper; connections = connections; most_open = most_open; tickets = tickets; services = services }))
+      Some (record { listen = listen; workers = workers; keeper = keeper; connections = connections; most_open = most_open; tickets = tickets; logging = logging; services = services }))
     else None
 
 -- the same of JSON text

@@ -15,5 +15,6 @@ file_data part = record {
   connections = part.connections;
   most_open = part.most_open;
   tickets = part.tickets;
+  logging = part.logging;
   services = map service_data part.services.items;
 }

@@ -5,6 +5,7 @@ use Rattle.std.specs.declared.net.socket_addr.SocketAddr.{SocketAddr}
 use Rattle.bpf_profile.specs.SpellingFaults.{Fault}
 use Rattle.verifier.specs.DefaultClassifier.{default_classifier_bytes}
 use Rattle.verifier.specs.Verifying.{IsVerification, IsRefused}
+use Rattle.service.specs.declared.log.Log.TheVariants as log
 use Rattle.service_file.specs.declared.settings.ServiceSettings.{ServiceSettings}
 use Rattle.service_file.specs.declared.settings.Settings.{Settings}
 use Rattle.service_file.specs.Files.{ServiceData, FileData, file_in, is_count}
@@ -14,13 +15,13 @@ abbrev pub bytes_of : Option (List ℕ) → List ℕ
 bytes_of None = default_classifier_bytes
 bytes_of (Some bytes) = bytes
 
--- the service has the name and the configuration that the file gives, its program is accepted on records of the layout that the file gives, and what becomes of its journal and how old its tickets may get is what the file says
+-- the service has the name and the configuration that the file gives, its program is accepted on records of the layout that the file gives, and what becomes of its journal and how old its tickets may get is what the file says; no log is told of it yet
 pub record IsService (service : ServiceSettings) (given : ServiceData) : Type 0 where
   pub named : string_bytes service.name ≡ given.name
   pub configured : service.config ≡ given.config
   pub verified : IsVerification (bytes_of given.program) service.program
   pub seen : service.program.layout ≡ given.layout
-  pub tended : service.upkeep ≡ record { journal = given.journal; max_ticket_age = given.max_ticket_age }
+  pub tended : service.upkeep ≡ record { journal = given.journal; max_ticket_age = given.max_ticket_age; log = log.Silent }
 
 -- service by service
 abbrev pub AreServices : List ServiceSettings → List ServiceData → Type 0
@@ -41,6 +42,7 @@ pub record AreSettings (settings : Settings) (file : FileData) : Type 0 where
   pub ends : settings.connections ≡ file.connections
   pub limited : settings.most_open ≡ file.most_open
   pub numbered : settings.tickets ≡ file.tickets
+  pub told : settings.logging ≡ file.logging
   pub served : AreServices settings.services.items file.services
 
 -- the text is no address, or some program is refused

@@ -7,6 +7,7 @@ ghost use Rattle.service_file.specs.Parts.{file_data};
 
 use crate::keepers::{Keeper, keeper_at};
 use crate::limits::{open_at, workers_at};
+use crate::logging::{Logging, logging_at};
 use crate::mistakes::{FileMistake, Parsed};
 use crate::numbering::{Tickets, tickets_at};
 use crate::services::{ServicePart, services_at};
@@ -23,6 +24,7 @@ pub const FILE_KEYS: &[&str] = &[
     "connections",
     "open",
     "tickets",
+    "log",
     "services",
 ];
 
@@ -36,6 +38,7 @@ pub(crate) struct FilePart {
     pub connections: u64,
     pub most_open: u64,
     pub tickets: Tickets,
+    pub logging: Logging,
     pub services: Vec<ServicePart>,
 }
 
@@ -65,6 +68,9 @@ fn file(alloc: Global, value: &Value) -> Parsed<FilePart>
     let Some(tickets) = tickets_at(value) else {
         return Ok(Err(FileMistake::Tickets));
     };
+    let Some(logging) = logging_at(value) else {
+        return Ok(Err(FileMistake::Log));
+    };
     let services = match services_at(alloc, value)? {
         Ok(services) => services,
         Err(mistake) => return Ok(Err(mistake)),
@@ -77,6 +83,7 @@ fn file(alloc: Global, value: &Value) -> Parsed<FilePart>
         connections,
         most_open,
         tickets,
+        logging,
         services,
     }))
 }

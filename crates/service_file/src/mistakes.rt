@@ -26,6 +26,8 @@ pub enum FileMistake {
     Open,
     /// `tickets` is neither `from 1` nor `by the clock`.
     Tickets,
+    /// `log` is neither `silent` nor `changes`.
+    Log,
     /// `services` is missing, or no array of 1 to 64 services.
     Services,
     /// What is wrong with the service of this number, from 0 on.

@@ -8,13 +8,14 @@ ghost use Rattle.service_file.specs.Settled.{bytes_of, IsService, AreServices, H
 
 use crate::file::{FilePart, file_in};
 use crate::keepers::Keeper;
+use crate::logging::Logging;
 use crate::mistakes::{FileMistake, Parsed, ServiceMistake};
 use crate::numbering::Tickets;
 use crate::services::ServicePart;
 use book::Config;
 use bpf_profile::Layout;
 use refusals::RefusalNumber;
-use service::Upkeep;
+use service::{Log, Upkeep};
 use std::alloc::{AllocError, Global};
 use std::net::SocketAddr;
 use verifier::{Refusal, Verified, default_classifier, verify};
@@ -27,7 +28,7 @@ pub struct ServiceSettings {
     pub config: Config,
     /// Its first program, verified on records of the layout that it is for.
     pub program: Verified,
-    /// What it does for its own upkeep.
+    /// What it does for its own upkeep. No log is told of it: by which number a log knows it, whoever opens it says.
     pub upkeep: Upkeep,
 }
 
@@ -46,6 +47,8 @@ pub struct Settings {
     pub most_open: u64,
     /// From which number on the tickets of each service are numbered.
     pub tickets: Tickets,
+    /// What is told of the services on standard error while they are served.
+    pub logging: Logging,
     /// 1 to 64 services, no two of one name.
     pub services: Vec<ServiceSettings>,
 }
@@ -106,6 +109,7 @@ fn service(alloc: Global, part: ServicePart) -> Parsed<ServiceSettings, Refusal>
         upkeep: Upkeep {
             journal: part.journal,
             max_ticket_age: part.max_ticket_age,
+            log: Log::Silent,
         },
     }))
 }
@@ -147,6 +151,7 @@ fn settled(alloc: Global, part: FilePart) -> Parsed<Settings>
         connections: part.connections,
         most_open: part.most_open,
         tickets: part.tickets,
+        logging: part.logging,
         services,
     }))
 }
@@ -156,7 +161,8 @@ fn settled(alloc: Global, part: FilePart) -> Parsed<Settings>
 /// The text is a JSON object: `listen` is an IP address with its port, as text; `workers`, 1 to 64; `keeper`, `lock` or
 /// `slot`, the lock where it is missing; `connections`, below 2^64, after how many connections serving ends, or 0 for never; `open`, 1 to 65,536,
 /// how many connections are open at once at most, 1,024 where it is missing; `tickets`, `from 1` or `by the clock`, from
-/// which number on the tickets of each service are numbered, from 1 where it is missing; and `services`, an
+/// which number on the tickets of each service are numbered, from 1 where it is missing; `log`, `silent` or `changes`, what is
+/// told of the services on standard error, nothing where it is missing; and `services`, an
 /// array of 1 to 64 objects with `name` (1 to 64 small letters, digits, hyphens and underscores, each name
 /// once), `config` (as `requests::config` reads it; the defaults where it is missing), `program`
 /// (hexadecimal, in which blanks don't count; the default classifier where it is missing), `layout` (the

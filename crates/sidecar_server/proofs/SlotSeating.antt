@@ -67,18 +67,18 @@ numbers_add_up first origins services books seats counts are agree same =
 
 -- ---- what is said of any desk
 
-pub served_at_slots : {C : Type 0} (ticks : C → ℕ → C → Type 0) (settings : Settings) (first : ℕ) (clock : C) (desk : DeskData) (upkeeps : List Upkeep) (books : List History) (counts : List ℕ) → desk.names ≡ names_of settings.services.items → desk.origins ≡ origins_of first settings.services.items → upkeeps ≡ upkeeps_of settings.services.items → HasServedAt names_at asks deals closes ticks desk upkeeps settings.workers clock books counts → HasServedAtSlots ticks settings first clock books counts
+pub served_at_slots : {C : Type 0} (ticks : C → ℕ → C → Type 0) (settings : Settings) (first : ℕ) (clock : C) (desk : DeskData) (upkeeps : List Upkeep) (books : List History) (counts : List ℕ) → desk.names ≡ names_of settings.services.items → desk.origins ≡ origins_of first settings.services.items → upkeeps ≡ upkeeps_of settings.logging settings.services.items → HasServedAt names_at asks deals closes ticks desk upkeeps settings.workers clock books counts → HasServedAtSlots ticks settings first clock books counts
 served_at_slots ticks settings first clock desk upkeeps books counts names origins tended served_ =
-    let served : HasServedAt names_at asks deals closes ticks desk (upkeeps_of settings.services.items) settings.workers clock books counts = subst (λ us. HasServedAt names_at asks deals closes ticks desk us settings.workers clock books counts) tended served_ in
+    let served : HasServedAt names_at asks deals closes ticks desk (upkeeps_of settings.logging settings.services.items) settings.workers clock books counts = subst (λ us. HasServedAt names_at asks deals closes ticks desk us settings.workers clock books counts) tended served_ in
     let shut = served.closed.0 in
     let opened = served.sat.2 ∙ origins in
-    let worked = worked_within ticks shut.begun.courses (workers_of clock (map (seated served.dealt (upkeeps_of settings.services.items)) served.seats)) served.later served.worked shut.begun.begun in (
+    let worked = worked_within ticks shut.begun.courses (workers_of clock (map (seated served.dealt (upkeeps_of settings.logging settings.services.items)) served.seats)) served.later served.worked shut.begun.begun in (
       served.dealt,
       served.later,
       shut,
       served.sat.0 ∙ names,
       opened,
-      subst (λ seats. HaveWorked (names_by names_at) (IsAskedWithin shut.begun.courses) ticks (workers_of clock (map (seated served.dealt (upkeeps_of settings.services.items)) seats)) served.later) served.sat.3 worked,
+      subst (λ seats. HaveWorked (names_by names_at) (IsAskedWithin shut.begun.courses) ticks (workers_of clock (map (seated served.dealt (upkeeps_of settings.logging settings.services.items)) seats)) served.later) served.sat.3 worked,
       served.closed.1,
       numbers_add_up first served.dealt.origins settings.services.items books (seats_with served.later) counts opened shut.agree served.closed.1,
     )

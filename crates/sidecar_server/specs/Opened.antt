@@ -1,8 +1,11 @@
 -- Services as they open.
-use Rattle.std.specs.Prelude.{◌≡◌, ℕ, List, [], ◌∷◌, map, ⊤}
+use Rattle.std.specs.Prelude.{◌≡◌, ℕ, suc, List, [], ◌∷◌, ⊤}
+use Rattle.service.specs.declared.log.Log.TheVariants as log
 use Rattle.service.specs.declared.upkeep.Upkeep.{Upkeep}
 use Rattle.service_profile.specs.FirstOpening.{first_opening_from}
 use Rattle.service_profile.specs.Events.{history_of}
+use Rattle.service_file.specs.declared.logging.Logging.{Logging}
+use Rattle.service_file.specs.declared.logging.Logging.TheVariants as logging
 use Rattle.service_file.specs.declared.settings.ServiceSettings.{ServiceSettings}
 use Rattle.http_front.specs.declared.books.NamedBook.{NamedBook}
 
@@ -18,6 +21,16 @@ AreOpened first [] [] = ⊤
 AreOpened first (service ∷ services) (opened ∷ later) = IsOpened first service opened × AreOpened first services later
 AreOpened first services other = ⊥
 
--- what the services do for their upkeep, in their order
-abbrev pub upkeeps_of : List ServiceSettings → List Upkeep
-upkeeps_of services = map (λ service. service.upkeep) services
+-- what a service does for its upkeep, of which a log is told by this number where the settings say so
+abbrev pub logged_by : Logging → ℕ → Upkeep → Upkeep
+logged_by logging.Silent place upkeep = upkeep
+logged_by logging.Changes place upkeep = record { journal = upkeep.journal; max_ticket_age = upkeep.max_ticket_age; log = log.Changes place }
+
+-- what services do for their upkeep, in their order, by their numbers from this one on
+abbrev pub upkeeps_from : Logging → ℕ → List ServiceSettings → List Upkeep
+upkeeps_from logging place [] = []
+upkeeps_from logging place (service ∷ services) = logged_by logging place service.upkeep ∷ upkeeps_from logging (suc place) services
+
+-- of all services, by their numbers from 0 on
+abbrev pub upkeeps_of : Logging → List ServiceSettings → List Upkeep
+upkeeps_of logging services = upkeeps_from logging 0 services

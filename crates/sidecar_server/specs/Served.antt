@@ -18,6 +18,7 @@ use Rattle.http_pool.specs.Workers.{HaveWorked}
 use Rattle.service_file.specs.declared.settings.ServiceSettings.{ServiceSettings}
 use Rattle.service_file.specs.declared.settings.Settings.{Settings}
 use Rattle.service_file.specs.declared.keepers.Keeper.TheVariants as keeper
+use Rattle.service_file.specs.declared.logging.Logging.TheVariants as logging
 use Rattle.sidecar_server.specs.Numbering.{IsFirstTicket}
 use Rattle.sidecar_server.specs.Opened.{AreOpened, upkeeps_of}
 use Rattle.sidecar_server.specs.Seats.{workers_of, seats_with}
@@ -48,16 +49,20 @@ abbrev pub HasServedAtDesk : {C : Type 0} → (C → ℕ → C → Type 0) → S
 HasServedAtDesk {C} ticks settings first clock books counts =
     (desk : DeskData) × (later : List (Worker (SeatedData DeskData SeatData) C))
     × (desk.services ≡ services_of first settings.services.items)
-    × HaveWorked (names_by names_at) (asks_by asks) ticks (workers_of clock (map (seated desk (upkeeps_of settings.services.items)) (seats_of 1 settings.workers))) later
+    × HaveWorked (names_by names_at) (asks_by asks) ticks (workers_of clock (map (seated desk (upkeeps_of settings.logging settings.services.items)) (seats_of 1 settings.workers))) later
     × (counts ≡ counts_of (seats_with later))
     × AreClosed desk.services books (seats_with later)
 
--- by one worker, or by many, each with a copy of this clock, who keep the books behind locks or in slots as the settings say
+-- the books are kept by a desk: there are many workers, or a log is told of the services
+abbrev pub IsShared : Settings → Type 0
+IsShared settings = (1 < settings.workers) ⊎ (settings.logging ≡ logging.Changes)
+
+-- by one worker with no log, or by workers, each with a copy of this clock, who keep the books behind locks or in slots as the settings say
 abbrev pub HasServedFrom : {C : Type 0} → (C → ℕ → C → Type 0) → Settings → ℕ → C → C → List History → List ℕ → Type 0
 HasServedFrom ticks settings first started later books counts =
-    ((settings.workers ≡ 1) × HasServedAlone ticks settings first started later books × (counts ≡ []))
-    ⊎ ((1 < settings.workers) × (settings.keeper ≡ keeper.Lock) × HasServedAtDesk ticks settings first started books counts × (later ≡ started))
-    ⊎ ((1 < settings.workers) × (settings.keeper ≡ keeper.Slot) × HasServedAtSlots ticks settings first started books counts × (later ≡ started))
+    ((settings.workers ≡ 1) × (settings.logging ≡ logging.Silent) × HasServedAlone ticks settings first started later books × (counts ≡ []))
+    ⊎ (IsShared settings × (settings.keeper ≡ keeper.Lock) × HasServedAtDesk ticks settings first started books counts × (later ≡ started))
+    ⊎ (IsShared settings × (settings.keeper ≡ keeper.Slot) × HasServedAtSlots ticks settings first started books counts × (later ≡ started))
 
 -- the same, from the number of the first ticket on that the settings and the clock give, by the clock as that left it
 abbrev pub HasServedBy : {C : Type 0} → (C → ℕ → C → Type 0) → Settings → C → C → List History → List ℕ → Type 0

@@ -34,6 +34,6 @@ HasServedAtSlots {C} ticks settings first clock books counts =
     × (closed : AreClosed desk books (seats_with later))
     × (desk.names ≡ names_of settings.services.items)
     × (desk.origins ≡ origins_of first settings.services.items)
-    × HaveWorked (names_by names_at) (IsAskedWithin closed.begun.courses) ticks (workers_of clock (map (seated desk (upkeeps_of settings.services.items)) (seats_of desk.tables desk.origins 1 settings.workers))) later
+    × HaveWorked (names_by names_at) (IsAskedWithin closed.begun.courses) ticks (workers_of clock (map (seated desk (upkeeps_of settings.logging settings.services.items)) (seats_of desk.tables desk.origins 1 settings.workers))) later
     × (counts ≡ counts_of (seats_with later))
     × (sum (map last_number books) ≡ sum counts)

@@ -10,7 +10,7 @@ ghost use Rattle.sidecar_server.specs.Served.{services_of, HasServedAtDesk};
 ghost use Rattle.sidecar_server.specs.Server.{IsServerOutput, IsServing, IsOver, ended_by, end_of};
 ghost use Rattle.sidecar_server.specs.Slotted.{HasServedAtSlots};
 
-use crate::opening::{opened_by, upkeeps_of};
+use crate::opening::{log_of, opened_by, upkeeps_of};
 use crate::pooling::serve_by_pool;
 use crate::serving::{ServerEnd, limits_of};
 use counted_io::Counted;
@@ -19,8 +19,9 @@ use http_front::Clock;
 use http_pool::{Limits, Worker};
 use http_seats::{DeskSeat, SeatedAnswerer};
 use server_output::ServerStatus;
-use service::{OpenGate, Upkeep};
+use service::{Gate, Upkeep};
 use service_file::Settings;
+use service_log::{LogLines, ServiceLog};
 use std::alloc::{AllocError, Global};
 use std::io::Write;
 use std::net::{Net, SocketAddr, TcpListener, TcpStream};
@@ -30,15 +31,15 @@ use std::thread::Threads;
 use std::time;
 
 /// Workers, each with a seat and a clock of its own.
-fn workers<'a, D, S: DeskSeat<D>, R: Wait, C: Clock + Copy>(
+fn workers<'a, D, S: DeskSeat<D>, G: Gate, R: Wait, C: Clock + Copy>(
     rt: &'a R,
     alloc: Global,
     desk: &'a D,
     upkeeps: &'a [Upkeep],
     seats: Vec<S>,
-    gate: &'a OpenGate,
+    gate: &'a G,
     clock: C,
-) -> Result<Vec<Worker<SeatedAnswerer<'a, D, S, OpenGate, R>, C>>, AllocError>
+) -> Result<Vec<Worker<SeatedAnswerer<'a, D, S, G, R>, C>>, AllocError>
     requires here { AllByRecursion (S.sits_at desk.now) seats.items }
     ensures { IfOk result (λ workers. workers.items ≡ workers_of clock (map (seated desk.now upkeeps.now) seats.items)) }
 {
@@ -51,9 +52,9 @@ fn workers<'a, D, S: DeskSeat<D>, R: Wait, C: Clock + Copy>(
 }
 
 /// The seats that workers bring back, each still one of its desk's. The error is want of memory.
-fn seats_back<'a, D, S: DeskSeat<D>, R: Wait, C: Clock + Copy>(
+fn seats_back<'a, D, S: DeskSeat<D>, G: Gate, R: Wait, C: Clock + Copy>(
     alloc: Global,
-    workers: Vec<Worker<SeatedAnswerer<'a, D, S, OpenGate, R>, C>>,
+    workers: Vec<Worker<SeatedAnswerer<'a, D, S, G, R>, C>>,
 ) -> Result<Vec<S>, AllocError>
     ensures seats { IfOk result (λ seats. seats.items ≡ seats_with workers.entry.items) }
     ensures held { IfOk result (λ seats. AllByRecursion (λ worker. S.sits_at worker.answerer.desk worker.answerer.seat) workers.entry.items) }
@@ -65,12 +66,13 @@ fn seats_back<'a, D, S: DeskSeat<D>, R: Wait, C: Clock + Copy>(
     Ok(seats)
 }
 
-/// Listens, and serves by so many workers, each with a seat of a desk that has dealt none. Once they have ended it closes the
-/// desk.
+/// Listens, and serves by so many workers, each with a seat of a desk that has dealt none, who share a gate. Once they have
+/// ended it closes the desk.
 #[tactic(auto, using(server_output::proofs::Silence::quiet_kept))]
 fn serve_at<
     D: Drop + Sync,
     S: DeskSeat<D> + Send,
+    G: Gate + Sync,
     R: Threads + Wait + time::Clock + Sync + Net<Listener = TcpListener, Stream = TcpStream>,
     O: Write,
     E: Write,
@@ -80,6 +82,7 @@ fn serve_at<
     alloc: Global,
     mut desk: D,
     upkeeps: &[Upkeep],
+    gate: &G,
     address: SocketAddr,
     limits: Limits,
     count: u64,
@@ -99,8 +102,7 @@ fn serve_at<
     ensures cause { IsServerCause (end_of result) out.old.failures out.new.failures }
 {
     let seats = S::deal(alloc, &mut desk, count)?;
-    let gate = OpenGate;
-    let workers = workers(rt, alloc, &desk, upkeeps, seats, &gate, clock)?;
+    let workers = workers(rt, alloc, &desk, upkeeps, seats, gate, clock)?;
     let (workers, failure) = serve_by_pool(rt, alloc, address, limits, workers, out, err)?;
     let seats = seats_back(alloc, workers)?;
     let (books, counts) = S::close(alloc, desk, seats)?;
@@ -112,7 +114,12 @@ fn serve_at<
 pub(crate) fn serve_at_desk<
     L: Ledger + Send + Sync,
     M: Ledger + Offered + Send + Sync,
-    R: Threads + Wait + time::Clock + Sync + Net<Listener = TcpListener, Stream = TcpStream>,
+    R: Threads
+        + Wait
+        + time::Clock
+        + Sync
+        + LogLines
+        + Net<Listener = TcpListener, Stream = TcpStream>,
     O: Write,
     E: Write,
     C: Clock + Copy + Send,
@@ -145,13 +152,15 @@ pub(crate) fn serve_at_desk<
 {
     let limits = limits_of(&settings);
     let upkeeps = upkeeps_of(alloc, &settings)?;
+    let log = log_of(rt, alloc, &settings)?;
     let opened = opened_by(alloc, settings.services)?;
     let desk = desk::Desk::<L, M>::open_from(alloc, entry_parts, cut_parts, opened, first_ticket)?;
-    serve_at::<desk::Desk<L, M>, desk::Seat<L, M>, R, O, E, C>(
+    serve_at::<desk::Desk<L, M>, desk::Seat<L, M>, ServiceLog<'_, R, R>, R, O, E, C>(
         rt,
         alloc,
         desk,
         &upkeeps,
+        &log,
         settings.listen,
         limits,
         settings.workers,
@@ -164,7 +173,12 @@ pub(crate) fn serve_at_desk<
 /// Opens a desk whose books lie in slots, from a number of the first tickets on, and serves by as many workers as the settings say.
 #[tactic(auto, using(server_output::proofs::Silence::quiet_kept))]
 pub(crate) fn serve_at_slots<
-    R: Threads + Wait + time::Clock + Sync + Net<Listener = TcpListener, Stream = TcpStream>,
+    R: Threads
+        + Wait
+        + time::Clock
+        + Sync
+        + LogLines
+        + Net<Listener = TcpListener, Stream = TcpStream>,
     O: Write,
     E: Write,
     C: Clock + Copy + Send,
@@ -190,13 +204,15 @@ pub(crate) fn serve_at_slots<
 {
     let limits = limits_of(&settings);
     let upkeeps = upkeeps_of(alloc, &settings)?;
+    let log = log_of(rt, alloc, &settings)?;
     let opened = opened_by(alloc, settings.services)?;
     let desk = slot_desk::Desk::open_from(alloc, opened, first_ticket)?;
-    serve_at::<slot_desk::Desk, slot_desk::Seat, R, O, E, C>(
+    serve_at::<slot_desk::Desk, slot_desk::Seat, ServiceLog<'_, R, R>, R, O, E, C>(
         rt,
         alloc,
         desk,
         &upkeeps,
+        &log,
         settings.listen,
         limits,
         settings.workers,

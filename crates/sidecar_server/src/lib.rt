@@ -12,4 +12,5 @@ mod serving;
 
 pub use clock::SystemClock;
 pub use server_output::{ServerStatus, notify_lost_output};
+pub use service_log::LogLines;
 pub use serving::{ServerEnd, serve_file, serve_path};

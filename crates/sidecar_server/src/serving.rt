@@ -1,5 +1,5 @@
 //! The command `serve`.
-ghost use Rattle.std.specs.Prelude.{◌≡◌, ◌≤◌, ℕ, List, [], None, IfOk, IfErr, IsSome, ⊤};
+ghost use Rattle.std.specs.Prelude.{◌≡◌, ◌≤◌, ◌⊎◌, ℕ, List, [], true, false, None, IfOk, IfErr, IsSome, ⊤};
 ghost use Rattle.std.specs.Io.KnownBytes.{Appends};
 ghost use Rattle.refusals.specs.declared.RefusalNumber.TheVariants.{BadConfig};
 ghost use Rattle.service_file.specs.Settled.{HasCounts};
@@ -18,7 +18,8 @@ use http_front::Clock;
 use http_pool::{Limits, ListenerFailed, serve_connections};
 use refusals::RefusalNumber;
 use server_output::{ServerStatus, listen, refuse, refuse_for};
-use service_file::{FileMistake, Keeper, Settings, read_settings};
+use service_file::{FileMistake, Keeper, Logging, Settings, read_settings};
+use service_log::LogLines;
 use std::alloc::Global;
 use std::fs::{File, Files};
 use std::io::{ErrorKind, Read, Write};
@@ -126,8 +127,19 @@ where
     Ok(ServerEnd::served(alloc, books, counts, ended.err(), err))
 }
 
+/// Whether one worker has the books to itself: there is no other, and no log is told of the services.
+fn is_alone(settings: &Settings) -> bool
+    ensures alone { result ≡ true → (settings.now.workers ≡ 1) × (settings.now.logging ≡ Logging.Silent) }
+    ensures shared { result ≡ false → (settings.now.workers ≡ 1 → ⊥) ⊎ (settings.now.logging ≡ Logging.Changes) }
+{
+    match settings.logging {
+        Logging::Silent => settings.workers == 1,
+        Logging::Changes => false,
+    }
+}
+
 /// Opens the services, from the number of their first tickets on that the settings and the clock give, listens and
-/// serves, by one worker or by many, who keep the books as the settings say.
+/// serves, by one worker or by many, who keep the books as the settings say. With a log, one worker has a seat, too.
 fn serve_settings<R, O: Write, E: Write, C: Clock + Copy + Send>(
     rt: &R,
     alloc: Global,
@@ -137,7 +149,12 @@ fn serve_settings<R, O: Write, E: Write, C: Clock + Copy + Send>(
     clock: &mut C,
 ) -> Result<ServerEnd, ServerStatus>
 where
-    R: Threads + Wait + time::Clock + Sync + Net<Listener = TcpListener, Stream = TcpStream>,
+    R: Threads
+        + Wait
+        + time::Clock
+        + Sync
+        + LogLines
+        + Net<Listener = TcpListener, Stream = TcpStream>,
     requires counts { HasCounts settings }
     ensures served { IfOk result (λ end. HasServedBy C.ticks settings clock.old clock.new end.books.items end.counts.items) }
     ensures unserved { IfErr result (λ status. IsServing status → ⊥) }
@@ -148,7 +165,7 @@ where
     ensures cause { IsServerCause (end_of result) out.old.failures out.new.failures }
 {
     let first = first_ticket(settings.tickets, clock);
-    if settings.workers == 1 {
+    if is_alone(&settings) {
         return serve_alone(rt, alloc, settings, first, out, err, clock);
     }
     match settings.keeper {
@@ -203,7 +220,12 @@ pub fn serve_file<R, O: Write, E: Write, C: Clock + Copy + Send>(
     clock: &mut C,
 ) -> ServerEnd
 where
-    R: Threads + Wait + time::Clock + Sync + Net<Listener = TcpListener, Stream = TcpStream>,
+    R: Threads
+        + Wait
+        + time::Clock
+        + Sync
+        + LogLines
+        + Net<Listener = TcpListener, Stream = TcpStream>,
     // Where it is done, the file's services opened, the line of its address was printed, and connections were served from
     // there on, by as many workers as the file says. The same holds where the listener accepts no more. The books that come
     // back are those that were served. By one worker they stand where its connections left them. By many, a caller can
@@ -222,7 +244,8 @@ where
     // line of the file's address, or of the line of a refusal of this text. Where it couldn't be flushed, it is the whole
     // of such a line. Where memory ran out, nothing was added, or the whole listening line.
     ensures part { IsCutShort (IsAddressOf text.now) (IsFileRefused text.now) result.status (O.contents out.old.inner) (O.contents out.new.inner) }
-    // On `err` stands at most the line on too few workers, but where a refusal was printed or the listener failed.
+    // On `err` stands at most the line on too few workers, but where a refusal was printed or the listener failed. The
+    // lines of a log, where the file has one, are written by `rt`, and no part of it.
     ensures quiet { IsQuiet result.status (E.contents err.old.inner) (E.contents err.new.inner) }
     // A failed write and a failed flush are answered where that count went up by one, and in no other case.
     ensures cause { IsServerCause result.status out.old.failures out.new.failures }
@@ -263,6 +286,7 @@ where
         + time::Clock
         + Sync
         + Files
+        + LogLines
         + Net<Listener = TcpListener, Stream = TcpStream>,
     // Where it is done, it served as some text says, in the way of `serve_file`: no clause knows a file's text.
     ensures done { IsServing result.status → (text : List ℕ) × HasServedFile C.ticks text result.status clock.old clock.new (O.contents out.old.inner) (O.contents out.new.inner) result.books.items result.counts.items }
@@ -274,7 +298,8 @@ where
     // line of some address, or of the line of one of these refusals. Where it couldn't be flushed, it is the whole of
     // such a line. Where memory ran out, nothing was added, or the whole listening line.
     ensures part { IsCutShort (λ _. ⊤) IsServerRefusal result.status (O.contents out.old.inner) (O.contents out.new.inner) }
-    // On `err` stands at most the line on too few workers, but where a refusal was printed or the listener failed.
+    // On `err` stands at most the line on too few workers, but where a refusal was printed or the listener failed. The
+    // lines of a log, where the file has one, are written by `rt`, and no part of it.
     ensures quiet { IsQuiet result.status (E.contents err.old.inner) (E.contents err.new.inner) }
     // A failed write and a failed flush are answered where that count went up by one, and in no other case.
     ensures cause { IsServerCause result.status out.old.failures out.new.failures }

@@ -3,8 +3,10 @@ use Rattle.std.proofs.Common.{◌≡◌, ℕ, zero, suc, ◌-◌, List, [], ◌�
 use Rattle.std.specs.Prelude.{slice_get, slice_set}
 use Rattle.service.specs.Asked.{RequestData, acquire, report, release, install, move, reset, read, page, cut, roll, ResponseData, replies, refuses_program, shows}
 use Rattle.service.specs.Asking.{IsFinishServed, IsServedBy}
-use Rattle.service.specs.Upkept.{HasMadeRoom, IsKeptBy, AreReleased, HasReleased, IsAcquired, IsUpkept}
+use Rattle.service.specs.Upkept.{HasMadeRoom, HasShown, IsKeptBy, AreReleased, HasReleased, IsAcquired, IsLogged, IsUpkept}
 use Rattle.service.specs.declared.upkeep.Journal.{Journal}
+use Rattle.service.specs.declared.log.Log.{Log}
+use Rattle.service.specs.declared.log.Log.TheVariants as log
 use Rattle.service.specs.declared.upkeep.Journal.TheVariants as journal
 use Rattle.service.specs.declared.upkeep.Upkeep.{Upkeep}
 use Rattle.service.specs.declared.request.Report.{Report}
@@ -69,14 +71,22 @@ module _ (courses : List Course) (calls : SeatData → CallData → CallAnswer �
   all_released_back age moment answers seat after (between, released, inl (count, same)) h = released_back age moment answers seat between released (subst (SeatBegins courses) same h)
   all_released_back age moment answers seat after (between, released, inr (few, (shown, told, none))) h = released_back age moment answers seat between released (back between (call.reads moment) (call.shows shown) after told h)
 
-  acquired_back : (age : ℕ) (j : Journal) (seat : SeatData) (moment : ℕ) (given : CallAnswer) (after : SeatData) → IsAcquired age calls (IsKeptBy j calls) seat moment given after → SeatBegins courses after → SeatBegins courses seat
-  acquired_back zero j seat moment given after is h = kept_back j seat (applies moment acquires) given after is h
-  acquired_back (suc age) j seat moment given after (answers, between, released, is) h =
-      all_released_back (suc age) moment answers seat between released (kept_back j between (applies moment acquires) given after is h)
+  shown_back : (seat after : SeatData) → HasShown calls seat after → SeatBegins courses after → SeatBegins courses seat
+  shown_back seat after (inl same) h = subst (SeatBegins courses) same h
+  shown_back seat after (inr (moment, shown, told)) h = back seat (call.reads moment) (call.shows shown) after told h
+
+  logged_back : (l : Log) (j : Journal) (seat : SeatData) (c : CallData) (given : CallAnswer) (after : SeatData) → IsLogged l calls (IsKeptBy j calls) seat c given after → SeatBegins courses after → SeatBegins courses seat
+  logged_back log.Silent j seat c given after is h = kept_back j seat c given after is h
+  logged_back (log.Changes service) j seat c given after (between, made, shown) h = kept_back j seat c given between made (shown_back between after shown h)
+
+  acquired_back : (age : ℕ) (l : Log) (j : Journal) (seat : SeatData) (moment : ℕ) (given : CallAnswer) (after : SeatData) → IsAcquired age calls (IsLogged l calls (IsKeptBy j calls)) seat moment given after → SeatBegins courses after → SeatBegins courses seat
+  acquired_back zero l j seat moment given after is h = logged_back l j seat (applies moment acquires) given after is h
+  acquired_back (suc age) l j seat moment given after (answers, between, released, is) h =
+      all_released_back (suc age) moment answers seat between released (logged_back l j between (applies moment acquires) given after is h)
 
   upkept_back : (upkeep : Upkeep) (seat : SeatData) (c : CallData) (given : CallAnswer) (after : SeatData) → IsUpkept upkeep calls seat c given after → SeatBegins courses after → SeatBegins courses seat
-  upkept_back upkeep seat (applies moment acquires) given after is h = acquired_back upkeep.max_ticket_age upkeep.journal seat moment given after is h
-  upkept_back upkeep seat c given after is h = kept_back upkeep.journal seat c given after is h
+  upkept_back upkeep seat (applies moment acquires) given after is h = acquired_back upkeep.max_ticket_age upkeep.log upkeep.journal seat moment given after is h
+  upkept_back upkeep seat c given after is h = logged_back upkeep.log upkeep.journal seat c given after is h
 
   -- ---- requests
 

@@ -22,3 +22,7 @@ mod kept_readers;
 mod replayed_reads;
 #[cfg(test)]
 mod replays;
+#[cfg(test)]
+mod report_mistakes;
+#[cfg(test)]
+mod service_logs;

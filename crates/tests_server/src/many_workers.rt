@@ -4,7 +4,7 @@
 use crate::checks::{is_true_at, same};
 use crate::fixtures::is_unanswered;
 use counted_io::Counted;
-use sidecar_server::{ServerStatus, SystemClock, serve_file};
+use sidecar_server::{LogLines, ServerStatus, SystemClock, serve_file};
 use std::alloc::Global;
 use std::io::{Read, Write};
 use std::net::{IpAddr, Ipv4Addr, Net, SocketAddr, TcpListener, TcpStream};
@@ -63,7 +63,12 @@ type Ended = (ServerStatus, u64, Vec<u64>);
 /// Serves by a file, and tells the port.
 fn serve<R>(rt: &R, alloc: Global, file: &str, port: &AtomicU64) -> Ended
 where
-    R: Threads + Wait + Sync + time::Clock + Net<Listener = TcpListener, Stream = TcpStream>,
+    R: Threads
+        + Wait
+        + Sync
+        + LogLines
+        + time::Clock
+        + Net<Listener = TcpListener, Stream = TcpStream>,
 {
     let mut out = Counted::new(Teller {
         line: Vec::new(alloc),
@@ -191,6 +196,7 @@ where
         + Threads
         + Wait
         + Sync
+        + LogLines
         + time::Clock
         + Net<Listener = TcpListener, Stream = TcpStream>,
 {
@@ -237,6 +243,7 @@ where
         + Threads
         + Wait
         + Sync
+        + LogLines
         + time::Clock
         + Net<Listener = TcpListener, Stream = TcpStream>,
 {

@@ -5,7 +5,7 @@ use crate::fixtures::{ACQUIRE, ACQUIRED, is_unanswered};
 use counted_io::Counted;
 use http_front::Clock;
 use refusals::RefusalNumber;
-use sidecar_server::{ServerEnd, ServerStatus, SystemClock, serve_file, serve_path};
+use sidecar_server::{LogLines, ServerEnd, ServerStatus, SystemClock, serve_file, serve_path};
 use std::alloc::Global;
 use std::io::{ErrorKind, Read, Write};
 use std::net::{Net, Shutdown, TcpListener, TcpStream};
@@ -156,6 +156,7 @@ where
         + Wait
         + Sync
         + Abort
+        + LogLines
         + time::Clock
         + Net<Listener = TcpListener, Stream = TcpStream>,
 {
@@ -178,6 +179,8 @@ fn tickets_begin_by_the_clock(rt: HostRuntime) {
         "{\"listen\":\"127.0.0.1:0\",\"workers\":1,\"connections\":1,\"tickets\":\"by the clock\",\"services\":[{\"name\":\"pay\"}]}";
     let behind_locks =
         "{\"listen\":\"127.0.0.1:0\",\"workers\":2,\"connections\":1,\"tickets\":\"by the clock\",\"services\":[{\"name\":\"pay\"}]}";
+    let with_a_log =
+        "{\"listen\":\"127.0.0.1:0\",\"workers\":1,\"connections\":1,\"tickets\":\"by the clock\",\"log\":\"changes\",\"services\":[{\"name\":\"pay\"}]}";
     let in_slots =
         "{\"listen\":\"127.0.0.1:0\",\"workers\":2,\"keeper\":\"slot\",\"connections\":1,\"tickets\":\"by the clock\",\"services\":[{\"name\":\"pay\"}]}";
     for row in [
@@ -186,6 +189,7 @@ fn tickets_begin_by_the_clock(rt: HostRuntime) {
         // The last moment with numbers of its own, and a later one.
         (by_one, 8_796_093_022_207, 9_007_199_254_739_968),
         (by_one, u64::MAX, 9_007_199_254_739_968),
+        (with_a_log, 7, 7_168),
         (behind_locks, 7, 7_168),
         (in_slots, 7, 7_168),
     ] {
@@ -201,6 +205,7 @@ where
         + Wait
         + Sync
         + Abort
+        + LogLines
         + time::Clock
         + Net<Listener = TcpListener, Stream = TcpStream>,
 {
@@ -264,7 +269,12 @@ fn refusals_that_cannot_be_flushed_are_failures(rt: HostRuntime) {
 /// What a server prints for a file that it refuses: on standard output, and on standard error.
 fn refused<R>(rt: &R, alloc: Global, file: &str) -> (ServerStatus, Vec<u8>, Vec<u8>)
 where
-    R: Threads + Wait + Sync + time::Clock + Net<Listener = TcpListener, Stream = TcpStream>,
+    R: Threads
+        + Wait
+        + Sync
+        + LogLines
+        + time::Clock
+        + Net<Listener = TcpListener, Stream = TcpStream>,
 {
     let mut out = Counted::new(Vec::new(alloc));
     let mut err = Counted::new(Vec::new(alloc));

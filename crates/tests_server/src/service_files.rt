@@ -3,8 +3,8 @@ use crate::checks::{is_true, is_true_at, same, same_at};
 use crate::fixtures::joined;
 use config_mistakes::{config_mistake, file_mistake};
 use requests::config;
-use service::{Journal, Upkeep};
-use service_file::{Keeper, Settings, Tickets, read_settings};
+use service::{Journal, Log, Upkeep};
+use service_file::{Keeper, Logging, Settings, Tickets, read_settings};
 use std::alloc::Global;
 use std::process::Abort;
 use texts::json;
@@ -109,6 +109,7 @@ fn upkeep(journal: Journal, max_ticket_age: u64) -> Option<Upkeep> {
     Some(Upkeep {
         journal,
         max_ticket_age,
+        log: Log::Silent,
     })
 }
 
@@ -165,6 +166,34 @@ fn numberings_of_tickets_are_read(rt: HostRuntime) {
     ] {
         let (part, tickets) = row;
         same_at(&rt, tickets_of(&rt, alloc, part), tickets, part);
+    }
+}
+
+/// What the log of a file with this text between its workers and its connections tells; none where it can't be used.
+fn logging_of(rt: &impl Abort, alloc: Global, part: &str) -> Option<Logging> {
+    let text = format!(in alloc;
+        "{{\"listen\":\"127.0.0.1:1\",\"workers\":2,{part}\"connections\":0,\"services\":[{{\"name\":\"pay\"}}]}}"
+    );
+    let text = text.expect(rt, "ample memory");
+    Some(read(rt, alloc, &text)?.logging)
+}
+
+#[test]
+fn logs_are_read(rt: HostRuntime) {
+    let alloc = rt.alloc();
+    for row in [
+        ("", Some(Logging::Silent)),
+        ("\"log\":\"silent\",", Some(Logging::Silent)),
+        ("\"log\":\"changes\",", Some(Logging::Changes)),
+        ("\"log\":\"Changes\",", None),
+        ("\"log\":\"all\",", None),
+        ("\"log\":\"\",", None),
+        ("\"log\":null,", None),
+        ("\"log\":true,", None),
+        ("\"logs\":\"changes\",", None),
+    ] {
+        let (part, logging) = row;
+        same_at(&rt, logging_of(&rt, alloc, part), logging, part);
     }
 }
 

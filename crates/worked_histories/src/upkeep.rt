@@ -1,12 +1,13 @@
 //! Many calls of a service whose journal is full in the end.
 use book::Reply;
-use service::{BookCalls, Journal, OpenGate, Request, Response, Upkeep, ask};
+use service::{BookCalls, Journal, Log, OpenGate, Request, Response, Upkeep, ask};
 use std::alloc::Global;
 
 /// What a service does for its upkeep whose last entries are kept.
 pub const LAST: Upkeep = Upkeep {
     journal: Journal::Last,
     max_ticket_age: 0,
+    log: Log::Silent,
 };
 
 /// The reply to a request.
@@ -68,6 +69,7 @@ pub fn failed_calls<P, B: BookCalls<P>>(
 pub const A_SECOND: Upkeep = Upkeep {
     journal: Journal::Keep,
     max_ticket_age: 1_000,
+    log: Log::Silent,
 };
 
 /// An acquire, and how the service stands behind it.

@@ -19,7 +19,7 @@ loop-release-preserved g c =
     let now = c.loop-release.invariant in (
       c.call-reply.ensures.fits,
       now.1 ++ c.call-reply.result ∷ [],
-      released_more (g.B.BookCalls.calls c.args.place.now) c.args.age c.args.moment c.args.book.now c.loop-release.book c.call-reply.new.self now.1 c.call-reply.result now.2
+      released_more (g.B.BookCalls.calls c.args.place.now) c.args.upkeep.max_ticket_age c.args.moment c.args.book.now c.loop-release.book c.call-reply.new.self now.1 c.call-reply.result now.2
           (c.call-shown.result, c.call-shown.new.self, c.in-Some.ticket, c.call-shown.ensures.called, sym c.overdue.ensures ∙ c.in-Some.is, c.call-reply.ensures.called),
       omega (arith, now.3, length-append now.1 (c.call-reply.result ∷ [])),
     )

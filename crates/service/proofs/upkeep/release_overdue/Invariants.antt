@@ -7,4 +7,4 @@ use Rattle.service.proofs.upkeep.release_overdue.Given as goal
 abbrev pub invariant-loop-release : goal.invariant-loop-release
 invariant-loop-release g l =
     g.B.BookCalls.fits l.fn.place l.book
-    × (answers : List Reply) × AreReleased (g.B.BookCalls.calls l.fn.place) l.fn.age l.fn.moment l.fn.book answers l.book × (length answers ≡ l._release)
+    × (answers : List Reply) × AreReleased (g.B.BookCalls.calls l.fn.place) l.fn.upkeep.max_ticket_age l.fn.moment l.fn.book answers l.book × (length answers ≡ l._release)

@@ -3,7 +3,7 @@ use denote.Exit.{yes}
 use denote.Param.Send.{param_send, arg_send}
 use Rattle.std.proofs.Common.{◌≡◌, ◌∙◌, ap, length, sym, subst, arith}
 use Rattle.std.specs.List.{AllByRecursion}
-use Rattle.http_seats.proofs.Sending.{answerer_send, gate_sync}
+use Rattle.http_seats.proofs.Sending.{answerer_send}
 use Rattle.http_seats.specs.Seated.{seated, names_by, asks_by}
 use Rattle.sidecar_server.proofs.Crews.{all_back, as_many_workers}
 use Rattle.sidecar_server.proofs.Endings.{over_by}
@@ -11,7 +11,7 @@ use Rattle.sidecar_server.proofs.Seating.{back_here}
 use Rattle.sidecar_server.proofs.at_seats.serve_at.Goals as goal
 
 pub serve_by_pool-requires-send-A : goal.serve_by_pool-requires-send-A
-serve_by_pool-requires-send-A g c κs within = param_send 1 _ (arg_send _ yes _ (answerer_send (record { mir = static; lft = _ }) _ _ _ _ g.S.DeskSeat c.type_bounds.sync-D c.type_bounds.send-S gate_sync c.type_bounds.sync-R))
+serve_by_pool-requires-send-A g c κs within = param_send 1 _ (arg_send _ yes _ (answerer_send (record { mir = static; lft = _ }) _ _ _ _ g.S.DeskSeat c.type_bounds.sync-D c.type_bounds.send-S c.type_bounds.sync-G c.type_bounds.sync-R))
 
 pub serve_by_pool-requires-clause-some : goal.serve_by_pool-requires-clause-some
 serve_by_pool-requires-clause-some g c κs within =

@@ -7,7 +7,11 @@ use Rattle.desk.specs.Desks.{DeskData}
 use Rattle.desk.specs.Services.{service_from}
 use Rattle.sidecar_server.specs.Served.{services_of}
 use Rattle.sidecar_server.proofs.LockSeating.{served_at_desk}
+use Rattle.service_log.proofs.Showing.{log_sync}
 use Rattle.sidecar_server.proofs.at_seats.serve_at_desk.Goals as goal
+
+pub serve_at-requires-sync-G : goal.serve_at-requires-sync-G
+serve_at-requires-sync-G g c κs within = param_sync 2 _ (arg_sync _ yes _ (log_sync _ _ _ c.type_bounds.sync-R c.type_bounds.sync-R))
 
 pub serve_at-requires-sync-D : goal.serve_at-requires-sync-D
 serve_at-requires-sync-D g c κs within = param_sync 0 _ (arg_sync _ yes _ (desk_sync _ _ g.L.Ledger g.M.Ledger g.M.Offered c.type_bounds.send-L c.type_bounds.sync-L c.type_bounds.send-M c.type_bounds.sync-M))

@@ -4,7 +4,11 @@ use Rattle.std.proofs.Common.{◌∙◌}
 use Rattle.std.proofs.lemmas.Result.{IfOk-weaker}
 use Rattle.slot_desk.proofs.Showing.{desk_sync, seat_send}
 use Rattle.sidecar_server.proofs.SlotSeating.{served_at_slots, named_as, opened_as}
+use Rattle.service_log.proofs.Showing.{log_sync}
 use Rattle.sidecar_server.proofs.at_seats.serve_at_slots.Goals as goal
+
+pub serve_at-requires-sync-G : goal.serve_at-requires-sync-G
+serve_at-requires-sync-G g c κs within = param_sync 2 _ (arg_sync _ yes _ (log_sync _ _ _ c.type_bounds.sync-R c.type_bounds.sync-R))
 
 pub serve_at-requires-sync-D : goal.serve_at-requires-sync-D
 serve_at-requires-sync-D g c κs within = param_sync 0 _ (arg_sync _ yes _ desk_sync)

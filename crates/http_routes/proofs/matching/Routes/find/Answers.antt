@@ -1,5 +1,5 @@
 use Rattle.std.proofs.Common.{◌∙◌, arith}
-use Rattle.http_routes.proofs.Readings.{bytes-each, target-read}
+use Rattle.http_routes.proofs.Readings.{bytes-each, target-found, target-number, target-read}
 use Rattle.http_routes.proofs.Found.{nothing_is_asked, other_bytes_find_none}
 use Rattle.http_routes.proofs.matching.Routes.find.Goals as goal
 
@@ -11,4 +11,13 @@ returns-in_default-clause-found c =
 pub returns-clause-read : goal.returns-clause-read
 returns-clause-read c =
     let bytes = bytes-each c.args.target.now (λ i. omega (arith, c.type_inv.target i)) in
-    target-read c.args.target.now c.in-Ok.path.now c.in_ok-route.route _ _ (c.in-Ok.ensures.cases.0 ∙ c.path_of.ensures) bytes c.in_ok-route.ensures c.segment-service.ensures c.segment-number.ensures
+    let same = c.in-Ok.ensures.cases.0 ∙ c.path_of.ensures in
+    let number = target-number c.args.target.now c.in-Ok.path.now c.in_ok-route.route same bytes c.in_ok-route.ensures in
+    target-read c.args.target.now c.in-Ok.path.now c.in_ok-route.route _ _ same bytes c.in_ok-route.ensures c.segment-service.ensures (c.number_at-number.ensures ∙ number)
+
+pub returns-clause-found : goal.returns-clause-found
+returns-clause-found c =
+    let bytes = bytes-each c.args.target.now (λ i. omega (arith, c.type_inv.target i)) in
+    let same = c.in-Ok.ensures.cases.0 ∙ c.path_of.ensures in
+    let number = target-number c.args.target.now c.in-Ok.path.now c.in_ok-route.route same bytes c.in_ok-route.ensures in
+    target-found c.args.target.now c.in-Ok.path.now c.in_ok-route.route _ _ same c.in_ok-route.ensures c.segment-service.ensures (c.number_at-number.ensures ∙ number)
