@@ -20,6 +20,8 @@ from typing import Any
 TOP = os.path.dirname(os.path.dirname(os.path.dirname(os.path.realpath(__file__))))
 PROGRAM = os.environ.get("SIDECAR_PROGRAM", f"{TOP}/sidecar")
 MOST_SECONDS = int(os.environ.get("TESTBED_MOST_SECONDS", "170"))
+# The C library's number from which on free memory is given back, as ./sidecar, the unit and the image set it.
+TRIM = {"MALLOC_TRIM_THRESHOLD_": "1048576"}
 SECONDS_TO_COME = 15.0
 # Nothing listens there.
 NOBODY = "127.0.0.1:9"
@@ -88,7 +90,8 @@ class Server:
 
     def _start(self) -> None:
         words = ["timeout", str(MOST_SECONDS), PROGRAM, "serve", self._file]
-        self.process = subprocess.Popen(words, stdout=subprocess.PIPE, text=True, start_new_session=True)
+        environment = {**TRIM, **os.environ}
+        self.process = subprocess.Popen(words, stdout=subprocess.PIPE, text=True, start_new_session=True, env=environment)
         assert self.process.stdout
         line = self.process.stdout.readline()
         if not line.startswith("listening "):

@@ -1,5 +1,5 @@
 -- The lines of a log.
-use Rattle.std.specs.Prelude.{ℕ, List, ◌∷◌, [], ◌++◌, codes, decimal}
+use Rattle.std.specs.Prelude.{◌≡◌, ◌⊎◌, ℕ, List, ◌∷◌, [], ◌++◌, codes, decimal}
 use Rattle.answers.specs.Texts.{state_name}
 use Rattle.service_log.specs.declared.lines.Told.{Told}
 use Rattle.service_log.specs.declared.lines.Told.TheVariants as told
@@ -25,3 +25,11 @@ text_of (told.LeftOut lines) = codes "left out lines=" ++ decimal lines
 -- a report can't be used, and why
 abbrev pub refused_text : List ℕ → List ℕ
 refused_text words = codes "report=refused " ++ words
+
+-- a line tells one of these, and nothing else
+abbrev pub IsText : List ℕ → Type 0
+IsText text = ((what : Told) × (text ≡ text_of what)) ⊎ ((words : List ℕ) × (text ≡ refused_text words))
+
+-- a line of a log, of some service at some moment
+abbrev pub IsLogLine : List ℕ → Type 0
+IsLogLine line = (moment : ℕ) × (name : List ℕ) × (text : List ℕ) × IsText text × (line ≡ line_of moment name text)

@@ -1,4 +1,6 @@
 //! What a log knows of services, and when it writes a line.
+ghost use Rattle.service_log.specs.Lines.{IsText};
+
 use crate::lines::{Told, line_of, refused_text, text_of};
 use crate::quota::Quota;
 use crate::sink::LogLines;
@@ -129,7 +131,9 @@ impl<'a, R: Wait, L: LogLines> ServiceLog<'a, R, L> {
     }
 
     /// Writes a line at once. What there is no memory for is lost.
-    fn write_line(&self, logged: &Logged, moment: u64, text: &str) {
+    fn write_line(&self, logged: &Logged, moment: u64, text: &str)
+        requires text { IsText text.now }
+    {
         if let Ok(line) = line_of(self.alloc, moment, &logged.name, text) {
             self.lines.log_line(&line);
         }
